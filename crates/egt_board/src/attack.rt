@@ -37,7 +37,7 @@ impl Board {
         self.reach_past(man, from, self.occupied())
     }
 
-    /// The same, where the caller knows on which squares all men stand.
+    /// The squares that this man attacks from `from`, where all men stand on the squares of `all`.
     pub fn reach_past(&self, man: Man, from: Square, all: SquareSet) -> SquareSet
         requires { IsOccupied self.now all }
         ensures reached { (t : ℕ) → Has result t ↔ Reaches (IsFree self.now) man from t }

@@ -34,7 +34,7 @@ pub(crate) fn ride(from: Square, step: Step, most: u8, occupied: SquareSet) -> S
     reached
 }
 
-/// Those of the squares that no man on an occupied one of them hides from `from`.
+/// Of these squares the ones that no man on an occupied one of them hides from `from`.
 fn seen(from: Square, squares: SquareSet, occupied: SquareSet) -> SquareSet
     ensures { (t : ℕ) → Has result t ↔ (Has squares t × ((u : ℕ) → Has squares u → Has occupied u → ¬ IsBetween from t u)) }
 {
@@ -53,7 +53,7 @@ pub(crate) fn reach(man: Man, from: Square, occupied: SquareSet) -> SquareSet
     seen(from, lone_reach(man, from), occupied)
 }
 
-/// The same, and how many they are at most.
+/// The squares that this man on `from` attacks where these squares are occupied; a man attacks but so many.
 pub fn reach_past(man: Man, from: Square, occupied: SquareSet) -> SquareSet
     ensures reached { (t : ℕ) → t < 64 → Has result t ↔ Reaches (λ u. bit_at occupied.bits u ≡ 0) man from t }
     ensures few { size_of result ≤ most_reached man.kind }

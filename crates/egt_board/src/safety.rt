@@ -84,7 +84,8 @@ impl Board {
         self.shelter_among(to, side, occupied)
     }
 
-    /// The same once the man on `lifted`, if there is one, is taken off: none of that side's. All men stand on the squares of `all`.
+    /// The squares to which a man of the other side may come so that no man of that side attacks `to`, once the man on
+    /// `lifted`, none of that side's, is taken off. All men stand on the squares of `all`.
     pub fn shelter_without(
         &self,
         to: Square,

@@ -85,7 +85,7 @@ fn add_class(alloc: Global, library: &mut Library, class: Class, bytes: &[u8]) -
     }
 }
 
-/// The same for the class of a number.
+/// Reads the bytes as the file of a table of the class with this number, and has the library take it.
 fn add_numbered(alloc: Global, library: &mut Library, class_number: u8, bytes: &[u8]) -> EgtbFault
     ensures { Adds class_number bytes.now result library.old library.new }
 {
@@ -95,7 +95,7 @@ fn add_numbered(alloc: Global, library: &mut Library, class_number: u8, bytes: &
     }
 }
 
-/// The same where the library has one owner.
+/// Adds the file to the library where it has one owner.
 fn add_owned(alloc: Global, owner: &mut Owner, class_number: u8, bytes: &[u8]) -> EgtbFault
     ensures { Adds class_number bytes.now result (arc_value owner.old) (arc_value owner.new) }
 {

@@ -1,6 +1,7 @@
 pub mod Alike
 pub mod Told
 pub mod TrueTables
+pub mod BelowTrue
 pub mod ReachTold
 pub mod TrueReach
 pub mod Showing

@@ -1,5 +1,5 @@
 -- Where the children's columns of the nearest mates are true, a table's keeps the rules exactly where it is true.
-use Rattle.std.proofs.Common.{◌≡◌, ◌≢◌, ℕ, zero, suc, ◌<◌, ◌≤◌, ◌⊎◌, ◌↔◌, Bool, IsTrue, IsSome, IfSome, Option, Some, None, refl, sym, subst, inl, inr, arith}
+use Rattle.std.proofs.Common.{◌≡◌, ◌≢◌, ℕ, zero, suc, ◌<◌, ◌≤◌, ◌⊎◌, ◌↔◌, Bool, IsTrue, Option, Some, None, refl, sym, subst, inl, inr, arith}
 use Rattle.std.proofs.lemmas.Bool.{cases_eq, cases_lt}
 use Rattle.std.proofs.Math.Logic.{⊎_elim, ⊎_map}
 use Rattle.egt_board.specs.Setup.{Setup, IsAdmissible}
@@ -13,11 +13,10 @@ use Rattle.egt_table.specs.Table.{TableValue, IsTable}
 use Rattle.egt_entries.specs.declared.rule.Rule.TheVariants as rules
 use Rattle.egt_check.specs.Alike.{StepAlike}
 use Rattle.egt_steps.specs.Facts.{Facts}
-use Rattle.egt_entries.specs.Library.{ReachesDown}
 use Rattle.egt_entries.specs.Reach.{FitsReachBeside, HasReachEntry, ShowsReach, ShowsReachOf}
 use Rattle.egt_entries.specs.Rules.{FitsReach, KeepsReach, KeepsReachBelow}
 use Rattle.egt_entries.specs.Tables.{Tables, reach_at}
-use Rattle.egt_entries.specs.Truth.{IsTrueReach, HasTrueChildren}
+use Rattle.egt_entries.specs.Truth.{IsTrueReach, HasTrueReachesBelow}
 use Rattle.egt_check.proofs.Alike.{settled_image_alike, indexed_class}
 use Rattle.egt_check.proofs.ReachTold.{images_show_reach, number_at, reach_in_range, reach_range, reach_shown_told, reach_told_shown}
 use Rattle.egt_check.proofs.TrueTables.{Child, Own, is_own, own, owned, step}
@@ -48,27 +47,27 @@ carry shows shows' p p' like (Some (suc n)) h =
     )
 carry shows shows' p p' like None h = (λ mate. h.0 (like.checkmate.1 mate), λ q' m' k shown. let back = like.back q' m' in h.1 back.0 back.1 k ((back.2 (Some k)).0 shown))
 
-module _ (facts : Facts) (tables : Tables) (t : TableValue) (sized : IsTable t) (here : tables t.class ≡ Some t) (children : HasTrueChildren tables t.class) (down : ReachesDown tables t) (has : IsSome t.reach) where
+module _ (facts : Facts) (tables : Tables) (t : TableValue) (sized : IsTable t) (here : tables t.class ≡ Some t) (children : HasTrueReachesBelow tables t.class) where
   Ours : Setup → Type 0
-  Ours = Own facts tables t sized here children
+  Ours = Own facts tables t sized here
 
   Theirs : Setup → Type 0
-  Theirs = Child facts tables t sized here children
+  Theirs = Child facts tables t sized here
 
   our : Setup → Bool
-  our = own facts tables t sized here children
+  our = own facts tables t sized here
 
   is_our : (p : Setup) → Ours p → IsTrue (our p)
   unfolding Ours our
-  is_our = is_own facts tables t sized here children
+  is_our = is_own facts tables t sized here
 
   ours : (p : Setup) → IsTrue (our p) → Ours p
   unfolding Ours our
-  ours = owned facts tables t sized here children
+  ours = owned facts tables t sized here
 
   next : (p q : Setup) → Ours p → chess.Move p q → Ours q ⊎ Theirs q
   unfolding Ours Theirs
-  next = step facts tables t sized here children
+  next = step facts tables t sized here
 
   entry_there : (u : TableValue) (d : ℕ) (flipped : Bool) (p : Setup) (i : ℕ) → d < 36 → tables d ≡ Some u → IsOf d flipped p → IsIndex d p i → HasReachEntry tables p (reach_at u i)
   entry_there u d flipped p i d_in found of is = record { class = d; below = d_in; flipped = flipped; of = of; table = u; found = found; index = i; is_index = is; is = refl }
@@ -86,8 +85,7 @@ module _ (facts : Facts) (tables : Tables) (t : TableValue) (sized : IsTable t) 
       let d = child.1.0 in
       let u = children d child.1.2 in
       let below = facts.child_below t.class d sized.class_in child.1.2 in
-      let there : IsSome u.0.reach = subst (λ (o : Option TableValue). IfSome o (λ v. IsSome v.reach)) u.1 (down has d child.1.2) in
-      true_shown u.0 d child.1.1 q (omega (arith, below, sized.class_in)) u.1 u.2 (u.3.reach there) child.0 child.1.3
+      true_shown u.0 d child.1.1 q (omega (arith, below, sized.class_in)) u.1 u.2 u.4 child.0 child.1.3
 
   told : Showing
   told q number = number_at facts tables q ≡ number
@@ -239,7 +237,7 @@ module _ (facts : Facts) (tables : Tables) (t : TableValue) (sized : IsTable t) 
     fits_true i number below shown p spells =
         let is = spelled_index i number p below shown spells in
         let of = indexed_class facts t.class i p spells.admissible is in
-        let o : Own facts tables t sized here children p = (spells.admissible, of) in
+        let o : Own facts tables t sized here p = (spells.admissible, of) in
         let tells = reach_shown_told facts tables p number spells.admissible (reach_at t i, entry_there t t.class of.0 p i sized.class_in here of.1 is, shown) in
         carry told (ShowsReachOf tables) p p (plays_itself p o) number (subst (FitsReachBeside told p) tells (numbers_fit p (number_at facts tables p) (true_judged.fits p (is_our p o))))
 

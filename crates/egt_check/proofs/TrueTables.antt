@@ -1,4 +1,4 @@
--- Where the children's tables are true, a table keeps the rules exactly where it is true.
+-- Where the children's columns of wins and losses are true, a table's keep the rules exactly where they are true.
 use Rattle.std.proofs.Common.{◌≡◌, ◌≢◌, ℕ, zero, suc, ◌<◌, ◌≤◌, ◌⊎◌, ◌↔◌, Bool, IsTrue, Some, refl, sym, subst, inl, inr, arith}
 use Rattle.std.proofs.lemmas.Bool.{cases_eq, cases_lt}
 use Rattle.std.proofs.Math.Logic.{⊎_elim, ⊎_map}
@@ -25,13 +25,13 @@ use Rattle.egt_steps.specs.Facts.{Facts}
 use Rattle.egt_entries.specs.Fits.{Shown, FitsBeside}
 use Rattle.egt_entries.specs.Rules.{Fits, Keeps, KeepsBelow}
 use Rattle.egt_entries.specs.Tables.{Tables, entry_at, HasEntry, ShowsOf}
-use Rattle.egt_entries.specs.Truth.{Tells, IsTrueTable, HasTrueChildren}
+use Rattle.egt_entries.specs.Truth.{Tells, HasTrueValues, HasTrueValuesBelow}
 use Rattle.egt_check.proofs.Alike.{settled_image_alike, indexed_class, images_show_alike}
 use Rattle.egt_entries.proofs.Carry.{ShownAlike, PlaysLike, carry}
 use Rattle.egt_check.specs.Reading.{in_range, shown_range}
 use Rattle.egt_check.proofs.Told.{value_at, shown_told, told_shown}
 
-module _ (facts : Facts) (tables : Tables) (t : TableValue) (sized : IsTable t) (here : tables t.class ≡ Some t) (children : HasTrueChildren tables t.class) where
+module _ (facts : Facts) (tables : Tables) (t : TableValue) (sized : IsTable t) (here : tables t.class ≡ Some t) where
   -- a position of the table's class
   abbrev pub Own : Setup → Type 0
   Own p = IsAdmissible p × ((flipped : Bool) × IsOf t.class flipped p)
@@ -75,268 +75,269 @@ module _ (facts : Facts) (tables : Tables) (t : TableValue) (sized : IsTable t) 
   entry_there metric u d flipped p i d_in found of is = record { class = d; below = d_in; flipped = flipped; of = of; table = u; found = found; index = i; is_index = is; is = refl }
 
   -- what a true table shows
-  true_shown : (metric : Metric) (u : TableValue) (d : ℕ) (flipped : Bool) (p : Setup) → d < 36 → tables d ≡ Some u → u.class ≡ d → IsTrueTable u → IsAdmissible p → IsOf d flipped p →
+  true_shown : (metric : Metric) (u : TableValue) (d : ℕ) (flipped : Bool) (p : Setup) → d < 36 → tables d ≡ Some u → u.class ≡ d → HasTrueValues u → IsAdmissible p → IsOf d flipped p →
       (v : Value) × Tells metric p v × ShowsOf tables metric p v
   true_shown metric u d flipped p d_in found class truth ok of =
       let index = facts.some_index p d flipped d_in ok of in
       let tells = truth.true metric p index.0 ok (subst (λ c. IsIndex c p index.0) (sym class) index.1) in
       (tells.0, tells.1, (entry_at u metric index.0, entry_there metric u d flipped p index.0 d_in found of index.1, tells.2))
 
-  child_shown : (metric : Metric) (q : Setup) → Child q → (v : Value) × Tells metric q v × ShowsOf tables metric q v
-  child_shown metric q child =
-      let d = child.1.0 in
-      let u = children d child.1.2 in
-      let below = facts.child_below t.class d sized.class_in child.1.2 in
-      true_shown metric u.0 d child.1.1 q (omega (arith, below, sized.class_in)) u.1 u.2 u.3 child.0 child.1.3
+  module _ (children : HasTrueValuesBelow tables t.class) where
+    child_shown : (metric : Metric) (q : Setup) → Child q → (v : Value) × Tells metric q v × ShowsOf tables metric q v
+    child_shown metric q child =
+        let d = child.1.0 in
+        let u = children d child.1.2 in
+        let below = facts.child_below t.class d sized.class_in child.1.2 in
+        true_shown metric u.0 d child.1.1 q (omega (arith, below, sized.class_in)) u.1 u.2 u.3 child.0 child.1.3
 
-  -- what is told of positions
-  told : Shown
-  told metric q v = value_at facts tables metric q ≡ v
+    -- what is told of positions
+    told : Shown
+    told metric q v = value_at facts tables metric q ≡ v
 
-  child_tells : (metric : Metric) (q : Setup) → Child q → Tells metric q (value_at facts tables metric q)
-  child_tells metric q child = let s = child_shown metric q child in subst (Tells metric q) (sym (shown_told facts tables metric q s.0 child.0 s.2)) s.1
+    child_tells : (metric : Metric) (q : Setup) → Child q → Tells metric q (value_at facts tables metric q)
+    child_tells metric q child = let s = child_shown metric q child in subst (Tells metric q) (sym (shown_told facts tables metric q s.0 child.0 s.2)) s.1
 
-  -- checkmate leaves no move
-  mate_ends : (p : Setup) → chess.Checkmate p → (q : Setup) → chess.Move p q → ⊥
-  mate_ends p mate q m = mate.stuck m.0 (q, m.1)
+    -- checkmate leaves no move
+    mate_ends : (p : Setup) → chess.Checkmate p → (q : Setup) → chess.Move p q → ⊥
+    mate_ends p mate q m = mate.stuck m.0 (q, m.1)
 
-  fits_mate : (p : Setup) (v : Value) → FitsBeside told Mate p v → entries.Fits chess (value_at facts tables Mate) p v
-  unfolding told
-  fits_mate p (Win zero) h = h
-  fits_mate p (Win (suc n)) h = h
-  fits_mate p (Loss zero) h = h
-  fits_mate p (Loss (suc n)) h = h
-  fits_mate p Draw h = h
-
-  mate_fits : (p : Setup) (v : Value) → entries.Fits chess (value_at facts tables Mate) p v → FitsBeside told Mate p v
-  unfolding told
-  mate_fits p (Win zero) h = h
-  mate_fits p (Win (suc n)) h = h
-  mate_fits p (Loss zero) h = h
-  mate_fits p (Loss (suc n)) h = h
-  mate_fits p Draw h = h
-
-  fits_zeroing : (p : Setup) (v : Value) → FitsBeside told Zeroing p v → entries.FitsZeroing chess (value_at facts tables Mate) (value_at facts tables Zeroing) p v
-  unfolding told
-  fits_zeroing p (Win zero) h = h
-  fits_zeroing p (Win (suc n)) h = h
-  fits_zeroing p (Loss zero) h = h
-  fits_zeroing p (Loss (suc n)) h = h
-  fits_zeroing p Draw h = h
-
-  zeroing_fits : (p : Setup) (v : Value) → entries.FitsZeroing chess (value_at facts tables Mate) (value_at facts tables Zeroing) p v → FitsBeside told Zeroing p v
-  unfolding told
-  zeroing_fits p (Win zero) h = h
-  zeroing_fits p (Win (suc n)) h = h
-  zeroing_fits p (Loss zero) h = h
-  zeroing_fits p (Loss (suc n)) h = h
-  zeroing_fits p Draw h = h
-
-  -- something is shown of each position of the class
-  abbrev AllShown : Type 0
-  AllShown = (metric : Metric) (p : Setup) → Own p → (v : Value) × ShowsOf tables metric p v
-
-  module _ (all : AllShown) where
-    next_shown : (metric : Metric) (p q : Setup) → Own p → chess.Move p q → (v : Value) × ShowsOf tables metric q v
-    next_shown metric p q o m = ⊎_elim (all metric q) (λ child. let s = child_shown metric q child in (s.0, s.2)) (step p q o m)
-
-    -- what is shown of a successor is told of it, and of its images
-    shown_alike : (p q q' : Setup) → Own p → chess.Move p q → (IsAdmissible q → (metric : Metric) (v : Value) → ShowsOf tables metric q v ↔ ShowsOf tables metric q' v) → ShownAlike (ShowsOf tables) told q' q
+    fits_mate : (p : Setup) (v : Value) → FitsBeside told Mate p v → entries.Fits chess (value_at facts tables Mate) p v
     unfolding told
-    shown_alike p q q' o m same metric v =
-        let ok = facts.step_admissible p q m.0 o.0 m.1 in
-        (λ shown. shown_told facts tables metric q v ok ((same ok metric v).1 shown), λ tells. (same ok metric v).0 (told_shown facts tables metric q v ok (next_shown metric p q o m) tells))
+    fits_mate p (Win zero) h = h
+    fits_mate p (Win (suc n)) h = h
+    fits_mate p (Loss zero) h = h
+    fits_mate p (Loss (suc n)) h = h
+    fits_mate p Draw h = h
 
-    turned : (q q' : Setup) → ShownAlike (ShowsOf tables) told q' q → ShownAlike told (ShowsOf tables) q q'
-    turned q q' alike metric v = ((alike metric v).1, (alike metric v).0)
+    mate_fits : (p : Setup) (v : Value) → entries.Fits chess (value_at facts tables Mate) p v → FitsBeside told Mate p v
+    unfolding told
+    mate_fits p (Win zero) h = h
+    mate_fits p (Win (suc n)) h = h
+    mate_fits p (Loss zero) h = h
+    mate_fits p (Loss (suc n)) h = h
+    mate_fits p Draw h = h
 
-    -- a position of the class plays like one whose steps lead to images
-    plays_like : (p p' : Setup) → Own p → IsAdmissible p' → StepAlike p p' → PlaysLike (ShowsOf tables) told p' p
-    plays_like p p' o ok' alike = record {
-      checkmate = (alike.checkmate.1, alike.checkmate.0);
-      there = λ q' m'.
-          let s = alike.back q' m' in
-          let same = λ (metric : Metric) (v : Value). images_show_alike facts tables metric v q' s.0 (facts.step_admissible p' q' m'.0 ok' m'.1) s.3 in
-          (s.0, s.1, s.2, shown_alike p s.0 q' o s.1 (λ ok metric v. ((same metric v).1, (same metric v).0)));
-      back = λ q m.
-          let s = alike.there q m in
-          (s.0, s.1, s.2, turned q s.0 (shown_alike p q s.0 o m (λ ok metric v. images_show_alike facts tables metric v q s.0 ok s.3)));
-    }
+    fits_zeroing : (p : Setup) (v : Value) → FitsBeside told Zeroing p v → entries.FitsZeroing chess (value_at facts tables Mate) (value_at facts tables Zeroing) p v
+    unfolding told
+    fits_zeroing p (Win zero) h = h
+    fits_zeroing p (Win (suc n)) h = h
+    fits_zeroing p (Loss zero) h = h
+    fits_zeroing p (Loss (suc n)) h = h
+    fits_zeroing p Draw h = h
 
-  -- a table that keeps the rules is true
-  module _ (keeps : (metric : Metric) → KeepsBelow tables t metric (size_of t.class)) where
-    own_shown : (metric : Metric) (p : Setup) (i : ℕ) → IsAdmissible p → IsIndex t.class p i → (v : Value) × Shows (entry_at t metric i) v
-    own_shown metric p i ok is =
-        let below = facts.index_below p t.class i is in
-        let void : Keeps tables t metric i rules.Void = keeps metric i below rules.Void in
-        let range : Keeps tables t metric i rules.Range = keeps metric i below rules.Range in
-        in_range (entry_at t metric i) (λ e. void.0 e p ok is) range.0 range.1
+    zeroing_fits : (p : Setup) (v : Value) → entries.FitsZeroing chess (value_at facts tables Mate) (value_at facts tables Zeroing) p v → FitsBeside told Zeroing p v
+    unfolding told
+    zeroing_fits p (Win zero) h = h
+    zeroing_fits p (Win (suc n)) h = h
+    zeroing_fits p (Loss zero) h = h
+    zeroing_fits p (Loss (suc n)) h = h
+    zeroing_fits p Draw h = h
 
-    all_shown : AllShown
-    all_shown metric p o =
-        let index = facts.some_index p t.class o.1.0 sized.class_in o.0 o.1.1 in
-        let s = own_shown metric p index.0 o.0 index.1 in
-        (s.0, (entry_at t metric index.0, entry_there metric t t.class o.1.0 p index.0 sized.class_in here o.1.1 index.1, s.1))
+    -- something is shown of each position of the class
+    abbrev AllShown : Type 0
+    AllShown = (metric : Metric) (p : Setup) → Own p → (v : Value) × ShowsOf tables metric p v
 
-    by_rule : (metric : Metric) (i : ℕ) (v : Value) → i < size_of t.class → Fits tables t metric i v
-    by_rule metric i (Win n) below = (keeps metric i below rules.Win) n
-    by_rule metric i (Loss n) below = (keeps metric i below rules.Loss) n
-    by_rule metric i Draw below = keeps metric i below rules.Draw
+    module _ (all : AllShown) where
+      next_shown : (metric : Metric) (p q : Setup) → Own p → chess.Move p q → (v : Value) × ShowsOf tables metric q v
+      next_shown metric p q o m = ⊎_elim (all metric q) (λ child. let s = child_shown metric q child in (s.0, s.2)) (step p q o m)
 
-    own_fits : (metric : Metric) (p : Setup) → Own p → FitsBeside told metric p (value_at facts tables metric p)
-    own_fits metric p o =
-        let index = facts.some_index p t.class o.1.0 sized.class_in o.0 o.1.1 in
-        let is = index.1 in
-        let s = own_shown metric p index.0 o.0 is in
-        let below = facts.index_below p t.class index.0 is in
-        let fits = by_rule metric index.0 s.0 below s.1 is.image is.spells in
-        let alike = settled_image_alike facts p is.settled is.image o.0 is.settles is.images in
-        let tells = shown_told facts tables metric p s.0 o.0 (entry_at t metric index.0, entry_there metric t t.class o.1.0 p index.0 sized.class_in here o.1.1 is, s.1) in
-        subst (FitsBeside told metric p) (sym tells) (carry (ShowsOf tables) told is.image p (plays_like all_shown p is.image o is.spells.admissible alike) metric s.0 fits)
+      -- what is shown of a successor is told of it, and of its images
+      shown_alike : (p q q' : Setup) → Own p → chess.Move p q → (IsAdmissible q → (metric : Metric) (v : Value) → ShowsOf tables metric q v ↔ ShowsOf tables metric q' v) → ShownAlike (ShowsOf tables) told q' q
+      unfolding told
+      shown_alike p q q' o m same metric v =
+          let ok = facts.step_admissible p q m.0 o.0 m.1 in
+          (λ shown. shown_told facts tables metric q v ok ((same ok metric v).1 shown), λ tells. (same ok metric v).0 (told_shown facts tables metric q v ok (next_shown metric p q o m) tells))
 
-    agree : (p : Setup) → Own p → entries.SameKind (value_at facts tables Mate p) (value_at facts tables Zeroing p)
-    agree p o =
-        let index = facts.some_index p t.class o.1.0 sized.class_in o.0 o.1.1 in
-        let mate = own_shown Mate p index.0 o.0 index.1 in
-        let zeroing = own_shown Zeroing p index.0 o.0 index.1 in
-        let below = facts.index_below p t.class index.0 index.1 in
-        let kind : Keeps tables t Zeroing index.0 rules.Kind = keeps Zeroing index.0 below rules.Kind in
-        let there = λ (metric : Metric). entry_there metric t t.class o.1.0 p index.0 sized.class_in here o.1.1 index.1 in
-        subst (λ v. entries.SameKind v (value_at facts tables Zeroing p)) (sym (shown_told facts tables Mate p mate.0 o.0 (entry_at t Mate index.0, there Mate, mate.1)))
-        (subst (entries.SameKind mate.0) (sym (shown_told facts tables Zeroing p zeroing.0 o.0 (entry_at t Zeroing index.0, there Zeroing, zeroing.1))) (kind mate.0 zeroing.0 mate.1 zeroing.1))
+      turned : (q q' : Setup) → ShownAlike (ShowsOf tables) told q' q → ShownAlike told (ShowsOf tables) q q'
+      turned q q' alike metric v = ((alike metric v).1, (alike metric v).0)
 
-    judged : entries.JudgedOver chess (λ p. IsTrue (own p)) (value_at facts tables Mate)
-    judged = record {
-      ends = mate_ends;
-      over = λ p q o m. ⊎_map (is_own q) (child_tells Mate q) (step p q (owned p o) m);
-      fits = λ p o. fits_mate p (value_at facts tables Mate p) (own_fits Mate p (owned p o));
-    }
+      -- a position of the class plays like one whose steps lead to images
+      plays_like : (p p' : Setup) → Own p → IsAdmissible p' → StepAlike p p' → PlaysLike (ShowsOf tables) told p' p
+      plays_like p p' o ok' alike = record {
+        checkmate = (alike.checkmate.1, alike.checkmate.0);
+        there = λ q' m'.
+            let s = alike.back q' m' in
+            let same = λ (metric : Metric) (v : Value). images_show_alike facts tables metric v q' s.0 (facts.step_admissible p' q' m'.0 ok' m'.1) s.3 in
+            (s.0, s.1, s.2, shown_alike p s.0 q' o s.1 (λ ok metric v. ((same metric v).1, (same metric v).0)));
+        back = λ q m.
+            let s = alike.there q m in
+            (s.0, s.1, s.2, turned q s.0 (shown_alike p q s.0 o m (λ ok metric v. images_show_alike facts tables metric v q s.0 ok s.3)));
+      }
 
-    zeroing_judged : entries.ZeroingJudgedOver chess (λ p. IsTrue (own p)) (value_at facts tables Mate) (value_at facts tables Zeroing)
-    zeroing_judged = record {
-      over = λ p q o m. ⊎_map (is_own q) (child_tells Zeroing q) (step p q (owned p o) m);
-      kind = λ p o. agree p (owned p o);
-      fits = λ p o. fits_zeroing p (value_at facts tables Zeroing p) (own_fits Zeroing p (owned p o));
-    }
+    -- a table that keeps the rules is true
+    module _ (keeps : (metric : Metric) → KeepsBelow tables t metric (size_of t.class)) where
+      own_shown : (metric : Metric) (p : Setup) (i : ℕ) → IsAdmissible p → IsIndex t.class p i → (v : Value) × Shows (entry_at t metric i) v
+      own_shown metric p i ok is =
+          let below = facts.index_below p t.class i is in
+          let void : Keeps tables t metric i rules.Void = keeps metric i below rules.Void in
+          let range : Keeps tables t metric i rules.Range = keeps metric i below rules.Range in
+          in_range (entry_at t metric i) (λ e. void.0 e p ok is) range.0 range.1
 
-    tells_true : (metric : Metric) (p : Setup) → Own p → Tells metric p (value_at facts tables metric p)
-    tells_true Mate p o = facts.values_by_rules own (value_at facts tables Mate) judged p (is_own p o)
-    tells_true Zeroing p o = facts.distances_by_rules own (value_at facts tables Mate) (value_at facts tables Zeroing) judged zeroing_judged p (is_own p o)
+      all_shown : AllShown
+      all_shown metric p o =
+          let index = facts.some_index p t.class o.1.0 sized.class_in o.0 o.1.1 in
+          let s = own_shown metric p index.0 o.0 index.1 in
+          (s.0, (entry_at t metric index.0, entry_there metric t t.class o.1.0 p index.0 sized.class_in here o.1.1 index.1, s.1))
 
-    pub entry_true : (metric : Metric) (p : Setup) (i : ℕ) → IsAdmissible p → IsIndex t.class p i → (v : Value) × Tells metric p v × Shows (entry_at t metric i) v
-    entry_true metric p i ok is =
-        let of = indexed_class facts t.class i p ok is in
-        let s = own_shown metric p i ok is in
-        let shown = shown_told facts tables metric p s.0 ok (entry_at t metric i, entry_there metric t t.class of.0 p i sized.class_in here of.1 is, s.1) in
-        (s.0, subst (Tells metric p) shown (tells_true metric p (ok, of)), s.1)
+      by_rule : (metric : Metric) (i : ℕ) (v : Value) → i < size_of t.class → Fits tables t metric i v
+      by_rule metric i (Win n) below = (keeps metric i below rules.Win) n
+      by_rule metric i (Loss n) below = (keeps metric i below rules.Loss) n
+      by_rule metric i Draw below = keeps metric i below rules.Draw
 
-    pub void_true : (metric : Metric) (i : ℕ) → i < size_of t.class → IsVoid t.class i → entry_at t metric i ≡ 0
-    void_true metric i below void = let rule : Keeps tables t metric i rules.Void = keeps metric i below rules.Void in rule.1 void
+      own_fits : (metric : Metric) (p : Setup) → Own p → FitsBeside told metric p (value_at facts tables metric p)
+      own_fits metric p o =
+          let index = facts.some_index p t.class o.1.0 sized.class_in o.0 o.1.1 in
+          let is = index.1 in
+          let s = own_shown metric p index.0 o.0 is in
+          let below = facts.index_below p t.class index.0 is in
+          let fits = by_rule metric index.0 s.0 below s.1 is.image is.spells in
+          let alike = settled_image_alike facts p is.settled is.image o.0 is.settles is.images in
+          let tells = shown_told facts tables metric p s.0 o.0 (entry_at t metric index.0, entry_there metric t t.class o.1.0 p index.0 sized.class_in here o.1.1 is, s.1) in
+          subst (FitsBeside told metric p) (sym tells) (carry (ShowsOf tables) told is.image p (plays_like all_shown p is.image o is.spells.admissible alike) metric s.0 fits)
 
-  -- a true table keeps the rules
-  module _ (truth : IsTrueTable t) where
-    true_own : (metric : Metric) (p : Setup) → Own p → (v : Value) × Tells metric p v × ShowsOf tables metric p v
-    true_own metric p o = true_shown metric t t.class o.1.0 p sized.class_in here refl truth o.0 o.1.1
+      agree : (p : Setup) → Own p → entries.SameKind (value_at facts tables Mate p) (value_at facts tables Zeroing p)
+      agree p o =
+          let index = facts.some_index p t.class o.1.0 sized.class_in o.0 o.1.1 in
+          let mate = own_shown Mate p index.0 o.0 index.1 in
+          let zeroing = own_shown Zeroing p index.0 o.0 index.1 in
+          let below = facts.index_below p t.class index.0 index.1 in
+          let kind : Keeps tables t Zeroing index.0 rules.Kind = keeps Zeroing index.0 below rules.Kind in
+          let there = λ (metric : Metric). entry_there metric t t.class o.1.0 p index.0 sized.class_in here o.1.1 index.1 in
+          subst (λ v. entries.SameKind v (value_at facts tables Zeroing p)) (sym (shown_told facts tables Mate p mate.0 o.0 (entry_at t Mate index.0, there Mate, mate.1)))
+          (subst (entries.SameKind mate.0) (sym (shown_told facts tables Zeroing p zeroing.0 o.0 (entry_at t Zeroing index.0, there Zeroing, zeroing.1))) (kind mate.0 zeroing.0 mate.1 zeroing.1))
 
-    own_tells : (metric : Metric) (p : Setup) → Own p → Tells metric p (value_at facts tables metric p)
-    own_tells metric p o = let s = true_own metric p o in subst (Tells metric p) (sym (shown_told facts tables metric p s.0 o.0 s.2)) s.1
+      judged : entries.JudgedOver chess (λ p. IsTrue (own p)) (value_at facts tables Mate)
+      judged = record {
+        ends = mate_ends;
+        over = λ p q o m. ⊎_map (is_own q) (child_tells Mate q) (step p q (owned p o) m);
+        fits = λ p o. fits_mate p (value_at facts tables Mate p) (own_fits Mate p (owned p o));
+      }
 
-    all_true : AllShown
-    all_true metric p o = let s = true_own metric p o in (s.0, s.2)
+      zeroing_judged : entries.ZeroingJudgedOver chess (λ p. IsTrue (own p)) (value_at facts tables Mate) (value_at facts tables Zeroing)
+      zeroing_judged = record {
+        over = λ p q o m. ⊎_map (is_own q) (child_tells Zeroing q) (step p q (owned p o) m);
+        kind = λ p o. agree p (owned p o);
+        fits = λ p o. fits_zeroing p (value_at facts tables Zeroing p) (own_fits Zeroing p (owned p o));
+      }
 
-    true_over : (metric : Metric) (p q : Setup) → IsTrue (own p) → chess.Move p q → IsTrue (own q) ⊎ Tells metric q (value_at facts tables metric q)
-    true_over metric p q o m = ⊎_map (is_own q) (child_tells metric q) (step p q (owned p o) m)
+      tells_true : (metric : Metric) (p : Setup) → Own p → Tells metric p (value_at facts tables metric p)
+      tells_true Mate p o = facts.values_by_rules own (value_at facts tables Mate) judged p (is_own p o)
+      tells_true Zeroing p o = facts.distances_by_rules own (value_at facts tables Mate) (value_at facts tables Zeroing) judged zeroing_judged p (is_own p o)
 
-    true_judged : entries.JudgedOver chess (λ p. IsTrue (own p)) (value_at facts tables Mate)
-    true_judged = facts.rules_by_values own (value_at facts tables Mate) (λ p o. own_tells Mate p (owned p o)) (true_over Mate)
+      pub entry_true : (metric : Metric) (p : Setup) (i : ℕ) → IsAdmissible p → IsIndex t.class p i → (v : Value) × Tells metric p v × Shows (entry_at t metric i) v
+      entry_true metric p i ok is =
+          let of = indexed_class facts t.class i p ok is in
+          let s = own_shown metric p i ok is in
+          let shown = shown_told facts tables metric p s.0 ok (entry_at t metric i, entry_there metric t t.class of.0 p i sized.class_in here of.1 is, s.1) in
+          (s.0, subst (Tells metric p) shown (tells_true metric p (ok, of)), s.1)
 
-    true_zeroing : entries.ZeroingJudgedOver chess (λ p. IsTrue (own p)) (value_at facts tables Mate) (value_at facts tables Zeroing)
-    true_zeroing = facts.rules_by_distances own (value_at facts tables Mate) (value_at facts tables Zeroing)
-        (λ p o. own_tells Mate p (owned p o)) (λ p o. own_tells Zeroing p (owned p o)) (true_over Mate) (true_over Zeroing)
+      pub void_true : (metric : Metric) (i : ℕ) → i < size_of t.class → IsVoid t.class i → entry_at t metric i ≡ 0
+      void_true metric i below void = let rule : Keeps tables t metric i rules.Void = keeps metric i below rules.Void in rule.1 void
 
-    true_fits : (metric : Metric) (p : Setup) → Own p → FitsBeside told metric p (value_at facts tables metric p)
-    true_fits Mate p o = mate_fits p (value_at facts tables Mate p) (true_judged.fits p (is_own p o))
-    true_fits Zeroing p o = zeroing_fits p (value_at facts tables Zeroing p) (true_zeroing.fits p (is_own p o))
+    -- a true table keeps the rules
+    module _ (truth : HasTrueValues t) where
+      true_own : (metric : Metric) (p : Setup) → Own p → (v : Value) × Tells metric p v × ShowsOf tables metric p v
+      true_own metric p o = true_shown metric t t.class o.1.0 p sized.class_in here refl truth o.0 o.1.1
 
-    -- what is told of the successors is shown of them
-    plays_itself : (p : Setup) → Own p → PlaysLike told (ShowsOf tables) p p
-    plays_itself p o = record {
-      checkmate = ((λ mate. mate), (λ mate. mate));
-      there = λ q m. (q, m, ((λ z. z), (λ z. z)), turned all_true q q (shown_alike all_true p q q o m (λ ok metric v. ((λ s. s), (λ s. s)))));
-      back = λ q m. (q, m, ((λ z. z), (λ z. z)), shown_alike all_true p q q o m (λ ok metric v. ((λ s. s), (λ s. s))));
-    }
+      own_tells : (metric : Metric) (p : Setup) → Own p → Tells metric p (value_at facts tables metric p)
+      own_tells metric p o = let s = true_own metric p o in subst (Tells metric p) (sym (shown_told facts tables metric p s.0 o.0 s.2)) s.1
 
-    -- where nothing is shown the entry is 0
-    unshown : (metric : Metric) (i : ℕ) → i < size_of t.class → ((v : Value) → ¬ Shows (entry_at t metric i) v) → entry_at t metric i ≡ 0
-    unshown metric i below none = truth.void metric i below (λ p ok is. let s = truth.true metric p i ok is in none s.0 s.2)
+      all_true : AllShown
+      all_true metric p o = let s = true_own metric p o in (s.0, s.2)
 
-    -- what spells a code whose entry shows something has it as its index
-    spelled_index : (metric : Metric) (i : ℕ) (v : Value) (p : Setup) → i < size_of t.class → Shows (entry_at t metric i) v → Spells t.class i p → IsIndex t.class p i
-    spelled_index metric i v p below shown spells = of_same (cases_eq index.0 i)
-      where
-        of : (flipped : Bool) × IsOf t.class flipped p
-        of = facts.spelled_class t.class i p spells
+      true_over : (metric : Metric) (p q : Setup) → IsTrue (own p) → chess.Move p q → IsTrue (own q) ⊎ Tells metric q (value_at facts tables metric q)
+      true_over metric p q o m = ⊎_map (is_own q) (child_tells metric q) (step p q (owned p o) m)
 
-        index : (j : ℕ) × IsIndex t.class p j
-        index = facts.some_index p t.class of.0 sized.class_in spells.admissible of.1
+      true_judged : entries.JudgedOver chess (λ p. IsTrue (own p)) (value_at facts tables Mate)
+      true_judged = facts.rules_by_values own (value_at facts tables Mate) (λ p o. own_tells Mate p (owned p o)) (true_over Mate)
 
-        of_same : (index.0 ≡ i) ⊎ (index.0 ≢ i) → IsIndex t.class p i
-        of_same (inl e) = subst (IsIndex t.class p) e index.1
-        of_same (inr other) =
-            let void : IsVoid t.class i = (λ q ok is. other (facts.one_index p t.class index.0 i spells.admissible index.1 (facts.index_spells q p t.class i ok is spells))) in
-            absurd ((shown_range (entry_at t metric i) v shown).0 (truth.void metric i below void))
+      true_zeroing : entries.ZeroingJudgedOver chess (λ p. IsTrue (own p)) (value_at facts tables Mate) (value_at facts tables Zeroing)
+      true_zeroing = facts.rules_by_distances own (value_at facts tables Mate) (value_at facts tables Zeroing)
+          (λ p o. own_tells Mate p (owned p o)) (λ p o. own_tells Zeroing p (owned p o)) (true_over Mate) (true_over Zeroing)
 
-    fits_true : (metric : Metric) (i : ℕ) (v : Value) → i < size_of t.class → Fits tables t metric i v
-    fits_true metric i v below shown p spells =
-        let is = spelled_index metric i v p below shown spells in
-        let of = indexed_class facts t.class i p spells.admissible is in
-        let o : Own p = (spells.admissible, of) in
-        let tells = shown_told facts tables metric p v spells.admissible (entry_at t metric i, entry_there metric t t.class of.0 p i sized.class_in here of.1 is, shown) in
-        carry told (ShowsOf tables) p p (plays_itself p o) metric v (subst (FitsBeside told metric p) tells (true_fits metric p o))
+      true_fits : (metric : Metric) (p : Setup) → Own p → FitsBeside told metric p (value_at facts tables metric p)
+      true_fits Mate p o = mate_fits p (value_at facts tables Mate p) (true_judged.fits p (is_own p o))
+      true_fits Zeroing p o = zeroing_fits p (value_at facts tables Zeroing p) (true_zeroing.fits p (is_own p o))
 
-    decided_kind : (v w : Value) → Decided (entries.SameKind v w)
-    decided_kind (Win m) (Win n) = inl tt
-    decided_kind (Win m) (Loss n) = inr (λ h. h)
-    decided_kind (Win m) Draw = inr (λ h. h)
-    decided_kind (Loss m) (Win n) = inr (λ h. h)
-    decided_kind (Loss m) (Loss n) = inl tt
-    decided_kind (Loss m) Draw = inr (λ h. h)
-    decided_kind Draw (Win n) = inr (λ h. h)
-    decided_kind Draw (Loss n) = inr (λ h. h)
-    decided_kind Draw Draw = inl tt
+      -- what is told of the successors is shown of them
+      plays_itself : (p : Setup) → Own p → PlaysLike told (ShowsOf tables) p p
+      plays_itself p o = record {
+        checkmate = ((λ mate. mate), (λ mate. mate));
+        there = λ q m. (q, m, ((λ z. z), (λ z. z)), turned all_true q q (shown_alike all_true p q q o m (λ ok metric v. ((λ s. s), (λ s. s)))));
+        back = λ q m. (q, m, ((λ z. z), (λ z. z)), shown_alike all_true p q q o m (λ ok metric v. ((λ s. s), (λ s. s))));
+      }
 
-    kind_true : (i : ℕ) → i < size_of t.class → (v w : Value) → Shows (entry_at t Mate i) v → Shows (entry_at t Zeroing i) w → entries.SameKind v w
-    kind_true i below v w mate zeroing = of_decided (decided_kind v w)
-      where
-        same : (p : Setup) → IsAdmissible p → IsIndex t.class p i → entries.SameKind v w
-        same p ok is =
-            let of = indexed_class facts t.class i p ok is in
-            let there = λ (metric : Metric). entry_there metric t t.class of.0 p i sized.class_in here of.1 is in
-            subst (λ x. entries.SameKind x w) (shown_told facts tables Mate p v ok (entry_at t Mate i, there Mate, mate))
-            (subst (entries.SameKind (value_at facts tables Mate p)) (shown_told facts tables Zeroing p w ok (entry_at t Zeroing i, there Zeroing, zeroing)) (true_zeroing.kind p (is_own p (ok, of))))
+      -- where nothing is shown the entry is 0
+      unshown : (metric : Metric) (i : ℕ) → i < size_of t.class → ((v : Value) → ¬ Shows (entry_at t metric i) v) → entry_at t metric i ≡ 0
+      unshown metric i below none = truth.void metric i below (λ p ok is. let s = truth.true metric p i ok is in none s.0 s.2)
 
-        of_decided : Decided (entries.SameKind v w) → entries.SameKind v w
-        of_decided (inl h) = h
-        of_decided (inr not) = absurd ((shown_range (entry_at t Mate i) v mate).0 (truth.void Mate i below (λ p ok is. not (same p ok is))))
+      -- what spells a code whose entry shows something has it as its index
+      spelled_index : (metric : Metric) (i : ℕ) (v : Value) (p : Setup) → i < size_of t.class → Shows (entry_at t metric i) v → Spells t.class i p → IsIndex t.class p i
+      spelled_index metric i v p below shown spells = of_same (cases_eq index.0 i)
+        where
+          of : (flipped : Bool) × IsOf t.class flipped p
+          of = facts.spelled_class t.class i p spells
 
-    not_two : (metric : Metric) (i : ℕ) → i < size_of t.class → entry_at t metric i ≢ 2
-    not_two metric i below two =
-        let void = unshown metric i below (λ v s. (shown_range (entry_at t metric i) v s).1 two) in
-        omega (arith, two, void)
+          index : (j : ℕ) × IsIndex t.class p j
+          index = facts.some_index p t.class of.0 sized.class_in spells.admissible of.1
 
-    not_high : (metric : Metric) (i : ℕ) → i < size_of t.class → (64003 < entry_at t metric i) ⊎ (entry_at t metric i ≤ 64003) → entry_at t metric i ≤ 64003
-    not_high metric i below (inr le) = le
-    not_high metric i below (inl high) =
-        let void = unshown metric i below (λ v s. let le = (shown_range (entry_at t metric i) v s).2 in omega (arith, le, high)) in
-        omega (arith, high, void)
+          of_same : (index.0 ≡ i) ⊎ (index.0 ≢ i) → IsIndex t.class p i
+          of_same (inl e) = subst (IsIndex t.class p) e index.1
+          of_same (inr other) =
+              let void : IsVoid t.class i = (λ q ok is. other (facts.one_index p t.class index.0 i spells.admissible index.1 (facts.index_spells q p t.class i ok is spells))) in
+              absurd ((shown_range (entry_at t metric i) v shown).0 (truth.void metric i below void))
 
-    pub true_keeps : (metric : Metric) (i : ℕ) → i < size_of t.class → (rule : Rule) → Keeps tables t metric i rule
-    true_keeps metric i below rules.Void = (λ zero p ok is. let s = truth.true metric p i ok is in (shown_range (entry_at t metric i) s.0 s.2).0 zero, λ void. truth.void metric i below void)
-    true_keeps metric i below rules.Range = (not_two metric i below, not_high metric i below (cases_lt 64003 (entry_at t metric i)))
-    true_keeps Mate i below rules.Kind = tt
-    true_keeps Zeroing i below rules.Kind = kind_true i below
-    true_keeps metric i below rules.Win = λ n. fits_true metric i (Win n) below
-    true_keeps metric i below rules.Loss = λ n. fits_true metric i (Loss n) below
-    true_keeps metric i below rules.Draw = fits_true metric i Draw below
-    true_keeps metric i below rules.Reach = tt
-    true_keeps metric i below rules.Dead = tt
+      fits_true : (metric : Metric) (i : ℕ) (v : Value) → i < size_of t.class → Fits tables t metric i v
+      fits_true metric i v below shown p spells =
+          let is = spelled_index metric i v p below shown spells in
+          let of = indexed_class facts t.class i p spells.admissible is in
+          let o : Own p = (spells.admissible, of) in
+          let tells = shown_told facts tables metric p v spells.admissible (entry_at t metric i, entry_there metric t t.class of.0 p i sized.class_in here of.1 is, shown) in
+          carry told (ShowsOf tables) p p (plays_itself p o) metric v (subst (FitsBeside told metric p) tells (true_fits metric p o))
+
+      decided_kind : (v w : Value) → Decided (entries.SameKind v w)
+      decided_kind (Win m) (Win n) = inl tt
+      decided_kind (Win m) (Loss n) = inr (λ h. h)
+      decided_kind (Win m) Draw = inr (λ h. h)
+      decided_kind (Loss m) (Win n) = inr (λ h. h)
+      decided_kind (Loss m) (Loss n) = inl tt
+      decided_kind (Loss m) Draw = inr (λ h. h)
+      decided_kind Draw (Win n) = inr (λ h. h)
+      decided_kind Draw (Loss n) = inr (λ h. h)
+      decided_kind Draw Draw = inl tt
+
+      kind_true : (i : ℕ) → i < size_of t.class → (v w : Value) → Shows (entry_at t Mate i) v → Shows (entry_at t Zeroing i) w → entries.SameKind v w
+      kind_true i below v w mate zeroing = of_decided (decided_kind v w)
+        where
+          same : (p : Setup) → IsAdmissible p → IsIndex t.class p i → entries.SameKind v w
+          same p ok is =
+              let of = indexed_class facts t.class i p ok is in
+              let there = λ (metric : Metric). entry_there metric t t.class of.0 p i sized.class_in here of.1 is in
+              subst (λ x. entries.SameKind x w) (shown_told facts tables Mate p v ok (entry_at t Mate i, there Mate, mate))
+              (subst (entries.SameKind (value_at facts tables Mate p)) (shown_told facts tables Zeroing p w ok (entry_at t Zeroing i, there Zeroing, zeroing)) (true_zeroing.kind p (is_own p (ok, of))))
+
+          of_decided : Decided (entries.SameKind v w) → entries.SameKind v w
+          of_decided (inl h) = h
+          of_decided (inr not) = absurd ((shown_range (entry_at t Mate i) v mate).0 (truth.void Mate i below (λ p ok is. not (same p ok is))))
+
+      not_two : (metric : Metric) (i : ℕ) → i < size_of t.class → entry_at t metric i ≢ 2
+      not_two metric i below two =
+          let void = unshown metric i below (λ v s. (shown_range (entry_at t metric i) v s).1 two) in
+          omega (arith, two, void)
+
+      not_high : (metric : Metric) (i : ℕ) → i < size_of t.class → (64003 < entry_at t metric i) ⊎ (entry_at t metric i ≤ 64003) → entry_at t metric i ≤ 64003
+      not_high metric i below (inr le) = le
+      not_high metric i below (inl high) =
+          let void = unshown metric i below (λ v s. let le = (shown_range (entry_at t metric i) v s).2 in omega (arith, le, high)) in
+          omega (arith, high, void)
+
+      pub true_keeps : (metric : Metric) (i : ℕ) → i < size_of t.class → (rule : Rule) → Keeps tables t metric i rule
+      true_keeps metric i below rules.Void = (λ zero p ok is. let s = truth.true metric p i ok is in (shown_range (entry_at t metric i) s.0 s.2).0 zero, λ void. truth.void metric i below void)
+      true_keeps metric i below rules.Range = (not_two metric i below, not_high metric i below (cases_lt 64003 (entry_at t metric i)))
+      true_keeps Mate i below rules.Kind = tt
+      true_keeps Zeroing i below rules.Kind = kind_true i below
+      true_keeps metric i below rules.Win = λ n. fits_true metric i (Win n) below
+      true_keeps metric i below rules.Loss = λ n. fits_true metric i (Loss n) below
+      true_keeps metric i below rules.Draw = fits_true metric i Draw below
+      true_keeps metric i below rules.Reach = tt
+      true_keeps metric i below rules.Dead = tt

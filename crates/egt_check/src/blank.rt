@@ -43,7 +43,8 @@ fn shelves_are_blank(
     true
 }
 
-/// Whether so are those, and those of the shelves `half` further on, which have the same men and a target; 0 in a class without targets.
+/// Whether the entries of the shelves from this one on, and of those `half` further on, which have the same men and a target,
+/// have no scores; `half` is 0 in a class without targets.
 pub fn side_is_blank(
     table: &Table,
     column: Column,

@@ -30,7 +30,7 @@ pub fn tells_bytes(table: &Table) -> bool
     are_alike(table) && tells_voids(table)
 }
 
-/// The same of a true table, which is not asked which codes no position has.
+/// Whether the entries of a true table have bytes of their own: it is not asked which codes no position has.
 fn true_table_tells_bytes(table: &Table) -> bool
     requires { IsTrueTable table.now }
     ensures { result ≡ true → HasBytes table.now }

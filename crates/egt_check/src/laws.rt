@@ -3,7 +3,7 @@ ghost use Rattle.std.specs.Prelude.{◌≡◌, ◌≢◌, ◌↔◌, ◌<◌, ma
 ghost use Rattle.std.specs.Option.{is_some};
 ghost use Rattle.egt_class.specs.Membership.{IsOf};
 ghost use Rattle.egt_index.specs.Code.{Spells};
-ghost use Rattle.egt_index.specs.Index.{IsIndex};
+ghost use Rattle.egt_index.specs.Index.{IsIndex, IsVoid};
 ghost use Rattle.egt_board.specs.Setup.{Setup, IsAdmissible};
 ghost use Rattle.egt_table.specs.Table.{TableValue, IsTable};
 ghost use Rattle.egt_check.specs.Alike.{StepAlike};
@@ -17,9 +17,8 @@ ghost use Rattle.egt_steps.specs.Stands.{stand_on};
 ghost use Rattle.egt_steps.specs.QuietStands.{AreQuietCodes};
 ghost use Rattle.egt_steps.specs.Takings.{IsPlainCapture};
 ghost use Rattle.egt_check.specs.Given.{AreAlike, AreGiven};
-ghost use Rattle.egt_entries.specs.Rules.{IsJudged};
+ghost use Rattle.egt_entries.specs.Rules.{IsJudged, KeepsBelow, KeepsReachBelow, KeepsRules};
 ghost use Rattle.egt_entries.specs.Score.{IsAtEnd};
-ghost use Rattle.egt_index.specs.Index.{IsVoid};
 ghost use Rattle.egt_lanes.specs.Scores.{byte_score, due_score, zeroing_score};
 ghost use Rattle.egt_check.specs.Taken.{IsTableOf};
 ghost use Rattle.egt_blocks.specs.Taken.{AreLeftCodes, men_swapped};
@@ -35,8 +34,7 @@ ghost use Rattle.egt_lanes.specs.Raised.{IsRaised};
 ghost use Rattle.egt_moves.specs.Arena.{NoMove};
 ghost use Rattle.egt_entries.specs.Tables.{Tables, entry_at};
 ghost use Rattle.egt_entries.specs.Library.{ReachesDown};
-ghost use Rattle.egt_entries.specs.Rules.{KeepsReachBelow, KeepsRules};
-ghost use Rattle.egt_entries.specs.Truth.{IsTrueReach, IsTrueTable, HasTrueChildren};
+ghost use Rattle.egt_entries.specs.Truth.{HasTrueChildren, HasTrueReachesBelow, HasTrueValues, HasTrueValuesBelow, IsTrueReach, IsTrueTable};
 ghost use Rattle.egt_index.specs.Size.{size_of};
 
 use crate::pawn_laws::{
@@ -53,13 +51,26 @@ use egt_steps::facts::facts;
 use egt_steps::laws::{captures_lead_to_three_men, quiet_moves_are_quiet_steps};
 use egt_steps::pawn_laws::pawns_moves_are_of_four_kinds;
 
+/// Where a column of the children's tables is true, the entries of that column of a table keep the rules exactly where they are true; so those of the table do,
+/// where the columns that it has are true of the children. A child's false column of the nearest mates is nothing to a table without that column.
+pub fn columns_are_kept_over_true_ones()
+    ensures values { (tables : Tables) (t : TableValue) → IsTable t → tables t.class ≡ Some t → HasTrueValuesBelow tables t.class →
+        ((metric : Metric) → KeepsBelow tables t metric (size_of t.class)) ↔ HasTrueValues t }
+    ensures reach { (tables : Tables) (t : TableValue) → IsTable t → tables t.class ≡ Some t → HasTrueReachesBelow tables t.class →
+        KeepsReachBelow tables t (size_of t.class) ↔ IsTrueReach t }
+    ensures table { (tables : Tables) (t : TableValue) → IsTable t → tables t.class ≡ Some t → HasTrueValuesBelow tables t.class →
+        (IsSome t.reach → HasTrueReachesBelow tables t.class) → KeepsRules tables t ↔ IsTrueTable t }
+{
+    facts();
+}
+
 /// Where the children's tables are true, the entries of a table keep all rules exactly where the table is true: each entry is
 /// the value, the zeroing distance or the distance of the nearest mate of its position, void entries are 0, and no distance is above 32,000.
 pub fn rules_are_kept_by_true_tables_alone()
     ensures { (tables : Tables) (t : TableValue) → IsTable t → tables t.class ≡ Some t → HasTrueChildren tables t.class →
         ReachesDown tables t → KeepsRules tables t ↔ IsTrueTable t }
 {
-    facts();
+    columns_are_kept_over_true_ones();
 }
 
 /// Where the children's tables are true, the column of the nearest mates of a table is true where its entries keep all rules.
@@ -67,7 +78,7 @@ pub fn kept_reaches_are_true()
     ensures { (tables : Tables) (t : TableValue) → IsTable t → tables t.class ≡ Some t → HasTrueChildren tables t.class → ReachesDown tables t →
         IsSome t.reach → KeepsReachBelow tables t (size_of t.class) → IsTrueReach t }
 {
-    facts();
+    columns_are_kept_over_true_ones();
 }
 
 /// Two true tables of one class are equal where both have the column of the nearest mates or neither has it: so whoever made them made the same.

@@ -62,7 +62,8 @@ pub fn end_is_right(table: &Table, part: Part, code: u32) -> bool
     }
 }
 
-/// Whether so are the codes of the numbers of these squares of the man, every other one from his first digit's on.
+/// Whether the ends are right at the codes of the numbers of these squares of the man, every other number from his first
+/// digit's on.
 fn ends_are_right(table: &Table, part: Part, man: Man, first: u32, ends: SquareSet) -> bool
     requires there { HasColumn (column_of part) table.now }
     requires codes { (digit : ℕ) → digit < kind_digits man.kind → first + 2 * digit < size_of table.now.class }

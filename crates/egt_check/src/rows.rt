@@ -63,7 +63,8 @@ fn first_of_targets(class: Class, shelf: u32) -> u32
     code_of(class, shelf * (2 * last_digits(class))) / 2 * 2
 }
 
-/// The same in the class with targets, where beside each of them lies the code with the other digit of a target. The contract alone reads the men.
+/// The scores of a shelf's codes in a class with targets, where beside each lies the code with the other digit of a target.
+/// The contract alone reads the men.
 #[inline(always)]
 fn target_row(
     table: &Table,

@@ -88,7 +88,7 @@ fn place_of(position: &Position) -> Place
     }
 }
 
-/// The same of a position without a target, by its men alone.
+/// The place of the entries of a position without a target, by its men alone.
 fn place_by_men(men: &Men) -> Place
     requires { (q : Setup) × IsAdmissible q × AreMenOf q men.now × (q.target ≡ None) }
     ensures { (q : Setup) → IsAdmissible q → AreMenOf q men.now → q.target ≡ None → IsPlaceOf result q }

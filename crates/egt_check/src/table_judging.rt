@@ -115,7 +115,7 @@ fn pair_is_right(
     side_is_right(four, &there, part, first, half, side, keys, blocks)
 }
 
-/// Whether so are those of all pairs of kings' squares.
+/// Whether all entries of the part with that side to move keep the rules, of all pairs of kings' squares.
 fn side_pairs_are_right(
     four: &FourMen,
     men: &ShelfMen,
@@ -239,8 +239,8 @@ fn promotion<'t>(
     })
 }
 
-/// The same of each kind that the last man, a pawn, is promoted to. `None` of a piece, and where a table is missing
-/// or does not tell.
+/// The tables of the classes after each promotion of the last man, a pawn. `None` of a piece, and where a table is
+/// missing or does not tell.
 fn promotions<'t>(
     library: &'t Library,
     class: Class,
@@ -265,7 +265,7 @@ fn promotions<'t>(
     })
 }
 
-/// The same of the first man; they are those of the last where the two are equal.
+/// The tables of the classes after each promotion of the first man; those of the last where the two are equal.
 fn first_promotions<'t>(
     library: &'t Library,
     class: Class,

@@ -62,7 +62,7 @@ pub fn settling_keeps_the_class()
     ensures { (p q : Setup) (c : ℕ) (flipped : Bool) → SettlesTo p q → IsOf c flipped p ↔ IsOf c flipped q }
 {}
 
-/// So is an image of it, with the same flip or, where colours are exchanged, with the other.
+/// An image of a position is of its class, with the same flip or, where colours are exchanged, with the other.
 pub fn images_keep_the_class()
     ensures { (p q : Setup) (c : ℕ) (flipped : Bool) → IsAdmissible p → AreImages p q → IsOf c flipped p →
         (IsOf c flipped q × (q.side ≡ p.side)) ⊎ (IsOf c (not flipped) q × (q.side ≡ other_side p.side)) }

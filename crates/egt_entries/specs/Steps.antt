@@ -5,8 +5,6 @@ use Rattle.egt_class.specs.Membership.{IsOf}
 use Rattle.egt_table.specs.Table.{TableValue}
 use Rattle.egt_entries.specs.Fits.{Shown}
 use Rattle.egt_entries.specs.Tables.{table_at, beside, ShowsOf}
-use Rattle.egt_board.specs.declared.man.Man.{Man}
-use Rattle.egt_moves.specs.Promotion.{is_pawn}
 
 -- the position is of the class, in whatever colours
 abbrev pub IsInClass : ℕ → Setup → Type 0
@@ -15,7 +13,3 @@ IsInClass c p = (flipped : Bool) × IsOf c flipped p
 -- what a library and this table show
 abbrev pub shown_by : List (Option TableValue) → TableValue → Shown
 shown_by places t = ShowsOf (beside (table_at places) t)
-
--- whether the man is a pawn
-abbrev pub is_pawn_of : Man → Bool
-is_pawn_of man = is_pawn man.kind

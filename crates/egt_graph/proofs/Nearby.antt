@@ -112,10 +112,6 @@ near_exit_next r (Win k) = below k r
     ]
 near_exit_next r (Loss k) = below k r
   where
-    or_false : (b : Bool) → b ≡ (b || false)
-    or_false true = refl
-    or_false false = refl
-
     below : (k r : ℕ) → ltb k (suc r) ≡ (ltb k r || (eqb k r || false))
     below k r = elim (cases_order k r) [
       | inl e ↦ rw (lt-ltb k (suc r) (omega arith), le-ltb k r (omega arith), eq-eqb k r e) refl

@@ -27,7 +27,7 @@ use Rattle.egt_index.specs.Picked.{AreCounted, Picks, Goes}
 use Rattle.egt_index.specs.Size.{king_base, base_of, men_beside, has_pawns, has_target}
 use Rattle.egt_index.specs.Spelled.{IsListed, Tells}
 use Rattle.egt_index.specs.Stood.{Entry, men_among, rest_of, list_of, IsOff, AllApart, AllStand, Stood, entry_after, IsInOrder, IsOrdered, IsStandAfter, HasDigit}
-use Rattle.egt_index.specs.TurnedMen.{turned_with, turned_stand}
+use Rattle.egt_index.specs.TurnedMen.{turned_with}
 use Rattle.egt_index.specs.Turns.{IsTurn, TurnCode}
 use Rattle.egt_index.specs.declared.stand.Stand.{Stand}
 use Rattle.egt_index.proofs.Classes.{image_in_colours}
@@ -146,9 +146,6 @@ stood_by c n flips p q stand n_in set stood = record {
   where
     list_is : map (turn_one n flips) (list_of stand) ≡ list_of (turned_with n flips stand)
     list_is = ap (λ l. (king_of White, turned_square n flips stand.white) ∷ (king_of Black, turned_square n flips stand.black) ∷ l) (both_to_list n flips stand.next stand.last)
-
-pub stood_turned : (c n : ℕ) (p q : Setup) (stand : Stand) → n < 8 → IsSetBy n false p q → Stood c false p.men (list_of stand) → Stood c false q.men (list_of (turned_stand n stand))
-stood_turned c n p q stand = stood_by c n false p q stand
 
 still : (f : Bool) (men : Placement) (s : ℕ) (list : List (Man × ℕ)) → IsOff list s → AllStand f men list → AllStand f (placement.remove men s) list
 still f men s [] off all = tt

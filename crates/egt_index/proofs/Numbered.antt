@@ -1,5 +1,5 @@
--- Which numbers of a shelf stand for settled positions, and which of their codes are indexes.
-use Rattle.std.proofs.Common.{◌≡◌, ◌≢◌, ◌↔◌, ℕ, ◌+◌, ◌*◌, ◌/◌, ◌<◌, ◌≤◌, Bool, true, false, if◌then◌else◌, Some, None, arith, refl, sym, ap, ◌∙◌, subst, inl, inr}
+-- Which codes of the numbers of a shelf are indexes.
+use Rattle.std.proofs.Common.{◌≡◌, ◌≢◌, ◌↔◌, ℕ, ◌+◌, ◌*◌, ◌/◌, ◌<◌, Bool, true, false, if◌then◌else◌, Some, None, arith, refl, sym, ap, ◌∙◌, subst, inl, inr}
 use Rattle.std.specs.Int.{bit_at}
 use Rattle.std.proofs.lemmas.Bool.{cases_eq, cases_lt}
 use Rattle.std.proofs.lemmas.Nat.Bits.{bit_at-zero}
@@ -22,7 +22,7 @@ use Rattle.egt_index.specs.Places.{AreInOrder, AreMade, IsMade, TellsIndex}
 use Rattle.egt_index.specs.Shelf.{row_len}
 use Rattle.egt_index.specs.Scales.{kind_digits, kind_less}
 use Rattle.egt_index.specs.Shelf.{last_of}
-use Rattle.egt_index.specs.ShelfCodes.{AreIndexed, AreIndexes, AreNumbered, ArePositions, IsShelfBehind, IsWithin, PassesNothing, SpellsNothing}
+use Rattle.egt_index.specs.ShelfCodes.{AreIndexed, AreIndexes, IsShelfBehind, IsWithin, PassesNothing}
 use Rattle.egt_index.specs.Size.{has_target, men_beside, size_of}
 use Rattle.egt_index.specs.Spelled.{Ends}
 use Rattle.egt_index.specs.TellsMen.{TellsMen}
@@ -31,10 +31,9 @@ use Rattle.egt_index.specs.declared.front.Front.{Front}
 use Rattle.egt_index.specs.declared.places.Places.{Places}
 use Rattle.egt_index.specs.declared.stand.Stand.{Stand}
 use Rattle.egt_index.proofs.Beating.{no_index}
-use Rattle.egt_index.proofs.Coding.{code_below}
 use Rattle.egt_index.proofs.Decoded.{list_spelled}
 use Rattle.egt_index.proofs.Exists.{index_settled, index_spelled}
-use Rattle.egt_index.proofs.Halves.{ends_behind, number_below, places_of_last}
+use Rattle.egt_index.proofs.Halves.{ends_behind, places_of_last}
 use Rattle.egt_index.proofs.Passing.{last_pawn}
 use Rattle.egt_index.proofs.Placing.{not_both, tells}
 use Rattle.egt_index.proofs.RowMen.{row_number}
@@ -94,17 +93,6 @@ module _ (passed : Bool) (c shelf high : ℕ) (man : Man) (c_in : c < 36) (last 
     spelled : (mover : Side) (k : ℕ) (made : IsMade passed c front.stand man mover k) → Spells c (code_of c (first mover + 2 * k)) made.position
     spelled mover k made = stands_told passed c (code_of c (first mover + 2 * k)) made.position (stand k) mover made.has (told mover k made.below)
 
-    numbered : (mover : Side) (word : ℕ) → ((k : ℕ) → (bit_at word k ≡ 1) ↔ IsMade passed c front.stand man mover k) → AreNumbered c (first mover) word
-    numbered mover word bits k = (
-      λ one. let there = (bits k).0 one in (subst (λ d. k < d) (sym len) there.below, (there.position, record { spells = spelled mover k there; settled = there.has.settled })),
-      λ there. (bits k).1 (made mover k there.1.0 (subst (λ d. k < d) len there.0) there.1.1),
-    )
-
-    pub positions_behind : (found : Places) → AreMade passed c front.stand man found → ArePositions c shelf found
-    positions_behind found are =
-        let both = both_first (AreNumbered c) (shelf * (2 * places c)) found.white found.black (numbered White found.white are.white) (numbered Black found.black are.black) in
-        record { white = both.0; black = both.1 }
-
     -- where each is the least of its images, if equal men are in order
     module _ (facts : Facts) (alone : front.tied ≡ false) where
       indexed : (mover : Side) (all word : ℕ) → ((k : ℕ) → (bit_at all k ≡ 1) ↔ IsMade passed c front.stand man mover k) → ((k : ℕ) → (bit_at word k ≡ 1) ↔ ((bit_at all k ≡ 1) × IsInOrder front.stand.next (entry k))) → AreIndexed c (first mover) word
@@ -161,14 +149,6 @@ module _ (passed : Bool) (c shelf high : ℕ) (man : Man) (c_in : c < 36) (last 
   lasts : (k : ℕ) → k < places c → TellsLast c (number k) high (entry k)
   lasts k below = tells c high man c_in last other k (subst (λ d. k < d) len below)
 
-  pub none_spelled : SpellsNothing c high → (found : Places) → found.white ≡ 0 → found.black ≡ 0 → ArePositions c shelf found
-  none_spelled nothing found white black =
-      let both = both_first (AreNumbered c) (shelf * (2 * places c)) found.white found.black (of White found.white white) (of Black found.black black) in
-      record { white = both.0; black = both.1 }
-    where
-      of : (mover : Side) (word : ℕ) → word ≡ 0 → AreNumbered c (first mover) word
-      of mover word none = no_bits word none (λ k there. nothing (number k) (entry k) (code_of c (first mover + 2 * k)) there.1.0 (lasts k there.0) (in_row mover k there.0) there.1.1.spells)
-
   pub none_indexed : IsVoidFront c high → (found : Places) → found.white ≡ 0 → found.black ≡ 0 → AreIndexes c shelf found
   none_indexed void found white black =
       let both = both_first (AreIndexed c) (shelf * (2 * places c)) found.white found.black (of White found.white white) (of Black found.black black) in
@@ -190,14 +170,6 @@ module _ (c shelf high : ℕ) (c_in : c < 36) (has : has_target (material_of c) 
       few : k < 48
       few = subst (λ d. k < d) (places_of_last c (pawn_of Black) (last_pawn c has)) below
 
-  pub no_positions : ArePositions c shelf found
-  no_positions =
-      let both = both_first (AreNumbered c) (shelf * (2 * places c)) found.white found.black (of White found.white white) (of Black found.black black) in
-      record { white = both.0; black = both.1 }
-    where
-      of : (mover : Side) (word : ℕ) → word ≡ 0 → AreNumbered c (shelf * (2 * places c) + side_number mover) word
-      of mover word none = no_bits word none (λ k there. not_settled mover k there.1.0 there.0 there.1.1.spells there.1.1.settled)
-
   pub no_indexes : Facts → AreIndexes c shelf found
   no_indexes facts =
       let both = both_first (AreIndexed c) (shelf * (2 * places c)) found.white found.black (of White found.white white) (of Black found.black black) in
@@ -206,16 +178,6 @@ module _ (c shelf high : ℕ) (c_in : c < 36) (has : has_target (material_of c) 
       of : (mover : Side) (word : ℕ) → word ≡ 0 → AreIndexed c (shelf * (2 * places c) + side_number mover) word
       of mover word none = no_bits word none (λ k there. there.1 (λ p ok index.
           not_settled mover k index.image there.0 index.spells (index_settled facts p index.image c (code_of c (shelf * (2 * places c) + side_number mover + 2 * k)) ok index index.spells)))
-
--- past the last shelf
-pub none_past : (c shelf : ℕ) → size_of c ≤ shelf * (2 * places c) → (found : Places) → found.white ≡ 0 → found.black ≡ 0 → ArePositions c shelf found
-none_past c shelf past found white black = record {
-  white = no_bits found.white white (λ k there. none (shelf * (2 * places c) + 2 * k) there.1.0 (omega arith) there.1.1.spells);
-  black = no_bits found.black black (λ k there. none (shelf * (2 * places c) + 1 + 2 * k) there.1.0 (omega arith) there.1.1.spells);
-}
-  where
-    none : (n : ℕ) (p : Setup) → size_of c ≤ n → Spells c (code_of c n) p → ⊥
-    none n p above spells = let below = number_below c n (code_below c (code_of c n) p spells) in omega arith
 
 -- numbers that are told one after the other
 abbrev pub IndexedTo : (c first len bits : ℕ) → Type 0

@@ -1,12 +1,12 @@
 -- What a code that tells some men spells has these men, and a position with these men is what it spells.
-use Rattle.std.proofs.Common.{◌≡◌, ℕ, ◌+◌, ◌-◌, Bool, true, false, List, Option, Some, None, IfSome, arith, refl, sym, ap, ◌∙◌, inl, subst}
+use Rattle.std.proofs.Common.{◌≡◌, ℕ, ◌+◌, ◌-◌, Bool, true, false, List, Option, Some, None, IfSome, arith, refl, sym, ap, ◌∙◌, subst}
 use Rattle.std.specs.Option.{is_some}
 use Rattle.std.proofs.lemmas.Bool.{false≢true}
 use Rattle.egt_board.specs.Listed.{FitsBoard, men_of, setup_of}
 use Rattle.egt_board.specs.Man.{other_side}
 use Rattle.egt_board.specs.Pawn.{HasPawnBeside, ahead, pawn_of}
 use Rattle.egt_board.specs.Placement.{Placement, Stands}
-use Rattle.egt_board.specs.Settled.{IsSettled, SettlesTo}
+use Rattle.egt_board.specs.Settled.{IsSettled}
 use Rattle.egt_board.specs.Setup.{Setup}
 use Rattle.egt_board.specs.Target.{FitsTarget, IsTarget}
 use Rattle.egt_board.specs.declared.man.Man.{Man}
@@ -32,10 +32,6 @@ untargeted_settled q none = of_target q.target none
     of_target : (t : Option ℕ) → t ≡ None → IfSome t (λ t. HasPawnBeside q.men q.side (ahead (other_side q.side) t))
     of_target None e = tt
     of_target (Some t) e = let same = e in cc
-
--- an admissible position without a target is its own settled form
-pub settles_untargeted : (q : Setup) → q.target ≡ None → SettlesTo q q
-settles_untargeted q none = inl (untargeted_settled q none, refl)
 
 -- where a target is told of there is a pawn each
 pub pawns_told : (passed : Bool) (c code : ℕ) (stand : Stand) (side : Side) → TellsMen passed c code stand side → passed ≡ true → HasPawns (list_of stand)

@@ -6,7 +6,6 @@ use Rattle.egt_board.specs.Images.{side_number}
 use Rattle.egt_board.specs.Pawn.{MayStand}
 use Rattle.egt_board.specs.Settled.{IsSettled}
 use Rattle.egt_board.specs.Setup.{Setup}
-use Rattle.egt_board.specs.Turned.{turned_square}
 use Rattle.egt_board.specs.declared.man.Side.{Side}
 use Rattle.egt_board.specs.declared.man.Side.TheVariants.{White, Black}
 use Rattle.egt_class.specs.Material.{material_of}
@@ -14,14 +13,13 @@ use Rattle.egt_index.specs.Code.{Spells}
 use Rattle.egt_index.specs.Front.{TellsLast}
 use Rattle.egt_index.specs.Home.{IsAtHome}
 use Rattle.egt_index.specs.Index.{IsVoid}
-use Rattle.egt_index.specs.Numbers.{IsNumbered, code_of, half_of, places}
+use Rattle.egt_index.specs.Numbers.{code_of, half_of, places}
 use Rattle.egt_index.specs.Shelf.{row_len}
 use Rattle.egt_index.specs.Scales.{kind_digits, kind_less}
 use Rattle.egt_index.specs.Size.{has_pawns, has_target, men_in_order, size_of}
 use Rattle.egt_index.specs.Spelled.{Ends}
 use Rattle.egt_index.specs.TellsMen.{TellsMen}
 use Rattle.egt_index.specs.Stood.{Entry}
-use Rattle.egt_index.specs.Went.{moved_square}
 use Rattle.egt_index.specs.declared.places.Places.{Places}
 use Rattle.egt_index.specs.declared.shelf_codes.ShelfMen.{ShelfMen}
 use Rattle.egt_index.specs.declared.stand.Stand.{Stand}
@@ -70,22 +68,6 @@ pub record HasShelf (passed : Bool) (c : ℕ) (men : ShelfMen) : Type 0 where
   pub home : IsAtHome (has_pawns (material_of c)) men.white
   pub stands : MayStand men.one men.on
   pub may : has_target (material_of c) ≡ false → passed ≡ false
-
--- the men where a symmetry takes them, and after the one on `from` went to `to`
-abbrev pub turned_men : ℕ → ShelfMen → ShelfMen
-turned_men n men = record { white = turned_square n false men.white; black = turned_square n false men.black; one = men.one; on = turned_square n false men.on; last = men.last }
-
-abbrev pub moved_men : (from to : ℕ) → ShelfMen → ShelfMen
-moved_men from to men = record { white = moved_square from to men.white; black = moved_square from to men.black; one = men.one; on = moved_square from to men.on; last = men.last }
-
--- the bits are of every other number from `first` on: 1 exactly where the number stands for a settled position
-abbrev pub AreNumbered : (c first bits : ℕ) → Type 0
-AreNumbered c first bits = (k : ℕ) → bit_at bits k ≡ 1 ↔ ((k < places c) × ((p : Setup) × IsNumbered c (first + 2 * k) p))
-
--- so are those of a shelf, by the side to move
-pub record ArePositions (c shelf : ℕ) (found : Places) : Type 0 where
-  pub white : AreNumbered c (shelf * (2 * places c)) found.white
-  pub black : AreNumbered c (shelf * (2 * places c) + 1) found.black
 
 -- the bits are of every other number from `first` on: 1 exactly where the code of the number is a position's index
 abbrev pub AreIndexed : (c first bits : ℕ) → Type 0

@@ -14,10 +14,6 @@ use Rattle.egt_index.specs.declared.stand.Stand.{Stand}
 abbrev pub turned_with : ℕ → Bool → Stand → Stand
 turned_with n flips s = record { white = turned_square n flips s.white; black = turned_square n flips s.black; next = entry_after n flips s.next; last = entry_after n flips s.last }
 
--- in the same colours
-abbrev pub turned_stand : ℕ → Stand → Stand
-turned_stand n s = turned_with n false s
-
 -- the same by the turn's number
 abbrev pub turned_by : ℕ → Stand → Stand
 turned_by t s = turned_with (t % 8) (t / 8 == 1) s

@@ -42,7 +42,7 @@ pub(crate) fn spelled_front(class: Class, number: u32) -> Option<Front>
     })
 }
 
-/// The same with what their kings tell; `None` where they tell that no code with these men is a position's index.
+/// The men before the last one who have these digits, with what their kings tell; `None` where no code with these men is a position's index.
 pub(crate) fn front_of(class: Class, number: u32) -> Option<Front>
     ensures { IsFrontOf class number result }
 {

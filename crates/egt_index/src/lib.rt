@@ -30,6 +30,6 @@ pub use men::{has_pawns, has_target};
 pub use numbers::code_of;
 pub use places::{Places, indexes_of};
 pub use shelf::last_digits;
-pub use shelf_codes::{ShelfMen, positions_of, shelf_men, shelf_of};
+pub use shelf_codes::{ShelfMen, shelf_men, shelf_of};
 pub use sizes::size;
 pub use spelling::{position_of, spelled_position};

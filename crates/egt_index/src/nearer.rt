@@ -27,7 +27,7 @@ pub(crate) fn kings_after(white: Square, black: Square, turn: u8) -> u16
     pair(turned_square(turn, white), turned_square(turn, black))
 }
 
-/// The same after the turns that bring the white king home, with colours exchanged or not: the lesser of two.
+/// The squares of the kings, as a number, after the turn that brings the white king home, with colours exchanged or not: the lesser where there are two turns.
 fn home_kings(class: Class, white: Square, black: Square, flips: bool) -> u16
     ensures { AreNearest class flips white black result }
 {

@@ -5,12 +5,11 @@ ghost use Rattle.std.specs.Int.{bit_at};
 ghost use Rattle.egt_board.specs.Square.{rank_of};
 ghost use Rattle.egt_board.specs.declared.man.Man.{Man};
 ghost use Rattle.egt_class.specs.Material.{material_of};
-ghost use Rattle.egt_index.specs.Places.{AreMade, IsFrontBefore, IsMade, IsNewDigit, taking_rank};
+ghost use Rattle.egt_index.specs.Places.{IsFrontBefore, IsMade, IsNewDigit, taking_rank};
 ghost use Rattle.egt_index.specs.ShelfCodes.{PassesNothing};
 ghost use Rattle.egt_index.specs.Size.{has_target};
 
 use crate::front::Front;
-use crate::places::Places;
 use crate::spelling::{admitted, is_settled, stand_before, target_of, with_entry};
 use crate::stand::{Stand, is_last_off, with_last};
 use egt_board::{Man, Side, Square, SquareSet};
@@ -91,7 +90,7 @@ fn taking_rank(mover: Side) -> u8
 }
 
 /// The last man's digits, as bits, where he makes a settled position with a target and that side to move: he stands beside the other pawn, which is there.
-fn passed_by(class: Class, front: &Front, man: Man, on: Square, mover: Side) -> u64
+pub(crate) fn passed_by(class: Class, front: &Front, man: Man, on: Square, mover: Side) -> u64
     requires targets { has_target (material_of class) ≡ true }
     requires before { IsFrontBefore class front.now man }
     requires next { (one : Man) × (front.now.stand.next ≡ Some (one, on)) }
@@ -112,18 +111,4 @@ fn passed_by(class: Class, front: &Front, man: Man, on: Square, mover: Side) -> 
         digit - 1,
     );
     with_digit(west, class, front, man, mover, file < 7, digit + 1).bits
-}
-
-/// The last man's digits where he makes a settled position with a target with the men of the front.
-pub(crate) fn passed_places(class: Class, front: &Front, man: Man) -> Places
-    requires targets { has_target (material_of class) ≡ true }
-    requires before { IsFrontBefore class front.now man }
-    ensures { AreMade true class front.now.stand man result }
-{
-    let _number = class.number();
-    let (_, on) = front.stand.next.unwrap();
-    Places {
-        white: passed_by(class, front, man, on, Side::White),
-        black: passed_by(class, front, man, on, Side::Black),
-    }
 }

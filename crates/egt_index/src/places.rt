@@ -1,5 +1,5 @@
 //! Which numbers of a shelf stand for positions' indexes, told of all of them at once by sets of squares.
-ghost use Rattle.std.specs.Prelude.{◌≡◌, ℕ, ◌+◌, ◌<◌, ◌↔◌, false, Some, IfSome};
+ghost use Rattle.std.specs.Prelude.{◌≡◌, ℕ, ◌+◌, ◌<◌, ◌↔◌, true, false, Some, IfSome};
 ghost use Rattle.std.specs.Int.{bit_at};
 ghost use Rattle.egt_board.specs.Placement.{Stands};
 ghost use Rattle.egt_board.specs.Safety.{IsKeptFrom};
@@ -20,7 +20,7 @@ use crate::facts::facts;
 use crate::front::{Front, front_of};
 use crate::men::non_kings;
 use crate::numbers::{code_of, front_number};
-use crate::passed::{may_pass, passed_places};
+use crate::passed::{may_pass, passed_by};
 use crate::shelf::last_digits;
 use crate::stand::Stand;
 use egt_board::attack_lines::reach_past;
@@ -99,7 +99,7 @@ fn digits_in_order(next: &Option<(Man, Square)>, man: Man) -> u64
     }
 }
 
-/// Those of the last man's places by which two equal men are in order: in the other order none has an index.
+/// The last man's places by which two equal men are in order: in the other order none has an index.
 fn in_order(next: &Option<(Man, Square)>, man: Man, all: Places) -> Places
     ensures { AreInOrder next.now man all result }
 {
@@ -119,6 +119,20 @@ fn plain_places(class: Class, front: &Front, man: Man) -> Places
     Places {
         white: places_of(front, man, Side::White),
         black: places_of(front, man, Side::Black),
+    }
+}
+
+/// The last man's digits where he makes a settled position with a target with the men of the front.
+fn passed_places(class: Class, front: &Front, man: Man) -> Places
+    requires targets { has_target (material_of class) ≡ true }
+    requires before { IsFrontBefore class front.now man }
+    ensures { AreMade true class front.now.stand man result }
+{
+    let _number = class.number();
+    let (_, on) = front.stand.next.unwrap();
+    Places {
+        white: passed_by(class, front, man, on, Side::White),
+        black: passed_by(class, front, man, on, Side::Black),
     }
 }
 

@@ -3,23 +3,15 @@
 ghost use Rattle.std.specs.Prelude.{◌≡◌, ◌+◌, ◌-◌, ◌*◌, ◌<◌, Some, IfSome, IfNone};
 ghost use Rattle.egt_board.specs.Pawn.{MayStand};
 ghost use Rattle.egt_board.specs.declared.man.Man.{Man};
-ghost use Rattle.egt_class.specs.Material.{material_of};
 ghost use Rattle.egt_index.specs.Scales.{kind_digits, kind_less};
-ghost use Rattle.egt_index.specs.Shelf.{last_of};
-ghost use Rattle.egt_index.specs.ShelfCodes.{AreMenOf, ArePositions, HasShelf, HasTwoBeside, IsShelf, IsShelfOf, IsWithin, moved_men, turned_men};
-ghost use Rattle.egt_index.specs.Size.{men_beside};
-ghost use Rattle.egt_index.specs.Went.{moved_square};
+ghost use Rattle.egt_index.specs.ShelfCodes.{AreMenOf, HasShelf, HasTwoBeside, IsShelf, IsShelfOf, IsWithin};
 
 use crate::digits::king_digit;
-use crate::front::spelled_front;
 use crate::men::{has_pawns, non_kings};
 use crate::numbers::{front_number, shelf_behind};
-use crate::passed::may_pass;
-use crate::places::{Places, settled_places};
 use crate::shelf::digits_of;
 use crate::spelling::stand_before;
-use crate::turning::turned_square;
-use egt_board::{Kind, Man, Side, Square};
+use egt_board::{Kind, Man, Square};
 use egt_class::Class;
 
 /// Where the men of a shelf stand, and who its last man is, whose square is his digit's.
@@ -32,13 +24,6 @@ pub struct ShelfMen {
     /// Where he stands.
     pub on: Square,
     pub last: Man,
-}
-
-/// The man on the square after the one on `from` went to `to`.
-fn moved(from: Square, to: Square, square: Square) -> Square
-    ensures { result ≡ moved_square from to square }
-{
-    if square == from { to } else { square }
 }
 
 /// The digit of a man beside the white king on the square. `None` of a pawn on the first rank or the last.
@@ -96,53 +81,4 @@ pub fn shelf_of(class: Class, men: &ShelfMen, passed: bool) -> Option<u32>
     let kings = u32::from(high) * 64 + u32::from(men.black.number());
     let front = kings * digits_of(men.one) + digit;
     shelf_behind(class, front, passed)
-}
-
-impl ShelfMen {
-    /// The men where the symmetry takes them.
-    pub fn turned(&self, symmetry: u8) -> ShelfMen
-        requires { symmetry < 8 }
-        ensures { result ≡ turned_men symmetry self.now }
-    {
-        ShelfMen {
-            white: turned_square(symmetry, self.white),
-            black: turned_square(symmetry, self.black),
-            one: self.one,
-            on: turned_square(symmetry, self.on),
-            last: self.last,
-        }
-    }
-
-    /// The men after the one on `from` went to `to`.
-    pub fn moved(&self, from: Square, to: Square) -> ShelfMen
-        ensures { result ≡ moved_men from to self.now }
-    {
-        ShelfMen {
-            white: moved(from, to, self.white),
-            black: moved(from, to, self.black),
-            one: self.one,
-            on: moved(from, to, self.on),
-            last: self.last,
-        }
-    }
-}
-
-/// Which numbers of the shelf stand for settled positions: bit `k` is of the number with the last man's digit `k`. None past the last shelf.
-pub fn positions_of(class: Class, shelf: u32) -> Places
-    requires last { (man : Man) × (last_of (men_beside (material_of class)) ≡ Some man) }
-    ensures { ArePositions class shelf result }
-{
-    let _number = class.number();
-    let (_, last) = non_kings(class);
-    let man = last.unwrap();
-    let Some((number, passed)) = front_number(class, shelf) else {
-        return Places::default();
-    };
-    if passed && !may_pass(class, number) {
-        return Places::default();
-    }
-    let Some(front) = spelled_front(class, number) else {
-        return Places::default();
-    };
-    settled_places(class, &front, man, passed)
 }

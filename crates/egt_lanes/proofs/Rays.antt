@@ -1,5 +1,5 @@
 -- Steps one after another.
-use Rattle.std.proofs.Common.{◌≡◌, ℕ, zero, suc, ◌+◌, ◌*◌, ◌-◌, ◌/◌, ◌%◌, ◌<◌, ◌≤◌, ◌⊎◌, refl, subst, inl, inr, arith}
+use Rattle.std.proofs.Common.{◌≡◌, ℕ, zero, suc, ◌+◌, ◌*◌, ◌-◌, ◌/◌, ◌%◌, ◌<◌, ◌⊎◌, refl, subst, inl, inr, arith}
 use Rattle.std.proofs.lemmas.Bool.{cases_lt, cases_eq}
 use Rattle.egt_board.specs.declared.step.Way.{Way}
 use Rattle.egt_board.specs.declared.step.Way.TheVariants.{Up, Down, Still}
@@ -86,48 +86,6 @@ next_square d s s_in =
 
 -- ---- from the other end
 
-zero_coordinate : (way : Way) (w a : ℕ) → Further way (0 * w) a a
-zero_coordinate Up w a = omega arith
-zero_coordinate Down w a = omega arith
-zero_coordinate Still w a = refl
-
-coordinate_last : (way : Way) (n w a m b : ℕ) → Further way (n * w) a m → Further way (1 * w) m b → Further way ((n + 1) * w) a b
-coordinate_last Up n w a m b p q = omega arith
-coordinate_last Down n w a m b p q = omega arith
-coordinate_last Still n w a m b p q = omega arith
-
-last_coordinate : (way : Way) (n w a m b : ℕ) → Further way (n * w) a m → Further way ((n + 1) * w) a b → Further way (1 * w) m b
-last_coordinate Up n w a m b p q = omega arith
-last_coordinate Down n w a m b p q = omega arith
-last_coordinate Still n w a m b p q = omega arith
-
-pub no_step : (d : Step) (s : ℕ) → s < 64 → Away d 0 s s
-no_step d s s_in = record { on_board = s_in; across = zero_coordinate d.files d.wide (file_of s); along = zero_coordinate d.ranks d.high (rank_of s) }
-
-pub one_step_on : (d : Step) (n s u t : ℕ) → Away d n s u → Away d 1 u t → Away d (n + 1) s t
-one_step_on d n s u t a b = record {
-  on_board = b.on_board;
-  across = coordinate_last d.files n d.wide (file_of s) (file_of u) (file_of t) a.across b.across;
-  along = coordinate_last d.ranks n d.high (rank_of s) (rank_of u) (rank_of t) a.along b.along;
-}
-
-pub last_step : (d : Step) (n s u t : ℕ) → Away d n s u → Away d (n + 1) s t → Away d 1 u t
-last_step d n s u t a b = record {
-  on_board = b.on_board;
-  across = last_coordinate d.files n d.wide (file_of s) (file_of u) (file_of t) a.across b.across;
-  along = last_coordinate d.ranks n d.high (rank_of s) (rank_of u) (rank_of t) a.along b.along;
-}
-
--- the first k of more steps lead to a square
-pub on_the_way : (d : Step) (k j s t : ℕ) → s < 64 → Away d (k + j) s t → (u : ℕ) × Away d k s u
-on_the_way d zero j s t s_in a = (s, no_step d s s_in)
-on_the_way d (suc k) j s t s_in a =
-    let more : suc k + j ≡ k + j + 1 = omega arith in
-    let f = first_step d (k + j) s t s_in (subst (λ m. Away d m s t) more a) in
-    let r = on_the_way d k j f.0 t f.1.on_board f.2 in
-    let next : k + 1 ≡ suc k = omega arith in
-    (r.0, subst (λ m. Away d m s r.0) next (both_steps d k s f.0 r.0 f.1 r.1))
-
 -- ---- rays
 
 -- t is exactly n of these steps away, and each square before it is free
@@ -181,7 +139,3 @@ Rides-last Free n s t d r = elim (cases_eq r.count (n + 1)) [
 
 pub Rides-none : (Free : ℕ → Type 0) (s t : ℕ) (d : Step) → Rides Free 0 s t d → ⊥
 Rides-none Free s t d r = let some = r.moves in let most = r.within in omega arith
-
--- a ride that may be longer
-pub Rides-wider : (Free : ℕ → Type 0) (n m s t : ℕ) (d : Step) → n ≤ m → Rides Free n s t d → Rides Free m s t d
-Rides-wider Free n m s t d le r = record { count = r.count; moves = r.moves; within = omega (arith, r.within); away = r.away; clear = r.clear }

@@ -1,5 +1,5 @@
 -- What the operations on rows come to at one lane. A mask's lane is 255 or 0.
-use Rattle.std.proofs.Common.{inl, inr, ◌==◌, if◌then◌else◌, subst, ◌≡◌, ◌≢◌, ℕ, zero, suc, ◌+◌, ◌≤◌, ◌<◌, ◌-◌, ◌/◌, ◌%◌, ◌^◌, Bool, true, false, not, cond, eqb, ltb, leb, max, min, List, [], ◌∷◌, map, length, get_or, replicate, bit_and, refl, sym, ap, ◌∙◌, arith, Fits, w8, ltb-true, ltb-false, eqb-true}
+use Rattle.std.proofs.Common.{inl, inr, ◌==◌, if◌then◌else◌, subst, ◌≡◌, ◌≢◌, ℕ, zero, suc, ◌+◌, ◌≤◌, ◌<◌, ◌-◌, ◌/◌, ◌%◌, ◌^◌, Bool, true, false, not, cond, eqb, ltb, leb, max, List, [], ◌∷◌, map, length, get_or, replicate, bit_and, refl, sym, ap, ◌∙◌, arith, Fits, w8, ltb-true, ltb-false, eqb-true}
 use Rattle.std.proofs.lemmas.List.{length-map}
 use Rattle.std.proofs.lemmas.Nat.{and_mask}
 use Rattle.std.proofs.lemmas.Simd.{length-replicate, length-zip2, mask_l-mod, bit_mask_l}
@@ -47,24 +47,6 @@ greater_at [] ys i p q = absurd (omega arith)
 greater_at (x ∷ xs) [] i p q = absurd (omega arith)
 greater_at (x ∷ xs) (y ∷ ys) zero p q = greater_of x y
 greater_at (x ∷ xs) (y ∷ ys) (suc i) p q = greater_at xs ys i (omega arith) (omega arith)
-
-lesser_of : (a b : ℕ) → chosen (below a b) a b ≡ min a b
-lesser_of a b = go (ltb a b) refl
-  where
-    go : (t : Bool) → ltb a b ≡ t → chosen (cond t 255 0) a b ≡ min a b
-    go true e = omega (arith, ltb-true _ _ e)
-    go false e = omega (arith, ltb-false _ _ e)
-
-pub lesser_at : (xs ys : List ℕ) (i : ℕ) → i < length xs → i < length ys → get_or (select (zip2 below xs ys) xs ys) i 0 ≡ min (get_or xs i 0) (get_or ys i 0)
-lesser_at [] ys i p q = absurd (omega arith)
-lesser_at (x ∷ xs) [] i p q = absurd (omega arith)
-lesser_at (x ∷ xs) (y ∷ ys) zero p q = lesser_of x y
-lesser_at (x ∷ xs) (y ∷ ys) (suc i) p q = lesser_at xs ys i (omega arith) (omega arith)
-
-pub lane_small : (xs : List ℕ) (i : ℕ) → Each1 (Fits w8) xs → get_or xs i 0 < 256
-lane_small [] i fits = omega arith
-lane_small (x ∷ xs) zero fits = fits.0.fits
-lane_small (x ∷ xs) (suc i) fits = lane_small xs i fits.1
 
 -- ---- scores
 

@@ -5,42 +5,15 @@ use Rattle.std.proofs.Common.{get_or-set_other}
 use Rattle.std.proofs.lemmas.Bool.{cases_eq, eqb-false}
 use Rattle.std.proofs.lemmas.Grind.{get_or-set_at}
 use Rattle.std.proofs.Math.ListN.{set, length-set}
-use Rattle.egt_board.specs.declared.step.Way.TheVariants.{Up, Down, Still}
 use Rattle.egt_board.specs.declared.step.Step.{Step}
 use Rattle.egt_board.specs.Step.{Away}
-use Rattle.egt_board.specs.AttackLines.{Rides, step}
+use Rattle.egt_board.specs.AttackLines.{Rides}
 use Rattle.egt_lanes.specs.Blocks.{at, IsOpen}
 use Rattle.egt_lanes.specs.Raised.{IsRaised}
 use Rattle.egt_lanes.specs.Sweeps.{IsAhead, IsRay}
 use Rattle.egt_lanes.proofs.Raising.{raised_by_none, first_raised, raised_more, raised_as, raised_is}
 use Rattle.egt_lanes.proofs.Riding.{raised_over}
 use Rattle.egt_lanes.proofs.Rays.{IsRidden, same_end, first_step, more_steps, fewer_steps}
-
--- ---- the steps of rooks and bishops
-
-pub ray_up : IsRay (step Still 0 Up 1) true
-ray_up = record { wide = omega arith; high = omega arith; near = λ k s t s_in a. let h = a.along in let t_in = a.on_board in omega arith; order = λ s t s_in a. let h = a.along in omega arith }
-
-pub ray_down : IsRay (step Still 0 Down 1) false
-ray_down = record { wide = omega arith; high = omega arith; near = λ k s t s_in a. let h = a.along in omega arith; order = λ s t s_in a. let h = a.along in omega arith }
-
-pub ray_right : IsRay (step Up 1 Still 0) true
-ray_right = record { wide = omega arith; high = omega arith; near = λ k s t s_in a. let h = a.across in omega arith; order = λ s t s_in a. let h = a.across in let e = a.along in omega arith }
-
-pub ray_left : IsRay (step Down 1 Still 0) false
-ray_left = record { wide = omega arith; high = omega arith; near = λ k s t s_in a. let h = a.across in omega arith; order = λ s t s_in a. let h = a.across in let e = a.along in omega arith }
-
-pub ray_up_right : IsRay (step Up 1 Up 1) true
-ray_up_right = record { wide = omega arith; high = omega arith; near = λ k s t s_in a. let h = a.across in omega arith; order = λ s t s_in a. let h = a.along in omega arith }
-
-pub ray_up_left : IsRay (step Down 1 Up 1) true
-ray_up_left = record { wide = omega arith; high = omega arith; near = λ k s t s_in a. let h = a.across in omega arith; order = λ s t s_in a. let h = a.along in omega arith }
-
-pub ray_down_right : IsRay (step Up 1 Down 1) false
-ray_down_right = record { wide = omega arith; high = omega arith; near = λ k s t s_in a. let h = a.across in omega arith; order = λ s t s_in a. let h = a.along in omega arith }
-
-pub ray_down_left : IsRay (step Down 1 Down 1) false
-ray_down_left = record { wide = omega arith; high = omega arith; near = λ k s t s_in a. let h = a.across in omega arith; order = λ s t s_in a. let h = a.along in omega arith }
 
 -- ---- one square
 
@@ -52,9 +25,6 @@ from_edge Free d s f s_in none = raised_by_none 0 (λ t. Rides Free 7 s t d) f (
     none h.0 h.1)
 
 module _ (Free : ℕ → Type 0) (d : Step) (s n : ℕ) (f : ℕ → ℕ) (s_in : s < 64) (next : Away d 1 s n) where
-  Reached : ℕ → Type 0
-  Reached t = Rides Free 7 s t d
-
   ride_next : (t : ℕ) → Away d 1 s t → Rides Free 7 s t d
   ride_next t a = record { count = 1; moves = omega arith; within = omega arith; away = a; clear = λ k u some less b. absurd (omega arith) }
 
@@ -147,26 +117,9 @@ pub here_is_new : (upward : Bool) (k : ℕ) → k < 64 → ¬ IsPast upward k (n
 here_is_new true k k_in past = omega arith
 here_is_new false k k_in past = omega arith
 
-pub all_past : (upward : Bool) (a : ℕ) → a < 64 → IsPast upward 64 a
-all_past true a a_in = omega arith
-all_past false a a_in = a_in
-
-pub none_past : (upward : Bool) (a : ℕ) → a < 64 → IsPast upward 0 a → ⊥
-none_past true a a_in past = omega arith
-none_past false a a_in past = omega arith
-
 pub nth_in : (upward : Bool) (k : ℕ) → k < 64 → nth upward k < 64
 nth_in true k k_in = omega arith
 nth_in false k k_in = k_in
-
-pub swept_none : (kings : ℕ) (d : Step) (upward : Bool) (rows out reached : List (List ℕ)) → length out ≡ 64 → length reached ≡ 64 → IsSwept kings d upward rows out out reached 0
-swept_none kings d upward rows out reached out_long reached_long = record {
-  out_long = out_long;
-  reached_long = reached_long;
-  known = λ a b a_in b_in past. absurd (none_past upward a a_in past);
-  done = λ a b a_in b_in past. absurd (none_past upward a a_in past);
-  left = λ a b a_in not. refl;
-}
 
 module _ (kings : ℕ) (d : Step) (upward : Bool) (rows old out reached : List (List ℕ)) (k : ℕ) (k_in : k < 64) (before : IsSwept kings d upward rows old out reached k) (s : ℕ) (is : s ≡ nth upward k) (row top : List ℕ)
     (found : (b : ℕ) → b < 64 → IsRaised 0 (λ t. Rides (IsOpen kings b) 7 s t d) (λ t. at rows t b) (get_or row b 0)) (raises : (b : ℕ) → b < 64 → get_or top b 0 ≡ max (at out s b) (get_or row b 0)) where

@@ -29,7 +29,7 @@ fn are_alike(mate: Entries, zeroing: Entries) -> bool
     unlike(mate, zeroing).reduce_or() == 0
 }
 
-/// Whether so are all pairs of the first so many blocks of 64.
+/// Whether in each pair of the first blocks of 64 both entries are 0, or show the same result and have bytes of their own.
 fn blocks_are_alike(mate: &[u16], zeroing: &[u16], blocks: usize) -> bool
     requires mate { 64 * blocks ≤ length mate.now }
     requires zeroing { 64 * blocks ≤ length zeroing.now }
@@ -55,7 +55,7 @@ fn is_alike(mate: u16, zeroing: u16) -> bool
     }
 }
 
-/// Whether so are all pairs from this place on.
+/// Whether the pairs from this place on are such.
 fn rest_is_alike(mate: &[u16], zeroing: &[u16], from: usize) -> bool
     requires { length zeroing.now ≡ length mate.now }
     ensures { result ≡ true → (i : ℕ) → from ≤ i → i < length mate.now → AreVoidOrAlike (slice_index mate.now i) (slice_index zeroing.now i) }

@@ -24,7 +24,7 @@ fn are_near(mate: Entries, reach: Entries) -> bool
     far(mate, reach).reduce_or() == 0
 }
 
-/// Whether so are all pairs of the first so many blocks of 64.
+/// Whether in each pair of the first blocks of 64 both entries are 0, or neither is and that of the nearest mates is below 128.
 fn blocks_are_near(mate: &[u16], reach: &[u16], blocks: usize) -> bool
     requires mate { 64 * blocks ≤ length mate.now }
     requires reach { 64 * blocks ≤ length reach.now }
@@ -46,7 +46,7 @@ fn is_near(mate: u16, reach: u16) -> bool
     reach < 128 && (reach == 0) == (mate == 0)
 }
 
-/// Whether so are all pairs from this place on.
+/// Whether the pairs from this place on are such.
 fn rest_is_near(mate: &[u16], reach: &[u16], from: usize) -> bool
     requires { length reach.now ≡ length mate.now }
     ensures { result ≡ true → (i : ℕ) → from ≤ i → i < length mate.now → IsVoidOrNear (slice_index mate.now i) (slice_index reach.now i) }

@@ -134,7 +134,7 @@ pub fn ridden(row: Row, free: SquareSet, step: Step) -> Row
     best
 }
 
-/// So many files and so many ranks further.
+/// The step of so many files and so many ranks.
 #[inline(always)]
 pub(crate) fn step(files: Way, wide: u8, ranks: Way, high: u8) -> Step
     ensures { result ≡ the_step files wide ranks high }

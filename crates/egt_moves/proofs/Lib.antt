@@ -10,7 +10,6 @@ pub mod Lines
 pub mod Fitting
 pub mod Distances
 pub mod DistancesFit
-pub mod DistancesFound
 pub mod After
 pub mod Admissible
 pub mod MirroredMoves

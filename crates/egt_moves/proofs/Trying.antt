@@ -16,9 +16,6 @@ use Rattle.egt_moves.proofs.Searching.{stalemate_avoids}
 pub record Tried (P : Setup → Type 0) (p : Setup) (moves : List Move) (n : ℕ) : Type 0 where
   pub each : (k : ℕ) (m : Move) → k < n → get_or moves k m ≡ m → (q : Setup) → Leads p m q → P q
 
-pub tried_none : (P : Setup → Type 0) (p : Setup) (moves : List Move) → Tried P p moves 0
-tried_none P p moves = record { each = λ k m lt. absurd (omega arith) }
-
 pub tried_more : (P : Setup → Type 0) (p q : Setup) (moves : List Move) (n : ℕ) (m : Move) → n < length moves → m ≡ get_or moves n m → Leads p m q → P q → Tried P p moves n → Tried P p moves (n + 1)
 tried_more P p q moves n m inside here leads holds tried = record {
   each = λ k x lt at r goes. elim (cases_lt k n) [

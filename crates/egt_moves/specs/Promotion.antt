@@ -1,5 +1,5 @@
 -- What becomes of a pawn on the last rank: FIDE Laws of Chess 2023, article 3.7.3.3.
-use Rattle.std.specs.Prelude.{ℕ, ◌==◌, ◌&&◌, Bool, true, false, List, [], ◌∷◌, Option, Some, None}
+use Rattle.std.specs.Prelude.{ℕ, ◌==◌, ◌&&◌, Bool, true, false, Option, Some, None}
 use Rattle.egt_board.specs.declared.man.Kind.{Kind}
 use Rattle.egt_board.specs.declared.man.Kind.TheVariants.{Q, R, B, N, P, K}
 use Rattle.egt_board.specs.declared.man.Man.{Man}
@@ -38,8 +38,3 @@ FitsPromotion false (Some kind) = ⊥
 abbrev pub arriving : Man → Option Kind → Man
 arriving man None = man
 arriving man (Some kind) = record { side = man.side; kind = kind }
-
--- what may arrive, in the order of moves: what becomes of a pawn that is promoted, or the man himself
-abbrev pub choices_of : Bool → List (Option Kind)
-choices_of true = Some Q ∷ Some R ∷ Some B ∷ Some N ∷ []
-choices_of false = None ∷ []

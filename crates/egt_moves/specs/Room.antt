@@ -1,6 +1,6 @@
 -- How many moves a man has at most, and that there is room for those of a side.
 use Rattle.std.specs.Prelude.{◌≡◌, ◌≢◌, ℕ, ◌+◌, ◌*◌, ◌<◌, ◌≤◌}
-use Rattle.std.proofs.Common.{arith, refl, sym, ap, ◌∙◌, inl, inr, subst}
+use Rattle.std.proofs.Common.{arith, sym, ap, ◌∙◌, inl, inr, subst}
 use Rattle.std.proofs.lemmas.Bool.{cases_eq}
 use Rattle.std.proofs.lemmas.Nat.Bits.{bit_at-lt}
 use Rattle.std.specs.Int.{bit_at}
@@ -11,7 +11,7 @@ use Rattle.egt_board.specs.declared.man.Side.{Side}
 use Rattle.egt_board.specs.declared.man.Side.TheVariants.{White, Black}
 use Rattle.egt_board.specs.declared.square_set.SquareSet.{SquareSet}
 use Rattle.egt_board.specs.Attack.{king_of}
-use Rattle.egt_board.specs.Placement.{Stands, IsHeld, one_man}
+use Rattle.egt_board.specs.Placement.{Stands, one_man}
 use Rattle.egt_board.specs.Setup.{Setup, IsAdmissible, IsKingOn}
 use Rattle.egt_board.specs.SquareSet.{Has, size_of, size_of-some}
 
@@ -41,12 +41,6 @@ most_moves kind = most_goals kind * most_choices kind
 -- beside n of 64 there is room for the moves of the men who are left: 28 for a man, 8 for the king
 abbrev pub HasRoom : Setup → ℕ → SquareSet → Type 0
 HasRoom p n rest = (k : ℕ) → IsKingOn p.men p.side k → n + 28 * size_of rest ≤ 64 + 20 * bit_at rest.bits k
-
--- for those of all men of a side at first
-pub room_at_first : (p : Setup) (rest : SquareSet) → ((t : ℕ) → IsHeld p.men t p.side → Has rest t) → size_of rest ≤ 3 → HasRoom p 0 rest
-room_at_first p rest held few k king =
-    let one : bit_at rest.bits k ≡ 1 = held k (record { man = king_of p.side; stands = king.stands; theirs = refl }) in
-    rw one (omega arith)
 
 -- the king of the side to move stands somewhere
 pub king_square : (p : Setup) → IsAdmissible p → (k : ℕ) × IsKingOn p.men p.side k

@@ -114,8 +114,8 @@ pub fn settled_positions_are_alike()
         (v : Value) → HasZeroing chess p v ↔ HasZeroing chess q v }
 {}
 
-/// So have a position and each of its images: whatever comes from it by symmetries that its men allow and by the flip
-/// of colours.
+/// A position and each of its images, whatever comes from it by symmetries that its men allow and by the flip of
+/// colours, have the same value and the same zeroing distance.
 pub fn all_images_are_alike()
     ensures values { (p q : Setup) → IsAdmissible p → AreImages p q →
         (v : Value) → HasValue chess p v ↔ HasValue chess q v }
@@ -141,7 +141,7 @@ pub fn images_keep_steps()
     turns_come_by_mirrors();
 }
 
-/// The same moves lead to the same positions from a position and from its settled form, and zero in both or in
+/// A position and its settled form have the same moves: each leads to one position from both, and zeroes in both or in
 /// neither.
 pub fn settling_keeps_steps()
     ensures leads { (p q r : Setup) (m : Move) → IsAdmissible p → SettlesTo p q → Leads p m r ↔ Leads q m r }

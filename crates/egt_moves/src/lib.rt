@@ -1,7 +1,6 @@
 //! The legal moves of a position, and what they lead to: FIDE Laws of Chess 2023, articles 3 and 5.
 #![tactic(auto)]
 
-pub mod arriving;
 pub mod chess_move;
 pub mod exchanging;
 pub mod forcing;
@@ -20,7 +19,6 @@ pub mod targets;
 pub mod text;
 pub mod zeroing_moves;
 
-pub use arriving::promotions;
 pub use chess_move::Move;
 pub use found::Search;
 pub use listing::legal_moves;

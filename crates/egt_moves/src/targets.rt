@@ -65,7 +65,7 @@ fn shelter(
         .shelter_without(king, enemy, from, occupancy.occupied())
 }
 
-/// Those of the squares to which the king on `from` may go without being attacked there.
+/// Of these squares the ones to which the king on `from` may go without being attacked there.
 fn king_goals(
     position: &Position,
     occupancy: Occupancy,

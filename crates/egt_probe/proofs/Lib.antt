@@ -11,3 +11,4 @@ pub mod Ranked
 pub mod Rooted
 pub mod BestMoves
 pub mod Meaning
+pub mod SameAnswers

@@ -75,7 +75,7 @@ same_place m n m_in n_in e =
     λ i. record { from = from i; to = to i; promo = promo i }
 
 -- the winner and the plies of a value
-won_by : (s w x : Side) (n k : ℕ) → mate_by s w n ≡ mate_by s x k → (w ≡ x) × (n ≡ k)
+pub won_by : (s w x : Side) (n k : ℕ) → mate_by s w n ≡ mate_by s x k → (w ≡ x) × (n ≡ k)
 won_by White White White n k e = (refl, cc)
 won_by White White Black n k e = absurd (cc)
 won_by White Black White n k e = absurd (cc)
@@ -85,7 +85,7 @@ won_by Black White Black n k e = absurd (cc)
 won_by Black Black White n k e = absurd (cc)
 won_by Black Black Black n k e = (refl, cc)
 
-not_drawn : (s w : Side) (n : ℕ) → mate_by s w n ≡ Draw → ⊥
+pub not_drawn : (s w : Side) (n : ℕ) → mate_by s w n ≡ Draw → ⊥
 not_drawn White White n e = absurd (cc)
 not_drawn White Black n e = absurd (cc)
 not_drawn Black White n e = absurd (cc)
@@ -100,7 +100,7 @@ module _ (facts : Facts) where
       of_order (inr ge) (inl lt) = absurd (here.first n r lt there.leads there.value)
       of_order (inr ge) (inr le) = omega (arith, ge, le)
 
-  one_line : (p : Setup) (v : Value) (ms ns : List Move) → IsAdmissible p → IsLine p v ms → IsLine p v ns → ms ≡ ns
+  pub one_line : (p : Setup) (v : Value) (ms ns : List Move) → IsAdmissible p → IsLine p v ms → IsLine p v ns → ms ≡ ns
   one_line p v [] [] ok here there = refl
   one_line p v [] (n ∷ ns) ok here there = let bad : None ≡ Some there.1.0 = sym (ap next_value here.0) ∙ there.1.2 in absurd (cc)
   one_line p v (m ∷ ms) [] ok here there = let bad : None ≡ Some here.1.0 = sym (ap next_value there.0) ∙ here.1.2 in absurd (cc)
@@ -118,22 +118,22 @@ module _ (facts : Facts) where
       let tails : ms ≡ ns = one_line q w ms ns (facts.step_admissible p q m ok here.1.3.leads) here.1.4 rest in
       ap (λ (k : Move). k ∷ ms) move ∙ ap (λ (ks : List Move). n ∷ ks) tails
 
-  one_hold : (p : Setup) (h k : Option Move) → IsAdmissible p → IsHold p h → IsHold p k → h ≡ k
+  pub one_hold : (p : Setup) (h k : Option Move) → IsAdmissible p → IsHold p h → IsHold p k → h ≡ k
   one_hold p None None ok here there = refl
   one_hold p None (Some n) ok here there = absurd (here.1.stuck n (there.1.0, there.1.1.leads))
   one_hold p (Some m) None ok here there = absurd (there.1.stuck m (here.1.0, here.1.1.leads))
   one_hold p (Some m) (Some n) ok here there = ap (λ (k : Move). Some k) (one_first p here.1.0 there.1.0 Draw m n ok here.1.1 there.1.1)
 
-  same_class : (p : Setup) (c d : ℕ) → IsOfClass c p → IsOfClass d p → c ≡ d
+  pub same_class : (p : Setup) (c d : ℕ) → IsOfClass c p → IsOfClass d p → c ≡ d
   same_class p c d here there = facts.one_class p c d here.flipped there.flipped here.below there.below here.of there.of
 
-  not_both : (loaded : Loaded) (p : Setup) (c d : ℕ) → IsMissing loaded p c → IsOfClass d p → IsSome (loaded d) → ⊥
+  pub not_both : (loaded : Loaded) (p : Setup) (c d : ℕ) → IsMissing loaded p c → IsOfClass d p → IsSome (loaded d) → ⊥
   not_both loaded p c d missing of there =
       let same = same_class p c d missing.of of in
       let bad : false ≡ true = sym missing.absent ∙ ap (λ (k : ℕ). is_some (loaded k)) same ∙ there in cc
 
   -- no dead position with a legal move is told to be drawn alone
-  dead_or_drawn : (loaded : Loaded) (p : Setup) (c d : ℕ) → IsVerdict loaded p (verdict_of c outcomes.Dead) → IsVerdict loaded p (verdict_of d outcomes.Draw) → ⊥
+  pub dead_or_drawn : (loaded : Loaded) (p : Setup) (c d : ℕ) → IsVerdict loaded p (verdict_of c outcomes.Dead) → IsVerdict loaded p (verdict_of d outcomes.Draw) → ⊥
   dead_or_drawn loaded p c d dead drawn =
       let column = ap loaded (same_class p d c drawn.class dead.class) ∙ dead.dead.0 in
       (drawn.dead column dead.dead.1).stuck dead.dead.2.move dead.dead.2.legal

@@ -6,6 +6,7 @@ pub mod Hold
 pub mod Best
 pub mod Root
 pub mod Fault
+pub mod Calls
 pub mod Facts
 pub mod Search
 pub mod Text

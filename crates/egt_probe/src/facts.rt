@@ -7,7 +7,7 @@ use egt_index::laws::every_position_has_one_index;
 use egt_moves::laws::{
     halves_meet, more_plies, moves_lead_to_one, one_value, one_zeroing_distance, play_goes_on,
 };
-use egt_steps::laws::moves_lead_into_the_class_or_a_child;
+use egt_steps::class_moves::moves_lead_into_the_class_or_a_child;
 
 /// What holds of play, texts and classes.
 pub(crate) fn facts()

@@ -1,27 +1,35 @@
 //! What holds of lines of best play and of reports. These functions do nothing: a caller calls one to know what it
 //! ensures.
-ghost use Rattle.std.specs.Prelude.{◌≡◌, ℕ, List, ◌∷◌, length, Some};
+ghost use Rattle.std.specs.Prelude.{◌≡◌, ◌≢◌, ℕ, List, ◌∷◌, length, true, Option, Some, Result, Err};
 ghost use Rattle.egt_board.specs.Man.{other_side};
-ghost use Rattle.egt_board.specs.Setup.{Setup};
+ghost use Rattle.egt_board.specs.Setup.{Setup, IsAdmissible};
 ghost use Rattle.egt_moves.specs.Arena.{Value, MatesWithin, IsMatedWithin, CannotMateBefore, AvoidsMateBefore, IsDraw};
 ghost use Rattle.egt_moves.specs.Chess.{chess};
 ghost use Rattle.egt_moves.specs.Order.{place_of};
 ghost use Rattle.egt_moves.specs.Reach.{IsDead};
+ghost use Rattle.egt_moves.specs.Standing.{CanMove};
 ghost use Rattle.egt_moves.specs.declared.chess_move.Move.{Move};
 ghost use Rattle.egt_probe.specs.Answer.{Reports};
 ghost use Rattle.egt_probe.specs.Best.{IsBest};
+ghost use Rattle.egt_probe.specs.Calls.{TellsHold, TellsLine, TellsVerdict};
 ghost use Rattle.egt_probe.specs.Hold.{IsHold};
 ghost use Rattle.egt_probe.specs.Line.{IsLine, plies_of};
 ghost use Rattle.egt_probe.specs.Loaded.{Loaded};
 ghost use Rattle.egt_probe.specs.Report.{Report, verdict_of};
 ghost use Rattle.egt_probe.specs.Verdict.{IsVerdict};
+ghost use Rattle.egt_probe.specs.declared.fault.HoldFault.{HoldFault};
+ghost use Rattle.egt_probe.specs.declared.fault.LineFault.{LineFault};
+ghost use Rattle.egt_probe.specs.declared.fault.LineFault.TheVariants.{NoMemory};
+ghost use Rattle.egt_probe.specs.declared.outcome.Missing.{Missing};
 ghost use Rattle.egt_probe.specs.declared.outcome.Outcome.TheVariants as outcomes;
+ghost use Rattle.egt_probe.specs.declared.outcome.Verdict.{Verdict};
 
 use crate::facts::facts;
 
 /// "Mates in n plies" means that the winner forces checkmate within n plies against every defence and that the defender
 /// keeps from it for less than n, "draw" that neither side can ever force it, and "dead" that no legal moves of both
-/// sides lead to it, which is a draw too.
+/// sides lead to it, which is a draw too. Where the table has the column of the nearest mates, some legal moves lead to
+/// it from a position with a legal move that is called a draw.
 pub fn what_a_verdict_means()
     ensures mover_mates { (loaded : Loaded) (p : Setup) (c n z : ℕ) → IsVerdict loaded p (verdict_of c (outcomes.Decided p.side n z)) →
         MatesWithin chess n p × CannotMateBefore chess n p }
@@ -31,6 +39,8 @@ pub fn what_a_verdict_means()
     ensures draw { (loaded : Loaded) (p : Setup) (c : ℕ) → IsVerdict loaded p (verdict_of c outcomes.Draw) → IsDraw chess p }
     ensures dead { (loaded : Loaded) (p : Setup) (c : ℕ) → IsVerdict loaded p (verdict_of c outcomes.Dead) →
         IsDraw chess p × IsDead chess p }
+    ensures alive { (loaded : Loaded) (p : Setup) (c : ℕ) → IsVerdict loaded p (verdict_of c outcomes.Draw) →
+        loaded c ≡ Some true → CanMove p → ¬ IsDead chess p }
 {}
 
 /// A line of best play has as many moves as there are plies to mate.
@@ -61,6 +71,21 @@ pub fn a_line_has_one_report()
 pub fn the_same_classes_give_the_same_reports()
     ensures { (loaded others : Loaded) (lines : List (List ℕ)) (one other : List ℕ) → ((c : ℕ) → loaded c ≡ others c) →
         Reports loaded lines one → Reports others lines other → one ≡ other }
+{
+    facts();
+}
+
+/// Where the same classes are loaded, and the same of their tables have the column of the nearest mates, the same is
+/// told of a position: its verdict, its line, the move that holds its draw, or the fault; a line alone may be refused for
+/// want of memory.
+pub fn the_same_classes_give_the_same_answers()
+    ensures verdict { (loaded others : Loaded) (p : Setup) (one other : Result Verdict Missing) → IsAdmissible p →
+        ((c : ℕ) → loaded c ≡ others c) → TellsVerdict loaded p one → TellsVerdict others p other → one ≡ other }
+    ensures line { (loaded others : Loaded) (p : Setup) (one other : Result (List Move) LineFault) → IsAdmissible p →
+        ((c : ℕ) → loaded c ≡ others c) → TellsLine loaded p one → TellsLine others p other →
+        one ≢ Err NoMemory → other ≢ Err NoMemory → one ≡ other }
+    ensures hold { (loaded others : Loaded) (p : Setup) (one other : Result (Option Move) HoldFault) → IsAdmissible p →
+        ((c : ℕ) → loaded c ≡ others c) → TellsHold loaded p one → TellsHold others p other → one ≡ other }
 {
     facts();
 }

@@ -1,7 +1,6 @@
 pub mod ChildMoves
 pub mod Still
 pub mod Leaping
-pub mod Pushing
 pub mod Fanned
 pub mod Takings
 pub mod TwoNonKings

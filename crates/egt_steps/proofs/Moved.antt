@@ -1,5 +1,5 @@
 -- The men of a class after one of them went to a free square.
-use Rattle.std.proofs.Common.{◌≡◌, ◌≢◌, ℕ, ◌<◌, Bool, false, List, [], ◌∷◌, ◌++◌, map, Option, Some, None, IfSome, refl, sym, ap, ◌∙◌, inl, inr, subst}
+use Rattle.std.proofs.Common.{◌≡◌, ◌≢◌, ℕ, ◌<◌, Bool, false, List, [], ◌∷◌, ◌++◌, map, Some, None, refl, sym, ap, ◌∙◌, inl, inr, subst}
 use Rattle.std.specs.Option.{option_to_list, is_some}
 use Rattle.std.specs.FinMap as placement
 use Rattle.std.proofs.lemmas.Bool.{cases_eq}
@@ -9,15 +9,13 @@ use Rattle.egt_board.specs.declared.man.Man.{Man}
 use Rattle.egt_board.specs.Attack.{king_of}
 use Rattle.egt_board.specs.Man.{other_side}
 use Rattle.egt_board.specs.Placement.{Placement, Stands, one_man, get-remove_other, get-insert_same, get-insert_other}
-use Rattle.egt_board.specs.Pawn.{ahead, HasPawnBeside}
-use Rattle.egt_board.specs.Settled.{IsSettled, SettlesTo}
+use Rattle.egt_board.specs.Settled.{IsSettled}
 use Rattle.egt_board.specs.Setup.{Setup}
 use Rattle.egt_board.specs.Turned.{turned_man}
 use Rattle.egt_steps.specs.Frame.{IsMoved}
-use Rattle.egt_index.specs.Went.{moved_square, moved_entry, IsMovedStand, AreOnBoard}
+use Rattle.egt_index.specs.Went.{moved_square, moved_entry, IsMovedStand}
 use Rattle.egt_index.specs.Stood.{Entry, men_among, IsOff, AllStand, Stood, HasStand, list_of}
 use Rattle.egt_index.specs.declared.stand.Stand.{Stand}
-use Rattle.egt_index.proofs.ToldMen.{settles_untargeted, untargeted_settled}
 use Rattle.egt_steps.proofs.Carried.{went, stayed}
 
 module _ (c : ℕ) (p : Setup) (from to : ℕ) (q : Setup) (moved : IsMoved c p from to q) where
@@ -115,21 +113,6 @@ stand_moved c flips passed p q from to before after old side has moved settled s
   target_is = ap is_some moved.target;
 }
 
--- the men of a position are on the board
-pub on_board_of : (c : ℕ) (flips passed : Bool) (p : Setup) (stand : Stand) (side : Side) → HasStand c flips stand side passed p → AreOnBoard stand
-on_board_of c flips passed p stand side has = record {
-  white = has.stood.all.0;
-  black = has.stood.all.3.0;
-  next = (both stand.next stand.last has.stood.all.3.3).0;
-  last = (both stand.next stand.last has.stood.all.3.3).1;
-}
-  where
-    both : (x y : Entry) → AllStand flips p.men (option_to_list x ++ option_to_list y) → IfSome x (λ e. e.1 < 64) × IfSome y (λ e. e.1 < 64)
-    both None None all = (tt, tt)
-    both None (Some d) all = (tt, all.0)
-    both (Some e) None all = (all.0, tt)
-    both (Some e) (Some d) all = (all.0, all.3.0)
-
 -- where the men stand after the man on `from` went to `to`
 abbrev pub after_of : ℕ → ℕ → Stand → Stand
 after_of from to s = record {
@@ -138,6 +121,3 @@ after_of from to s = record {
   next = moved_entry from to s.next;
   last = moved_entry from to s.last;
 }
-
-pub is_after : (from to : ℕ) (s : Stand) → IsMovedStand from to s (after_of from to s)
-is_after from to s = record { white = refl; black = refl; next = refl; last = refl }

@@ -1,5 +1,5 @@
 -- A move that does not zero takes one man to a free square, and changes nothing else on the board.
-use Rattle.std.proofs.Common.{◌≡◌, ◌≢◌, ℕ, ◌+◌, ◌/◌, if◌then◌else◌, ◌==◌, ◌&&◌, Bool, true, false, Option, Some, None, refl, ap, ◌∙◌, inl, inr, ◌⊎◌, subst, ◌||◌, ◌<◌, arith}
+use Rattle.std.proofs.Common.{◌≡◌, ◌≢◌, ℕ, ◌+◌, ◌/◌, if◌then◌else◌, ◌==◌, ◌&&◌, Bool, true, false, Option, Some, None, refl, ap, ◌∙◌, inl, inr, ◌⊎◌, subst, ◌||◌}
 use Rattle.std.specs.FinMap as map
 use Rattle.egt_board.specs.declared.man.Side.{Side}
 use Rattle.egt_board.specs.declared.man.Side.TheVariants.{White, Black}
@@ -47,17 +47,12 @@ pawn_is N e = let not = e in cc
 pawn_is K e = let not = e in cc
 
 -- numbers that differ are told apart
-untold : (a b : ℕ) → a ≢ b → (a == b) ≡ false
+pub untold : (a b : ℕ) → a ≢ b → (a == b) ≡ false
 untold a b apart = elim (eqb_tells a b) [ inl same ↦ absurd (apart same.1) | inr told ↦ told.0 ]
 
 pub neither : (a b : Bool) → a ≡ false → b ≡ false → (a || b) ≡ false
 neither true b e f = e
 neither false b e f = f
-
--- the next square is one rank away
-pub next_rank : (side : Side) (from to : ℕ) → to ≡ ahead side from → 0 < rank_of from → is_two_ranks from to ≡ false
-next_rank White from to is up = neither _ _ (untold (rank_of to) (rank_of from + 2) (λ e. omega (arith, is, e))) (untold (rank_of from) (rank_of to + 2) (λ e. omega (arith, is, e)))
-next_rank Black from to is up = neither _ _ (untold (rank_of to) (rank_of from + 2) (λ e. omega (arith, is, e))) (untold (rank_of from) (rank_of to + 2) (λ e. omega (arith, is, e, up)))
 
 pub no_promotion : (b : Bool) (promo : Option Kind) → b ≡ false → FitsPromotion b promo → promo ≡ None
 no_promotion true promo e fits = let not = e in cc

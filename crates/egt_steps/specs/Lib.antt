@@ -1,7 +1,5 @@
 pub mod QuietTarget
 pub mod Facts
-pub mod Pusher
-pub mod Roamer
 pub mod Takings
 pub mod QuietStands
 pub mod InPassing

@@ -1,5 +1,4 @@
-//! What the codes of steps spell, by the men on their squares. These functions do nothing: a caller calls one to know what it
-//! ensures.
+//! The men of positions before and after a step. This function does nothing: a caller calls it to know what it ensures.
 ghost use Rattle.std.specs.Prelude.{◌≡◌, ◌≢◌, ◌↔◌, ◌<◌, ℕ, Bool, false};
 ghost use Rattle.egt_board.specs.Man.{other_side};
 ghost use Rattle.egt_board.specs.Placement.{IsFree, Stands};
@@ -11,18 +10,8 @@ ghost use Rattle.egt_index.specs.Stood.{HasStand, IsOff, list_of};
 ghost use Rattle.egt_index.specs.Went.{IsMovedStand};
 ghost use Rattle.egt_index.specs.declared.stand.Stand.{Stand};
 ghost use Rattle.egt_steps.specs.Frame.{IsMoved};
-ghost use Rattle.egt_steps.specs.StepCodes.{FollowsLeap, FollowsStep, IsLeapCode, IsStepCode};
 
 use egt_index::facts::facts;
-
-/// The code that tells where a symmetry of the class takes the men, once one of them went to a free square, spells an image of the position then,
-/// and no other position; the code of the men and a target spells the position after a leap over it, and no other settled one.
-pub fn codes_follow_steps()
-    ensures follows { (c code n from to : ℕ) (p : Setup) → IsStepCode c code n from to p → FollowsStep c code from to p }
-    ensures leaps { (c code from to : ℕ) (p : Setup) → IsLeapCode c code from to p → FollowsLeap c code from to p }
-{
-    facts();
-}
 
 /// The men of a position are those of its stand, and no others. A position after one man went to a free square, with the other side to move and no
 /// target, has the men after that; and one that has them is such a position.

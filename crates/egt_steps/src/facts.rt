@@ -1,7 +1,7 @@
 //! The laws of the crates below that the rules rest on.
 ghost use Rattle.egt_steps.specs.Facts.{Facts};
 
-use crate::laws::moves_lead_into_the_class_or_a_child;
+use crate::class_moves::moves_lead_into_the_class_or_a_child;
 use egt_board::laws::{
     images_form_classes, images_keep_men, images_settle_alike, positions_settle_once,
 };

@@ -1,44 +1,24 @@
 //! What holds of single moves. These functions do nothing: a caller calls one to know what it ensures.
-ghost use Rattle.std.specs.Prelude.{◌≡◌, ◌≢◌, ◌<◌, ◌⊎◌, ℕ, Bool, false, None, IsSome};
-ghost use Rattle.std.specs.List.{Contains};
+ghost use Rattle.std.specs.Prelude.{◌≢◌, ◌<◌, ℕ, Bool, false};
 ghost use Rattle.egt_board.specs.Man.{other_side};
 ghost use Rattle.egt_board.specs.Setup.{Setup, IsAdmissible};
 ghost use Rattle.egt_board.specs.declared.man.Kind.TheVariants.{K};
 ghost use Rattle.egt_board.specs.declared.man.Side.{Side};
-ghost use Rattle.egt_class.specs.Children.{children_of};
-ghost use Rattle.egt_class.specs.Membership.{IsOf};
 ghost use Rattle.egt_steps.specs.Frame.{IsMoved};
 ghost use Rattle.egt_index.specs.Stood.{HasStand};
 ghost use Rattle.egt_index.specs.declared.shelf_codes.ShelfMen.{ShelfMen};
 ghost use Rattle.egt_index.specs.declared.stand.Stand.{Stand};
 ghost use Rattle.egt_moves.specs.Chess.{Zeroes};
-ghost use Rattle.egt_moves.specs.Exchange.{Captures};
 ghost use Rattle.egt_moves.specs.Legal.{Leads};
 ghost use Rattle.egt_moves.specs.declared.chess_move.Move.{Move};
 ghost use Rattle.egt_steps.specs.QuietStands.{IsQuietStand};
 ghost use Rattle.egt_steps.specs.Stands.{stand_on};
 ghost use Rattle.egt_steps.specs.Takings.{IsClassOf, IsPlainCapture, IsTaken, Left, stand_left};
 
+use crate::class_moves::moves_lead_into_the_class_or_a_child;
 use crate::code_laws::stands_follow_moves;
 use crate::facts::facts;
-use egt_board::counting::one_king_is_counted;
 use egt_class::laws::men_beside_are_counted;
-use egt_moves::exchanging::{moves_exchange_men, moves_keep_admissibility};
-
-/// A move that neither captures nor promotes stays in the class; any other leads into a child of it.
-pub fn moves_lead_into_the_class_or_a_child()
-    ensures quiet { (p q : Setup) (m : Move) (c : ℕ) (flipped : Bool) → IsAdmissible p → IsOf c flipped p →
-        Leads p m q → ¬ Captures p m → m.promo ≡ None → IsOf c flipped q }
-    ensures other { (p q : Setup) (m : Move) (c : ℕ) (flipped : Bool) → c < 36 → IsAdmissible p → IsOf c flipped p →
-        Leads p m q → Captures p m ⊎ IsSome m.promo →
-        (d : ℕ) × (turned : Bool) × Contains (children_of c) d × IsOf d turned q }
-    ensures any { (p q : Setup) (m : Move) (c : ℕ) (flipped : Bool) → c < 36 → IsAdmissible p → IsOf c flipped p →
-        Leads p m q → IsOf c flipped q ⊎ ((d : ℕ) × (turned : Bool) × Contains (children_of c) d × IsOf d turned q) }
-{
-    moves_exchange_men();
-    moves_keep_admissibility();
-    one_king_is_counted();
-}
 
 /// A move that does not zero takes one man to a free square, and changes nothing else on the board: it keeps the class and sets no
 /// target.

@@ -2,6 +2,7 @@
 //! men on their squares. The checker and the builder's words both stand on it.
 #![tactic(auto)]
 
+pub mod class_moves;
 pub mod code_laws;
 pub mod facts;
 pub mod laws;

@@ -7,8 +7,8 @@ use egt_board::laws::{
 use egt_check::laws::{a_position_plays_as_its_index_spells, an_indexed_position_is_of_the_class};
 use egt_index::laws::{a_code_is_an_index_or_void, codes_spell_one_position};
 use egt_moves::laws::{moves_are_listed, moves_lead_to_one};
+use egt_steps::class_moves::moves_lead_into_the_class_or_a_child;
 use egt_steps::facts::facts;
-use egt_steps::laws::moves_lead_into_the_class_or_a_child;
 use egt_unmoves::laws::images_have_like_unmoves;
 
 /// What holds of play, images, classes and indexes.

@@ -5,10 +5,10 @@ use Rattle.byteorder.specs.Endian.{little_number}
 use Rattle.egt_index.specs.Size.{size_of}
 use Rattle.egt_table.specs.declared.fault.FileFault.{FileFault}
 use Rattle.egt_table.specs.declared.fault.FileFault.TheVariants as faults
-use Rattle.egt_table.specs.File.{AreBytes, Field, bytes_of, column_bytes, entries_bytes, HasHeader, IsAnswer, first_fault, header_fields, header_fault, header_of, file_fault, file_length, version_of, stated_version}
-use Rattle.egt_table.specs.Reading.{CountsFault, IsAll, IsCut, IsMisfit, IsVersion, length_in, reach_in}
+use Rattle.egt_table.specs.File.{AreBytes, Field, bytes_of, column_bytes, HasHeader, IsAnswer, first_fault, header_fields, header_fault, header_of, file_fault, file_length, version_of, stated_version}
+use Rattle.egt_table.specs.Reading.{CountsFault, IsCut, IsMisfit}
 use Rattle.egt_table.proofs.Fields.{AllFit, fault_in_front, fields_right, no_fault, widths}
-use Rattle.egt_table.proofs.Versions.{body_is, body_length, reach_kept, told_of_all, told_of_table, version_small}
+use Rattle.egt_table.proofs.Versions.{body_length, told_of_all, told_of_table, version_small}
 use Rattle.egt_table.specs.Table.{TableValue, IsTable, columns_of}
 use Rattle.std.specs.List.{flat_map}
 
@@ -143,19 +143,6 @@ columns_answer version class (Some bytes) (Some rest) header n fault p l s h q =
 pub header_of_length : (version class : ℕ) → length (header_of version class) ≡ 16
 unfolding header_fields
 header_of_length version class = refl
-
--- what the header and the columns tell of all bytes
-pub table_is_read : (version class : ℕ) (left mid : Option (List ℕ)) (mate zeroing reach : List ℕ) → IsVersion version → length reach ≡ length_in version class
-    → Consumes left mid (header_of version class) → IsAll mid (entries_bytes mate ++ (entries_bytes zeroing ++ entries_bytes reach))
-    → IfSome left (λ bytes. bytes ≡ bytes_of (record { class = class; mate = mate; zeroing = zeroing; reach = reach_in version reach }))
-table_is_read version class None mid mate zeroing reach v l p q = tt
-table_is_read version class (Some bytes) None mate zeroing reach v l p q = absurd p
-table_is_read version class (Some bytes) (Some rest) mate zeroing reach v l p q =
-    let t : TableValue = record { class = class; mate = mate; zeroing = zeroing; reach = reach_in version reach } in
-    let kept = reach_kept version class reach v l in
-    let columns = body_is t ∙ ap (λ (w : List ℕ). entries_bytes mate ++ (entries_bytes zeroing ++ entries_bytes w)) kept.1 in
-    p ∙ ap (λ (w : List ℕ). header_of version class ++ w) (q ∙ sym columns)
-    ∙ ap (λ (n : ℕ). header_of n class ++ flat_map (column_bytes t) (columns_of t)) (sym kept.0)
 
 fields_fit : (version class : ℕ) → version ≤ 2 → class < 36 → size_of class < 2 ^ 32 → AllFit (header_fields version class)
 unfolding header_fields

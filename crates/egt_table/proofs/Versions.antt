@@ -1,15 +1,15 @@
 -- Files of both versions: what their bytes tell of the version, and what stands behind the header.
-use Rattle.std.proofs.Common.{◌≡◌, ℕ, suc, zero, ◌+◌, ◌*◌, ◌<◌, ◌≤◌, ◌==◌, inl, inr, List, [], ◌++◌, length, drop, get_or, Option, Some, None, IsSome, refl, sym, ap, ◌∙◌, arith, length-append, length-drop, true, false, if◌then◌else◌}
+use Rattle.std.proofs.Common.{◌≡◌, ℕ, ◌+◌, ◌*◌, ◌≤◌, inl, inr, List, ◌++◌, length, drop, Option, Some, None, IsSome, refl, ap, ◌∙◌, arith, length-append, length-drop}
 use Rattle.std.specs.List.{flat_map}
-use Rattle.std.proofs.lemmas.List.{append-nil, drop-append-le, nil_from_length}
+use Rattle.std.proofs.lemmas.List.{append-nil, drop-append-le}
 use Rattle.byteorder.specs.Endian.{little_number}
 use Rattle.byteorder.specs.Numbers.{little_from-append}
 use Rattle.egt_index.specs.Size.{size_of}
 use Rattle.egt_table.specs.declared.column.Column.{Column}
 use Rattle.egt_table.specs.declared.column.Column.TheVariants.{Mate, Zeroing, Reach}
 use Rattle.egt_table.specs.File.{bytes_of, column_bytes, columns_in, entries_bytes, file_length, header_fields, header_of, version_of, stated_version}
-use Rattle.egt_table.specs.Reading.{IsVersion, length_in, reach_in}
-use Rattle.egt_table.specs.Table.{HasColumn, IsTable, TableValue, columns_of, entries_or_none, reach_columns}
+use Rattle.egt_table.specs.Reading.{IsVersion, length_in}
+use Rattle.egt_table.specs.Table.{IsTable, TableValue, columns_of, entries_or_none, reach_columns}
 use Rattle.egt_table.proofs.Entries.{entries_length}
 
 -- the version stands in the first six bytes
@@ -33,15 +33,6 @@ unfolding header_fields
 told_of_table t =
     let header = header_of (version_of t.reach) t.class in
     told_of_all (bytes_of t) header (flat_map (column_bytes t) (columns_of t)) refl (omega arith) ∙ told_of_header t.reach t.class
-
--- the column of the nearest mates is kept where the file has it
-pub reach_kept : (version class : ℕ) (reach : List ℕ) → IsVersion version → length reach ≡ length_in version class
-    → (version_of (reach_in version reach) ≡ version) × (entries_or_none (reach_in version reach) ≡ reach)
-reach_kept version class reach (inl one) l =
-    let none : length_in version class ≡ 0 = rw one refl in
-    let empty : reach ≡ [] = nil_from_length reach (l ∙ none) in
-    rw one (refl, sym empty)
-reach_kept version class reach (inr two) l = rw two (refl, refl)
 
 -- the bytes of the columns, by name
 third_bytes : (f : Column → List ℕ) (reach : Option (List ℕ)) → f Reach ≡ entries_bytes (entries_or_none reach)
@@ -72,17 +63,6 @@ body_length t h =
       length-append (entries_bytes t.mate) (entries_bytes t.zeroing ++ entries_bytes reach),
       length-append (entries_bytes t.zeroing) (entries_bytes reach),
     )
-
--- each column of a table is there
-third_there : (t : TableValue) (reach : Option (List ℕ)) (i : ℕ) → (IsSome reach → IsSome t.reach) → i < length (reach_columns reach) → HasColumn (get_or (reach_columns reach) i Mate) t
-third_there t None i h l = absurd (omega arith)
-third_there t (Some entries) zero h l = h refl
-third_there t (Some entries) (suc i) h l = tt
-
-pub column_there : (t : TableValue) (i : ℕ) → i < length (columns_of t) → HasColumn (get_or (columns_of t) i Mate) t
-column_there t zero l = tt
-column_there t (suc zero) l = tt
-column_there t (suc (suc i)) l = third_there t t.reach i (λ h. h) (omega arith)
 
 -- how many bytes a file of the version has
 pub length_of_file : (version class mate zeroing reach : ℕ) → IsVersion version → mate ≡ size_of class → zeroing ≡ size_of class → reach ≡ length_in version class

@@ -1,13 +1,10 @@
-use Rattle.std.proofs.Common.{◌≡◌, ◌%◌, ℕ, Bool, Option, Some, None, IfSome, sym, subst}
+use Rattle.std.proofs.Common.{◌%◌, Some, None, sym, subst}
 use Rattle.egt_class.specs.Material.{material_of}
-use Rattle.egt_index.specs.Home.{IsTurnWith, AreHome, LeastWith}
+use Rattle.egt_index.specs.Home.{AreHome, LeastWith}
 use Rattle.egt_index.specs.Size.{has_pawns}
 use Rattle.egt_index.specs.Stood.{HasStand}
 use Rattle.egt_index.proofs.LeastTurn.{keeps_play, least_of_one, least_of_two, none_away}
 use Rattle.egt_index.proofs.indexing.least_with.Goals as goal
-
-turn_of : (pawns flips : Bool) (o : Option ℕ) (t : ℕ) → o ≡ Some t → IfSome o (IsTurnWith pawns flips) → IsTurnWith pawns flips t
-turn_of pawns flips o t is h = subst (λ o. IfSome o (IsTurnWith pawns flips)) is h
 
 pub returns-in-Some : goal.returns-in-Some
 returns-in-Some c = λ p has.

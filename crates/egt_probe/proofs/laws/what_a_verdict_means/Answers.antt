@@ -12,3 +12,6 @@ returns-clause-draw c loaded p class v = v.mate
 
 pub returns-clause-dead : goal.returns-clause-dead
 returns-clause-dead c loaded p class v = (v.mate, v.dead.1)
+
+pub returns-clause-alive : goal.returns-clause-alive
+returns-clause-alive c loaded p class v column moves dead = (v.dead column dead).stuck moves.move moves.legal

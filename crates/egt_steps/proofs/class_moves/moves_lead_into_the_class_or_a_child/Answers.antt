@@ -1,6 +1,6 @@
 use Rattle.egt_class.proofs.NonKings.{one_king_each}
 use Rattle.egt_steps.proofs.ChildMoves.{stays, leaves, leads}
-use Rattle.egt_steps.proofs.laws.moves_lead_into_the_class_or_a_child.Goals as goal
+use Rattle.egt_steps.proofs.class_moves.moves_lead_into_the_class_or_a_child.Goals as goal
 
 pub returns-clause-quiet : goal.returns-clause-quiet
 returns-clause-quiet c p q m n flipped ok is step quiet plain = stays p q m n flipped is (c.moves_exchange_men.ensures p q m ok step) quiet plain
