@@ -10,7 +10,7 @@ use Rattle.egt_graph.specs.Value.{is_lost_before, is_won_before, mated_within, m
 use Rattle.egt_graph.specs.declared.game.Exit.{Exit}
 use Rattle.egt_entries.specs.declared.metric.Metric.TheVariants.{Mate}
 use Rattle.egt_entries.specs.Tables.{Tables}
-use Rattle.egt_entries.specs.Truth.{HasTrueChildren}
+use Rattle.egt_entries.specs.Truth.{HasTrueValuesBelow}
 use Rattle.egt_sweep.specs.Built.{IsAboveLimit, SomeAboveLimit}
 use Rattle.egt_sweep.specs.ClassGame.{class_game}
 use Rattle.egt_sweep.specs.Edges.{IsAt}
@@ -66,7 +66,7 @@ module _ (plies : Plies) where
     off_loses = λ n p q m v e off has is. lost_within n q v e has is;
   }
 
-module _ (laws : Laws) (plies : Plies) (tables : Tables) (c : ℕ) (below : c < 36) (children : HasTrueChildren tables c) where
+module _ (laws : Laws) (plies : Plies) (tables : Tables) (c : ℕ) (below : c < 36) (children : HasTrueValuesBelow tables c) where
   agrees : (n i : ℕ) (p : Setup) → IsAdmissible p → IsIndex c p i →
       ((mated_within (class_game tables Mate c) n i ≡ true) ↔ IsMatedWithin chess n p) × ((mates_within (class_game tables Mate c) n i ≡ true) ↔ MatesWithin chess n p)
   agrees n i p ok is = agree laws plies tables Mate c below (mates_left laws tables c below children) (IsMatedWithin chess) (MatesWithin chess) (λ k x q m. IsMatedWithin chess k q) (λ k x q m. MatesWithin chess k q) (mates_by_steps plies c) n i p ok is

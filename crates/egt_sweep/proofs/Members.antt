@@ -1,5 +1,5 @@
 -- Members of lists, one by one.
-use Rattle.std.proofs.Common.{◌≡◌, zero, suc, ◌⊎◌, ◌&&◌, ◌||◌, Bool, true, false, List, [], ◌∷◌, ◌++◌, map, Option, Some, None, refl, sym, ◌∙◌, subst, inl, inr, arith}
+use Rattle.std.proofs.Common.{◌≡◌, zero, suc, ◌⊎◌, ◌&&◌, ◌||◌, Bool, true, false, List, [], ◌∷◌, ◌++◌, Option, Some, None, refl, sym, ◌∙◌, subst, inl, inr, arith}
 use Rattle.std.proofs.Math.Logic.{⊎_elim, ⊎_map}
 use Rattle.std.proofs.lemmas.Bool.{false≢true, and_parts}
 use Rattle.std.specs.List.{Contains, list_all, list_any, flat_map}
@@ -64,17 +64,6 @@ append_in x [] ys (inr h) = h
 append_in x (z ∷ zs) ys (inl (inl e)) = inl e
 append_in x (z ∷ zs) ys (inl (inr h)) = inr (append_in x zs ys (inl h))
 append_in x (z ∷ zs) ys (inr h) = inr (append_in x zs ys (inr h))
-
--- an element of what a function gives
-pub in_map : {X Y : Type 0} (f : X → Y) (xs : List X) (y : Y) → In y (map f xs) → (x : X) × In x xs × (y ≡ f x)
-in_map f [] y h = absurd h
-in_map f (x ∷ xs) y (inl e) = (x, inl refl, e)
-in_map f (x ∷ xs) y (inr on) = let r = in_map f xs y on in (r.0, inr r.1, r.2)
-
-pub map_in : {X Y : Type 0} (f : X → Y) (xs : List X) (x : X) → In x xs → In (f x) (map f xs)
-map_in f [] x h = absurd h
-map_in f (y ∷ ys) x (inl e) = inl (λ j. f (e j))
-map_in f (y ∷ ys) x (inr on) = inr (map_in f ys x on)
 
 -- of the lists that it gives
 pub in_flat : {X Y : Type 0} (f : X → List Y) (xs : List X) (y : Y) → In y (flat_map f xs) → (x : X) × In x xs × In y (f x)

@@ -1,5 +1,5 @@
 -- The numbers of the game of the nearest mates are how far the nearest checkmates are from the positions.
-use Rattle.std.proofs.Common.{◌≡◌, ℕ, zero, suc, ◌<◌, ◌≤◌, ◌↔◌, ◌||◌, Bool, true, List, [], ◌∷◌, map, Option, Some, None, IsSome, IfSome, refl, sym, ap, ◌∙◌, subst, inl, inr, arith}
+use Rattle.std.proofs.Common.{◌≡◌, ℕ, zero, suc, ◌<◌, ◌≤◌, ◌↔◌, ◌||◌, Bool, true, List, [], ◌∷◌, map, Option, Some, None, refl, sym, ap, ◌∙◌, subst, inl, inr, arith}
 use Rattle.std.proofs.Math.Logic.{⊎_elim}
 use Rattle.std.proofs.lemmas.Bool.{false≢true, ltb-true, lt-ltb, cases_lt}
 use Rattle.std.specs.List.{Contains, list_any}
@@ -19,9 +19,9 @@ use Rattle.egt_entries.specs.declared.metric.Metric.TheVariants.{Mate}
 use Rattle.egt_entries.specs.Entry.{longest}
 use Rattle.egt_entries.specs.NearTables.{near_entry, near_table, near_tables}
 use Rattle.egt_check.specs.Reading.{read, read_shown}
-use Rattle.egt_entries.specs.Tables.{Tables, HasReachChildren, reach_at}
-use Rattle.egt_entries.specs.Truth.{HasTrueChildren}
-use Rattle.egt_table.specs.Table.{TableValue, entries_or_none}
+use Rattle.egt_entries.specs.Tables.{Tables, reach_at}
+use Rattle.egt_entries.specs.Truth.{HasTrueReachesBelow}
+use Rattle.egt_table.specs.Table.{entries_or_none}
 use Rattle.egt_sweep.specs.Built.{SomeReachesFar}
 use Rattle.egt_sweep.specs.Edges.{GoesOn}
 use Rattle.egt_sweep.specs.Laws.{Laws}
@@ -81,7 +81,7 @@ map_in [] x h = absurd h
 map_in (y ∷ es) x (inl same) = inl (ap as_win same)
 map_in (y ∷ es) x (inr h) = inr (map_in es x h)
 
-module _ (laws : Laws) (reaching : Reaching) (tables : Tables) (c : ℕ) (below : c < 36) (children : HasTrueChildren tables c) (reach_children : HasReachChildren tables c) where
+module _ (laws : Laws) (reaching : Reaching) (tables : Tables) (c : ℕ) (below : c < 36) (children : HasTrueReachesBelow tables c) where
   near : Tables
   near = near_tables tables
 
@@ -91,11 +91,9 @@ module _ (laws : Laws) (reaching : Reaching) (tables : Tables) (c : ℕ) (below 
   child_shown q ok (d, turned, child, of) =
       let u = children d child in
       let lt = laws.facts.child_below c d below child in
-      let there : IsSome u.0.reach = subst (λ (o : Option TableValue). IfSome o (λ v. IsSome v.reach)) u.1 (reach_children d child) in
-      let truth = u.3.reach there in
       let index = laws.facts.some_index q d turned (omega (arith, lt, below)) ok of in
-      let told = truth.true q index.0 ok (subst (λ k. IsIndex k q index.0) (sym u.2) index.1) in
-      let shown = shown_is laws (near_tables tables) d index.0 (near_table u.0.class (entries_or_none u.0.reach)) q turned (omega (arith, lt, below)) ok of (near_found tables d u.0 u.1 there) index.1 36 (omega (arith, lt, below)) (omega arith) in (
+      let told = u.4.true q index.0 ok (subst (λ k. IsIndex k q index.0) (sym u.2) index.1) in
+      let shown = shown_is laws (near_tables tables) d index.0 (near_table u.0.class (entries_or_none u.0.reach)) q turned (omega (arith, lt, below)) ok of (near_found tables d u.0 u.1 u.3) index.1 36 (omega (arith, lt, below)) (omega arith) in (
         near_of_entry told.0,
         tells_near q told.0 told.1,
         shown ∙ ap read (slice_near (entries_or_none u.0.reach) index.0) ∙ read_shown (near_entry (reach_at u.0 index.0)) (near_of_entry told.0) (near_shown (reach_at u.0 index.0) told.0 told.2),

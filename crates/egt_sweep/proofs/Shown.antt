@@ -14,7 +14,7 @@ use Rattle.egt_entries.specs.declared.metric.Metric.TheVariants.{Mate, Zeroing}
 use Rattle.egt_table.specs.Table.{TableValue}
 use Rattle.egt_check.specs.Reading.{read_shown}
 use Rattle.egt_entries.specs.Tables.{Tables, beside, entry_at, HasReachChildren}
-use Rattle.egt_entries.specs.Truth.{HasTrueChildren}
+use Rattle.egt_entries.specs.Truth.{HasTrueChildren, HasTrueValuesBelow}
 use Rattle.egt_sweep.specs.Laws.{Laws}
 use Rattle.egt_sweep.specs.MateColumn.{ShowsValues}
 use Rattle.egt_sweep.specs.Nodes.{shown_below}
@@ -33,7 +33,7 @@ module _ (laws : Laws) (tables : Tables) where
       let told = values q index.0 ok (subst (λ c. IsIndex c q index.0) (sym class) index.1) in
       (told.0, told.1, shown_is laws tables d index.0 u q flipped below ok of found index.1 36 below (omega arith) ∙ read_shown (entry_at u Mate index.0) told.0 told.2)
 
-  module _ (c : ℕ) (below : c < 36) (children : HasTrueChildren tables c) where
+  module _ (c : ℕ) (below : c < 36) (children : HasTrueValuesBelow tables c) where
     child_value : (q : Setup) → IsAdmissible q → (d : ℕ) × (turned : Bool) × Contains (children_of c) d × IsOf d turned q → IsShown tables q
     child_value q ok child =
         let u = children child.0 child.2 in
@@ -68,6 +68,14 @@ module _ (laws : Laws) (tables : Tables) where
 -- the children's tables beside another of the class
 pub beside_children : (laws : Laws) (tables : Tables) (t : TableValue) → t.class < 36 → HasTrueChildren tables t.class → HasTrueChildren (beside tables t) t.class
 beside_children laws tables t below children d has =
+    let child = children d has in
+    let lt = laws.facts.child_below t.class d below has in
+    let other : d ≢ t.class = (λ e. omega (arith, lt, e)) in
+    (child.0, beside_other tables t d other ∙ child.1, child.2, child.3)
+
+-- those with true columns of wins and losses
+pub beside_values : (laws : Laws) (tables : Tables) (t : TableValue) → t.class < 36 → HasTrueValuesBelow tables t.class → HasTrueValuesBelow (beside tables t) t.class
+beside_values laws tables t below children d has =
     let child = children d has in
     let lt = laws.facts.child_below t.class d below has in
     let other : d ≢ t.class = (λ e. omega (arith, lt, e)) in

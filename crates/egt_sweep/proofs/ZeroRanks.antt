@@ -16,7 +16,7 @@ use Rattle.egt_graph.specs.declared.game.Exit.{Exit}
 use Rattle.egt_entries.specs.declared.metric.Metric.TheVariants.{Mate, Zeroing}
 use Rattle.egt_table.specs.Table.{TableValue}
 use Rattle.egt_entries.specs.Tables.{Tables}
-use Rattle.egt_entries.specs.Truth.{HasTrueChildren}
+use Rattle.egt_entries.specs.Truth.{HasTrueValuesBelow}
 use Rattle.egt_sweep.specs.Built.{IsWithinLimit}
 use Rattle.egt_sweep.specs.ClassGame.{class_game}
 use Rattle.egt_sweep.specs.Edges.{GoesOn}
@@ -41,7 +41,7 @@ winning_is_won : (n : ℕ) (p : Setup) → ZeroesWinningWithin chess n p → IsW
 winning_is_won zero p h = absurd h
 winning_is_won (suc n) p (q, m, lost, rest) = (suc lost.0, (q, m, lost.1))
 
-module _ (laws : Laws) (plies : Plies) (tables : Tables) (c : ℕ) (below : c < 36) (children : HasTrueChildren tables c)
+module _ (laws : Laws) (plies : Plies) (tables : Tables) (c : ℕ) (below : c < 36) (children : HasTrueValuesBelow tables c)
     (u : TableValue) (found : tables c ≡ Some u) (class : u.class ≡ c) (values : ShowsValues u) where
   e : Setup → Value
   e q = shown_below tables 36 q

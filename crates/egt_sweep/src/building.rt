@@ -146,7 +146,7 @@ pub(crate) fn reach_column(
     }
 }
 
-/// The same as a part of a build whose other columns are made.
+/// The column of the nearest mates, as a part of a build whose other columns are made.
 fn reach_part(alloc: Global, class: Class, library: &Library) -> Result<Nears, BuildFault>
     requires children { HasChildren (table_at library.now) class }
     requires reach_children { HasReachChildren (table_at library.now) class }

@@ -39,8 +39,8 @@ fn solved(alloc: Global, table: Table, library: &Library) -> Result<Table, (Tabl
     }
 }
 
-/// The same table with the column of the nearest mates. The table is one that `check` accepts beside the library, and so is the new one; its other columns
-/// are as before.
+/// The table with the column of the nearest mates, and its other columns as before. `check` accepts it beside the library before and
+/// after.
 ///
 /// # Errors
 ///

@@ -48,7 +48,7 @@ impl<'l> ReachGame<'l> {
     }
 }
 
-/// The same exit as a win.
+/// The exit as a win in as many plies.
 fn as_win(exit: Exit) -> Exit
     ensures { result ≡ as_win exit }
 {
@@ -58,7 +58,7 @@ fn as_win(exit: Exit) -> Exit
     }
 }
 
-/// The same exits as wins.
+/// The exits, in order, as wins.
 fn as_wins(exits: &ArrayVec<Exit, 64>) -> ArrayVec<Exit, 64>
     ensures { result.items ≡ map as_win exits.now.items }
 {

@@ -5,6 +5,7 @@ use Rattle.egt_entries.specs.declared.metric.Metric.TheVariants.{Mate}
 use Rattle.egt_entries.specs.Tables.{table_at}
 use Rattle.egt_sweep.specs.ClassGame.{class_game}
 use Rattle.egt_sweep.proofs.TrueChildren.{true_children}
+use Rattle.egt_check.proofs.BelowTrue.{values_below}
 use Rattle.egt_sweep.proofs.building.mate_ranks.Goals as goal
 
 pub returns-in-Err-TooDeep-clause-refused : goal.returns-in-Err-TooDeep-clause-refused
@@ -17,4 +18,4 @@ returns-in-Err-TooDeep-clause-refused c =
     let above = c.solve.ensures.too_deep (c.in-Err-TooDeep.is ∙ ap Err c.in-Err-TooDeep.field-0-is) in
     let here = subst (λ (xs : List (Option TableValue)). SomeAbove (class_game (table_at xs) Mate c.args.class) c.args.limit) made.library
     (subst (λ (k : ℕ). SomeAbove (class_game (table_at game.library.now) Mate k) c.args.limit) made.class above) in
-    (children, c.requires.reach_children, inl (refl, c.mate_ranks_are_values.ensures.above (table_at places) c.args.class c.args.limit below (true_children (table_at places) c.args.class c.children_are_true.ensures children) here))
+    (children, c.requires.reach_children, inl (refl, c.mate_ranks_are_values.ensures.above (table_at places) c.args.class c.args.limit below (values_below (table_at places) c.args.class (true_children (table_at places) c.args.class c.children_are_true.ensures children)) here))

@@ -4,6 +4,7 @@ use Rattle.egt_table.specs.Table.{TableValue}
 use Rattle.egt_entries.specs.Tables.{table_at}
 use Rattle.egt_sweep.specs.ReachGame.{reach_game}
 use Rattle.egt_sweep.proofs.TrueChildren.{true_children}
+use Rattle.egt_check.proofs.BelowTrue.{reaches_below}
 use Rattle.egt_sweep.proofs.building.reach_column.Goals as goal
 
 pub returns-clause-too_deep : goal.returns-clause-too_deep
@@ -13,6 +14,6 @@ returns-clause-too_deep c =
     let made = c.in-Ok.ensures in
     let below = subst (λ (n : ℕ). n < 36) c.number-number.ensures.value c.number-number.ensures.below in
     let children = true_children tables class c.children_are_true.ensures c.requires.children in
-    λ deep. c.reach_numbers_are_the_nearest_mates.ensures.far tables class below children c.requires.reach_children
+    λ deep. c.reach_numbers_are_the_nearest_mates.ensures.far tables class below (reaches_below tables class children c.requires.reach_children)
     (subst (λ (xs : List (Option TableValue)). SomeFar (reach_game (table_at xs) class)) made.library
     (subst (λ (k : ℕ). SomeFar (reach_game (table_at c.in-Ok.game.library.now) k)) made.class (c.nearest.ensures.too_deep deep)))

@@ -8,6 +8,7 @@ use Rattle.egt_sweep.specs.ReachGame.{reach_game}
 use Rattle.egt_sweep.proofs.FilledTables.{kept_is_true}
 use Rattle.egt_sweep.proofs.JoinedTables.{NearsTell, joined_is_accepted, joined_reach}
 use Rattle.egt_sweep.proofs.TrueChildren.{true_children}
+use Rattle.egt_check.proofs.BelowTrue.{reaches_below}
 use Rattle.egt_sweep.proofs.migrating.solved.Goals as goal
 
 pub returns-in-Err-TooDeep-clause-reason : goal.returns-in-Err-TooDeep-clause-reason
@@ -28,7 +29,7 @@ returns-in-Ok-with_reach-clause-migrated c =
     let are : AreNears (reach_game tables old.class) nears = subst (λ (class : ℕ). AreNears (reach_game tables class) nears) c.class-class.ensures.class c.in-Ok.ensures.nears in
     let rules = c.rules_are_kept_by_true_tables_alone.ensures in
     let truth : IsTrueTable old = kept_is_true laws tables old is children (λ there. reach_children) rules c.requires.accepted.rules in
-    let near : NearsTell tables old.class = λ i p number ok index found. c.reach_numbers_are_the_nearest_mates.ensures.numbers tables old.class i p number below children reach_children ok index found in
+    let near : NearsTell tables old.class = λ i p number ok index found. c.reach_numbers_are_the_nearest_mates.ensures.numbers tables old.class i p number below (reaches_below tables old.class children reach_children) ok index found in
     subst (IsMigrated tables old) (sym c.in-Ok-with_reach.ensures.table) (record {
       lacked = lacked;
       reach_children = reach_children;
