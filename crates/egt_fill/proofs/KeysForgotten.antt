@@ -1,5 +1,5 @@
 -- Blocks that are forgotten where entries are put: those that stay were read from others.
-use Rattle.std.proofs.Common.{◌≡◌, ◌≢◌, ◌∙◌, ℕ, ◌/◌, ◌%◌, ◌==◌, ◌<◌, Bool, true, false, List, [], length, Option, Some, None, IfSome, IsTrue, arith, ap, sym, subst, inl, inr, slice_index_or}
+use Rattle.std.proofs.Common.{◌≡◌, ◌≢◌, ◌∙◌, ℕ, ◌/◌, ◌%◌, ◌==◌, ◌<◌, Bool, true, false, List, [], length, Option, Some, None, IfSome, arith, ap, refl, sym, subst, inl, inr, slice_index_or}
 use Rattle.std.proofs.lemmas.Bool.{false≢true}
 use Rattle.egt_board.specs.Man.{other_side}
 use Rattle.egt_board.specs.Turned.{turned_square}

@@ -6,8 +6,6 @@ use Rattle.std.specs.List.{All}
 use Rattle.egt_board.specs.Man.{other_side}
 use Rattle.egt_board.specs.declared.man.Side.{Side}
 use Rattle.egt_board.specs.declared.man.Side.TheVariants.{White, Black}
-use Rattle.egt_index.specs.declared.shelf_codes.ShelfMen.{ShelfMen}
-use Rattle.egt_table.specs.declared.column.Column.{Column}
 use Rattle.egt_table.specs.Table.{TableValue}
 use Rattle.egt_blocks.specs.Kept.{IsKept, IsPlaced}
 use Rattle.egt_blocks.specs.declared.kept_blocks.BlockKey.{BlockKey}
