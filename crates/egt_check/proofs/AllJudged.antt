@@ -30,15 +30,15 @@ use Rattle.egt_check.proofs.QuietGiven.{low_score}
 
 -- what other laws say of this position
 pub record Says (tables : Tables) (four : FourMen) (men : ShelfMen) (side : Side) (passed : Bool) (a b : ℕ) : Type 0 where
-  pub or_void : (i : ℕ) → ((p : Setup) × Spells four.own.now.class i p × IsIndex four.own.now.class p i) ⊎ IsVoid four.own.now.class i
-  pub settled : (i : ℕ) (p : Setup) → IsAdmissible p → IsIndex four.own.now.class p i → Spells four.own.now.class i p → IsSettled p
-  pub stands : (i : ℕ) (p : Setup) → Spells four.own.now.class i p → IsSettled p → TellsMen passed four.own.now.class i (stand_on men a b) side → HasStand four.own.now.class false (stand_on men a b) side passed p
-  pub given : (p : Setup) (mate zeroing : ℕ) → HasStand four.own.now.class false (stand_on men a b) side passed p → AreAllScores passed four men side a b mate zeroing → AreGiven tables p (λ m. Unit {0}) mate zeroing
-  pub due : (i : ℕ) (p : Setup) (g z : ℕ) → Spells four.own.now.class i p → ¬ IsVoid four.own.now.class i → AreAlike (entry_at four.own.now Mate i) (entry_at four.own.now Zeroing i) → AreGiven tables p (λ m. Unit {0}) g z → g ≢ 0
-      → byte_score (entry_at four.own.now Mate i) ≡ due_score g → byte_score (entry_at four.own.now Zeroing i) ≡ due_score z → (metric : Metric) → IsJudged tables four.own.now metric i None
+  pub or_void : (i : ℕ) → ((p : Setup) × Spells four.own.class i p × IsIndex four.own.class p i) ⊎ IsVoid four.own.class i
+  pub settled : (i : ℕ) (p : Setup) → IsAdmissible p → IsIndex four.own.class p i → Spells four.own.class i p → IsSettled p
+  pub stands : (i : ℕ) (p : Setup) → Spells four.own.class i p → IsSettled p → TellsMen passed four.own.class i (stand_on men a b) side → HasStand four.own.class false (stand_on men a b) side passed p
+  pub given : (p : Setup) (mate zeroing : ℕ) → HasStand four.own.class false (stand_on men a b) side passed p → AreAllScores passed four men side a b mate zeroing → AreGiven tables p (λ m. Unit {0}) mate zeroing
+  pub due : (i : ℕ) (p : Setup) (g z : ℕ) → Spells four.own.class i p → ¬ IsVoid four.own.class i → AreAlike (entry_at four.own Mate i) (entry_at four.own Zeroing i) → AreGiven tables p (λ m. Unit {0}) g z → g ≢ 0
+      → byte_score (entry_at four.own Mate i) ≡ due_score g → byte_score (entry_at four.own Zeroing i) ≡ due_score z → (metric : Metric) → IsJudged tables four.own metric i None
   pub none : (p : Setup) (g z : ℕ) → IsAdmissible p → AreGiven tables p (λ m. Unit {0}) g z → g ≡ 0 → NoMove chess p
-  pub end : (i : ℕ) (p : Setup) (x : ℕ) → Spells four.own.now.class i p → ¬ IsVoid four.own.now.class i → AreAlike (entry_at four.own.now Mate i) (entry_at four.own.now Zeroing i) → NoMove chess p → IsAtEnd p x
-      → entry_at four.own.now Mate i ≡ x → entry_at four.own.now Zeroing i ≡ x → (metric : Metric) → IsJudged tables four.own.now metric i None
+  pub end : (i : ℕ) (p : Setup) (x : ℕ) → Spells four.own.class i p → ¬ IsVoid four.own.class i → AreAlike (entry_at four.own Mate i) (entry_at four.own Zeroing i) → NoMove chess p → IsAtEnd p x
+      → entry_at four.own Mate i ≡ x → entry_at four.own Zeroing i ≡ x → (metric : Metric) → IsJudged tables four.own metric i None
 
 -- an entry with a byte of its own has a score
 pub some_score : (e : ℕ) → e ≢ 0 → e ≢ 2 → e < 254 → byte_score e ≢ 0
@@ -50,9 +50,9 @@ some_score e some other low none = elim (cases_eq e 1) [
   ]
 ]
 
-module _ (tables : Tables) (four : FourMen) (men : ShelfMen) (side : Side) (passed : Bool) (a b : ℕ) (says : Says tables four men side passed a b) (are : AreTablesOf tables four men) (i : ℕ) (below : i < size_of four.own.now.class) where
+module _ (tables : Tables) (four : FourMen) (men : ShelfMen) (side : Side) (passed : Bool) (a b : ℕ) (says : Says tables four men side passed a b) (are : AreTablesOf tables four men) (i : ℕ) (below : i < size_of four.own.class) where
   abbrev pub own : TableValue
-  own = four.own.now
+  own = four.own
 
   of_void : IsVoid own.class i → (metric : Metric) → IsJudged tables own metric i None
   of_void void metric = void_judged tables own i metric void None (are.bytes.void metric i below void)

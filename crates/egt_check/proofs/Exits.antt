@@ -76,7 +76,7 @@ greatest : (taken last first stepped leapt : ℕ) → max (max taken (max last f
 greatest taken last first stepped leapt = omega arith
 
 -- the greater of both
-pub zeroing_of : (column : Column) (four : FourMen) (men : ShelfMen) (side : Side) (a b exits own score : ℕ) → AreExits column four.children men side a b exits → AreOwnPawnMoves column four.own.now men side a b own → score ≡ max exits own → AreZeroingMoves column four men side a b score
+pub zeroing_of : (column : Column) (four : FourMen) (men : ShelfMen) (side : Side) (a b exits own score : ℕ) → AreExits column four.children men side a b exits → AreOwnPawnMoves column four.own men side a b own → score ≡ max exits own → AreZeroingMoves column four men side a b score
 zeroing_of column four men side a b exits own score e o is =
     let last = max o.by_last e.last_promoted in
     let first = max o.by_first e.first_promoted in record {
@@ -88,8 +88,8 @@ zeroing_of column four men side a b exits own score e o is =
       pawns = record {
         by_first = first;
         by_last = last;
-        first_is = by_pawn column four.own.now true (men_swapped men) side b a four.children.first_pawn o.by_first e.first_promoted o.first_is e.first_is;
-        last_is = by_pawn column four.own.now false men side a b four.children.last_pawn o.by_last e.last_promoted o.last_is e.last_is;
+        first_is = by_pawn column four.own true (men_swapped men) side b a four.children.first_pawn o.by_first e.first_promoted o.first_is e.first_is;
+        last_is = by_pawn column four.own false men side a b four.children.last_pawn o.by_last e.last_promoted o.last_is e.last_is;
         is = refl;
       };
       is = is ∙ both (max e.by_first e.by_last) e.last_promoted e.first_promoted o.by_last o.by_first exits own e.is o.is;

@@ -38,3 +38,8 @@ pub mod NearBytes
 pub mod NearScores
 pub mod NearJudged
 pub mod EqualTables
+pub mod ScoreRowsRead
+pub mod FoundTold
+pub mod FoundPut
+pub mod ScoresDrawn
+pub mod UnlikeRows

@@ -89,8 +89,8 @@ module _ (or_void : (c code : ℕ) → c < 36 → ((p : Setup) × Spells c code 
       pawns = record {
         by_first = s.pawns.by_first;
         by_last = s.pawns.by_last;
-        first_is = by_pawn tables (men_swapped men) side b a four.own.now true are.is_table are.bytes four.children.first_pawn 0 s.pawns.by_first are.first_pawn s.pawns.first_is;
-        last_is = by_pawn tables men side a b four.own.now false are.is_table are.bytes four.children.last_pawn 0 s.pawns.by_last are.last_pawn s.pawns.last_is;
+        first_is = by_pawn tables (men_swapped men) side b a four.own true are.is_table are.bytes four.children.first_pawn 0 s.pawns.by_first are.first_pawn s.pawns.first_is;
+        last_is = by_pawn tables men side a b four.own false are.is_table are.bytes four.children.last_pawn 0 s.pawns.by_last are.last_pawn s.pawns.last_is;
         is = s.pawns.is;
       };
       is = s.is;
@@ -107,7 +107,7 @@ module _ (or_void : (c code : ℕ) → c < 36 → ((p : Setup) × Spells c code 
 
     of_plain : (reach : ℕ) → AreReachScores four men side a b reach → (zeroing : ℕ) × AreMoveScores (four_in Reach four) men side a b reach zeroing
     of_plain reach s =
-        let quiet = near_raised four.own.now 0 s.quiet _ are.is_table are.bytes s.quiet_raised in (
+        let quiet = near_raised four.own 0 s.quiet _ are.is_table are.bytes s.quiet_raised in (
           max s.quiet (zeroing_score s.zeroed),
           record {
             quiet_mate = s.quiet;

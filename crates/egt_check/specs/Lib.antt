@@ -14,3 +14,6 @@ pub mod PawnScores
 pub mod Place
 pub mod Parts
 pub mod ReachScores
+pub mod ScoreRows
+pub mod Found
+pub mod Own

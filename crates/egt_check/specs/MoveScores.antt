@@ -40,10 +40,10 @@ pub record AreChildren (column : Column) (children : Children) (men : ShelfMen) 
 -- the class has these men beside its kings, and all tables have the column; void codes of the class score nothing there,
 -- nor in the zeroing column, which is judged with the mate column
 pub record AreFourMen (column : Column) (four : FourMen) (men : ShelfMen) : Type 0 where
-  pub own_there : HasColumn column four.own.now
-  pub own_voids : ScoresNoVoids four.own.now.class (column_score four.own.now column)
-  pub zeroing_voids : column ≡ columns.Mate → ScoresNoVoids four.own.now.class (column_score four.own.now columns.Zeroing)
-  pub men_of : AreMenOf four.own.now.class men
+  pub own_there : HasColumn column four.own
+  pub own_voids : ScoresNoVoids four.own.class (column_score four.own column)
+  pub zeroing_voids : column ≡ columns.Mate → ScoresNoVoids four.own.class (column_score four.own columns.Zeroing)
+  pub men_of : AreMenOf four.own.class men
   pub children : AreChildren column four.children men
 
 -- the greatest score in the column of captures that promote no pawn, but those in passing, and of promotions, where the first man stands on a and the last on b
@@ -65,7 +65,7 @@ pub record AreZeroingMoves (column : Column) (four : FourMen) (men : ShelfMen) (
   pub by_pawns : ℕ
   pub first_raised : IsRaised 0 (AreLeftCodes four.children.first.now.class four.children.first_flips men side a b) (column_score four.children.first.now column) by_first
   pub last_raised : IsRaised 0 (AreLeftCodes four.children.last.now.class four.children.last_flips (men_swapped men) side b a) (column_score four.children.last.now column) by_last
-  pub pawns : AreRaisedByPawns column four.own.now four.children.first_pawn four.children.last_pawn men side a b by_pawns
+  pub pawns : AreRaisedByPawns column four.own four.children.first_pawn four.children.last_pawn men side a b by_pawns
   pub is : score ≡ max (max by_first by_last) by_pawns
 
 -- the same of captures in passing, by the last man and by the first
@@ -88,8 +88,8 @@ pub record AreMoveScores (four : FourMen) (men : ShelfMen) (side : Side) (a b ma
   pub quiet_mate : ℕ
   pub quiet_zeroing : ℕ
   pub zeroed : ℕ
-  pub mate_raised : IsRaised 0 (AreQuietCodes four.own.now.class men side a b) (score_at four.own.now Mate) quiet_mate
-  pub zeroing_raised : IsRaised 0 (AreQuietCodes four.own.now.class men side a b) (score_at four.own.now Zeroing) quiet_zeroing
+  pub mate_raised : IsRaised 0 (AreQuietCodes four.own.class men side a b) (score_at four.own Mate) quiet_mate
+  pub zeroing_raised : IsRaised 0 (AreQuietCodes four.own.class men side a b) (score_at four.own Zeroing) quiet_zeroing
   pub zeroed_are : AreZeroingMoves columns.Mate four men side a b zeroed
   pub mate_is : mate ≡ max quiet_mate zeroed
   pub zeroing_is : zeroing ≡ max quiet_zeroing (zeroing_score zeroed)
@@ -111,11 +111,11 @@ AreAllScores true = ArePassedScores
 
 -- the table, whose bytes tell its entries, and those of the classes that captures and promotions lead to
 pub record AreTablesOf (tables : Tables) (four : FourMen) (men : ShelfMen) : Type 0 where
-  pub is_table : IsTable four.own.now
-  pub found : tables four.own.now.class ≡ Some four.own.now
-  pub bytes : HasBytes four.own.now
+  pub is_table : IsTable four.own
+  pub found : tables four.own.class ≡ Some four.own
+  pub bytes : HasBytes four.own
   pub first : IsTableOf tables four.children.first.now four.children.first_flips men.one
   pub last : IsTableOf tables four.children.last.now four.children.last_flips men.last
-  pub own_after : IsClassOfTwo four.own.now.class false men.one men.last
+  pub own_after : IsClassOfTwo four.own.class false men.one men.last
   pub first_pawn : IfSome four.children.first_pawn (λ kinds. HasPromotions tables kinds (men_swapped men))
   pub last_pawn : IfSome four.children.last_pawn (λ kinds. HasPromotions tables kinds men)

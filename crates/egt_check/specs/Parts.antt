@@ -78,7 +78,7 @@ children_in part children = record {
 }
 
 abbrev pub four_in : Part → FourMen → FourMen
-four_in part four = record { own = reference_in part four.own; children = children_in part four.children }
+four_in part four = record { own = table_in part four.own; children = children_in part four.children }
 
 -- the table of the class of these men, whose bytes tell its entries of the part
 pub record IsOwnTable (part : Part) (class : ℕ) (men : ShelfMen) (t : TableValue) : Type 0 where

@@ -15,7 +15,7 @@ use Rattle.egt_check.specs.declared.part.Part.TheVariants as parts
 pub record AreReachScores (four : FourMen) (men : ShelfMen) (side : Side) (a b reach : ℕ) : Type 0 where
   pub quiet : ℕ
   pub zeroed : ℕ
-  pub quiet_raised : IsRaised 0 (AreQuietCodes four.own.now.class men side a b) (column_score four.own.now Reach) quiet
+  pub quiet_raised : IsRaised 0 (AreQuietCodes four.own.class men side a b) (column_score four.own Reach) quiet
   pub zeroed_are : AreZeroingMoves Reach four men side a b zeroed
   pub is : reach ≡ max quiet zeroed
 

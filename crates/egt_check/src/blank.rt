@@ -5,6 +5,7 @@ ghost use Rattle.egt_index.specs.ShelfCodes.{AreMenOf};
 ghost use Rattle.egt_table.specs.Table.{HasColumn};
 ghost use Rattle.egt_check.specs.Blank.{AreBlank};
 
+use crate::own::Own;
 use crate::voids::marks_of;
 use egt_blocks::blocks::begin_with;
 use egt_blocks::digits::{digits_of, first_square};
@@ -12,11 +13,11 @@ use egt_blocks::men::men_on;
 use egt_board::{Side, Square};
 use egt_index::ShelfMen;
 use egt_index::laws::numbers_stand_for_codes;
-use egt_table::{Column, Table};
+use egt_table::Column;
 
 /// Whether the entries of the shelves from this one on, which are to be those of the men by the first one's digit, have no scores.
 fn shelves_are_blank(
-    table: &Table,
+    table: &Own,
     column: Column,
     men: &ShelfMen,
     first: u32,
@@ -46,7 +47,7 @@ fn shelves_are_blank(
 /// Whether the entries of the shelves from this one on, and of those `half` further on, which have the same men and a target,
 /// have no scores; `half` is 0 in a class without targets.
 pub fn side_is_blank(
-    table: &Table,
+    table: &Own,
     column: Column,
     men: &ShelfMen,
     first: u32,

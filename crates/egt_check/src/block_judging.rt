@@ -45,8 +45,8 @@ pub fn part_scores(
 ) -> bool
     requires men { AreFourMen (column_of part) four.now men.now }
     requires leaving { HoldsExits (column_of part) four.now.children men.now side leaving.now }
-    requires kept { AreKept four.now.own.now.class (column_score four.now.own.now) men.now (other_side side) keys.old blocks.old }
-    ensures kept { result ≡ true → AreKept four.now.own.now.class (column_score four.now.own.now) men.now (other_side side) keys.new blocks.new }
+    requires kept { AreKept four.now.own.class (column_score four.now.own) men.now (other_side side) keys.old blocks.old }
+    ensures kept { result ≡ true → AreKept four.now.own.class (column_score four.now.own) men.now (other_side side) keys.new blocks.new }
     ensures scores { result ≡ true → (a b : ℕ) → a < 64 → b < 64 → AreAllScoresOf part false four.now men.now side a b (at scores.new a b) (at zeroing.new a b) }
 {
     match part {
@@ -133,12 +133,15 @@ pub(crate) fn block_is_right(
 ) -> bool
     requires men { AreFourMen (column_of part) four.now men.now }
     requires room { first + half + 64 < 4294967296 }
-    requires kept { AreKept four.now.own.now.class (column_score four.now.own.now) men.now (other_side side) keys.old blocks.old }
-    ensures kept { result ≡ true → AreKept four.now.own.now.class (column_score four.now.own.now) men.now (other_side side) keys.new blocks.new }
+    requires kept { AreKept four.now.own.class (column_score four.now.own) men.now (other_side side) keys.old blocks.old }
+    ensures kept { result ≡ true → AreKept four.now.own.class (column_score four.now.own) men.now (other_side side) keys.new blocks.new }
     ensures judged { result ≡ true → (tables : Tables) → AreTablesOf (tables_in part tables) (four_in part four.now) men.now →
-        AreJudged part tables four.now.own.now men.now first side × AreJudged part tables four.now.own.now men.now (first + half) side }
+        AreJudged part tables four.now.own men.now first side × AreJudged part tables four.now.own men.now (first + half) side }
 {
     entries_due_to_all_moves_are_right();
+    let Some(table) = four.own.table() else {
+        return false;
+    };
     let column = column_of(part);
     let mut leaving = nothing();
     if !exits(&four.children, column, men, side, &mut leaving) {
@@ -159,7 +162,7 @@ pub(crate) fn block_is_right(
     ) {
         return false;
     }
-    if !shelves_are_right(four.own, men, part, first, side, false, &scores, &zeroing) {
+    if !shelves_are_right(table, men, part, first, side, false, &scores, &zeroing) {
         return false;
     }
     if half == 0 {
@@ -171,7 +174,7 @@ pub(crate) fn block_is_right(
     }
     raise_part_passed(four, men, part, side, &passing, &mut scores, &mut zeroing);
     shelves_are_right(
-        four.own,
+        table,
         men,
         part,
         first + half,

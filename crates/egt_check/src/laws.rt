@@ -154,7 +154,7 @@ pub fn codes_after_captures_give_the_captures()
 /// The greatest scores of the codes after all moves are those of the moves, in both columns.
 pub fn all_scores_give_all_moves()
     ensures { (tables : Tables) (four : FourMen) (men : ShelfMen) (side : Side) (passed : Bool) (a b : ℕ) (p : Setup) (mate zeroing : ℕ) → AreTablesOf tables four men → men.one.kind ≢ K → men.last.kind ≢ K →
-        HasStand four.own.now.class false (stand_on men a b) side passed p → AreAllScores passed four men side a b mate zeroing → AreGiven tables p (λ m. Unit {0}) mate zeroing }
+        HasStand four.own.class false (stand_on men a b) side passed p → AreAllScores passed four men side a b mate zeroing → AreGiven tables p (λ m. Unit {0}) mate zeroing }
 {
     quiet_codes_give_the_quiet_moves();
     codes_after_captures_give_the_captures();

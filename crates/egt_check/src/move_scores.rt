@@ -15,6 +15,8 @@ ghost use Rattle.egt_check.specs.PawnScores.{AreOwnPawnMoves, IsBestPromotion};
 ghost use Rattle.egt_blocks.specs.Taken.{AreLeftCodes, men_swapped};
 ghost use Rattle.egt_check.specs.Worth.{column_score};
 
+use crate::found::Found;
+use crate::own::Own;
 use crate::pawn_scores::{Promotions, own_pawn_moves, promotions_block};
 use crate::table_scores::TableScores;
 use egt_blocks::blocks::nothing;
@@ -51,17 +53,28 @@ pub struct Children<'t> {
 /// The table of a class of two men beside the kings, and those of the classes that moves lead to which leave it.
 #[derive(Drop)]
 pub struct FourMen<'o, 't> {
-    pub own: &'o Table,
+    pub own: Own<'o>,
     pub children: Children<'t>,
 }
 
-/// The class's own table beside those of its children.
+/// The table of the class beside those of its children.
 pub fn beside_own<'o, 't>(own: &'o Table, children: &Children<'t>) -> FourMen<'o, 't>
-    ensures own { result.own.now ≡ own.now }
+    ensures own { result.own ≡ own.now }
     ensures children { result.children ≡ children.now }
 {
     FourMen {
-        own,
+        own: Own::of_table(own),
+        children: *children,
+    }
+}
+
+/// The entries that are being found beside the tables of the children.
+pub fn beside_found<'o, 't>(own: &'o Found, children: &Children<'t>) -> FourMen<'o, 't>
+    ensures own { result.own ≡ own.now }
+    ensures children { result.children ≡ children.now }
+{
+    FourMen {
+        own: Own::of_found(own),
         children: *children,
     }
 }
@@ -176,7 +189,7 @@ pub fn exits(
 /// Raises the scores to those of pawns' advances within the class, where that side has a pawn; `still` are those of the men
 /// where they stand, the other side to move. False where the table does not tell.
 fn raise_own_pawns(
-    own: &Table,
+    own: &Own,
     column: Column,
     men: &ShelfMen,
     side: Side,
@@ -214,13 +227,13 @@ pub(crate) fn zeroing_moves(
 ) -> bool
     requires men { AreFourMen column four.now men.now }
     requires leaving { HoldsExits column four.now.children men.now side leaving.now }
-    requires kept { AreKept four.now.own.now.class (column_score four.now.own.now) men.now (other_side side) keys.old blocks.old }
-    ensures kept { result ≡ true → AreKept four.now.own.now.class (column_score four.now.own.now) men.now (other_side side) keys.new blocks.new }
+    requires kept { AreKept four.now.own.class (column_score four.now.own) men.now (other_side side) keys.old blocks.old }
+    ensures kept { result ≡ true → AreKept four.now.own.class (column_score four.now.own) men.now (other_side side) keys.new blocks.new }
     ensures scores { result ≡ true → (a b : ℕ) → a < 64 → b < 64 → AreZeroingMoves column four.now men.now side a b (at out.new a b) }
 {
     let mut still = nothing();
     if !raise_kept(
-        &TableScores { table: four.own },
+        &four.own,
         column,
         men,
         side.other(),
@@ -231,7 +244,7 @@ pub(crate) fn zeroing_moves(
         return false;
     }
     *out = *leaving;
-    raise_own_pawns(four.own, column, men, side, &still, out)
+    raise_own_pawns(&four.own, column, men, side, &still, out)
 }
 
 /// The greatest scores in the column of the captures in passing. False where a table does not tell.
@@ -289,30 +302,14 @@ pub fn move_scores(
 ) -> bool
     requires men { AreFourMen columns.Mate four.now men.now }
     requires leaving { HoldsExits columns.Mate four.now.children men.now side leaving.now }
-    requires kept { AreKept four.now.own.now.class (column_score four.now.own.now) men.now (other_side side) keys.old blocks.old }
-    ensures kept { result ≡ true → AreKept four.now.own.now.class (column_score four.now.own.now) men.now (other_side side) keys.new blocks.new }
+    requires kept { AreKept four.now.own.class (column_score four.now.own) men.now (other_side side) keys.old blocks.old }
+    ensures kept { result ≡ true → AreKept four.now.own.class (column_score four.now.own) men.now (other_side side) keys.new blocks.new }
     ensures scores { result ≡ true → (a b : ℕ) → a < 64 → b < 64 → AreMoveScores four.now men.now side a b (at mates.new a b) (at zeroing.new a b) }
 {
-    if !quiet_block(
-        &TableScores { table: four.own },
-        Column::Mate,
-        men,
-        side,
-        keys,
-        blocks,
-        mates,
-    ) {
+    if !quiet_block(&four.own, Column::Mate, men, side, keys, blocks, mates) {
         return false;
     }
-    if !quiet_block(
-        &TableScores { table: four.own },
-        Column::Zeroing,
-        men,
-        side,
-        keys,
-        blocks,
-        zeroing,
-    ) {
+    if !quiet_block(&four.own, Column::Zeroing, men, side, keys, blocks, zeroing) {
         return false;
     }
     let mut zeroed = nothing();

@@ -18,7 +18,7 @@ use egt_index::laws::{a_code_is_an_index_or_void, codes_tell_their_men, numbers_
 /// Entries of a part that are due to the greatest scores of all moves keep the rules, whether or not their code is an index.
 pub fn entries_due_to_all_moves_are_right()
     ensures { (part : Part) (tables : Tables) (four : FourMen) (men : ShelfMen) (side : Side) (passed : Bool) (a b i score zeroing : ℕ) → AreTablesOf (tables_in part tables) (four_in part four) men → men.one.kind ≢ K → men.last.kind ≢ K →
-        IsRightLane part passed four.own.now men side a b i score zeroing → AreAllScoresOf part passed four men side a b score zeroing → KeepsPart part tables four.own.now i }
+        IsRightLane part passed four.own men side a b i score zeroing → AreAllScoresOf part passed four men side a b score zeroing → KeepsPart part tables four.own i }
 {
     a_code_is_an_index_or_void();
     codes_tell_their_men();

@@ -9,6 +9,7 @@ ghost use Rattle.egt_check.specs.PawnScores.{AreAdvanceScores, AreOwnPawnMoves, 
 ghost use Rattle.egt_blocks.specs.Scored.{ScoresNoVoids};
 ghost use Rattle.egt_check.specs.Worth.{column_score};
 
+use crate::own::Own;
 use crate::table_scores::TableScores;
 use egt_blocks::advance_blocks::{leap_block, promoting_block, promotion_block, step_block};
 use egt_blocks::blocks::nothing;
@@ -142,7 +143,7 @@ pub(crate) fn promotions_block(
 /// The greatest scores of the positions after all advances without promotion of the last man, who is its class's first
 /// where `first`. False where the table does not tell.
 fn advances_block(
-    own: &Table,
+    own: &Own,
     column: Column,
     first: bool,
     men: &ShelfMen,
@@ -156,24 +157,9 @@ fn advances_block(
     requires still { AreStill own.now.class (column_score own.now column) first men.now side still.now }
     ensures { result ≡ true → (a b : ℕ) → a < 64 → b < 64 → AreAdvanceScores column own.now first men.now side a b (at out.new a b) }
 {
-    step_block(
-        &TableScores { table: own },
-        column,
-        first,
-        men,
-        side,
-        still,
-        out,
-    );
+    step_block(own, column, first, men, side, still, out);
     let mut leaps = nothing();
-    if !leap_block(
-        &TableScores { table: own },
-        column,
-        first,
-        men,
-        side,
-        &mut leaps,
-    ) {
+    if !leap_block(own, column, first, men, side, &mut leaps) {
         return false;
     }
     raise(out, &leaps);
@@ -183,7 +169,7 @@ fn advances_block(
 /// The greatest scores of the positions after all advances without promotion of both men, as far as they are pawns of that
 /// side; `still` are the scores of the men where they stand, the other side to move. False where the table does not tell.
 pub fn own_pawn_moves(
-    own: &Table,
+    own: &Own,
     column: Column,
     men: &ShelfMen,
     side: Side,

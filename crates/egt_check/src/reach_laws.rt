@@ -46,7 +46,7 @@ pub fn due_reaches_are_right()
 /// The greatest scores in that column of the codes after all moves are those of the moves, in tables where it is read as a mate column.
 pub fn all_reach_scores_give_all_moves()
     ensures { (tables : Tables) (four : FourMen) (men : ShelfMen) (side : Side) (passed : Bool) (a b : ℕ) (p : Setup) (reach : ℕ) → AreTablesOf (near_tables tables) (four_in Reach four) men → men.one.kind ≢ K → men.last.kind ≢ K →
-        HasStand four.own.now.class false (stand_on men a b) side passed p → AreAllReachScores passed four men side a b reach → (zeroing : ℕ) × AreGiven (near_tables tables) p (λ m. Unit {0}) reach zeroing }
+        HasStand four.own.class false (stand_on men a b) side passed p → AreAllReachScores passed four men side a b reach → (zeroing : ℕ) × AreGiven (near_tables tables) p (λ m. Unit {0}) reach zeroing }
 {
     a_code_is_an_index_or_void();
     all_scores_give_all_moves();

@@ -34,19 +34,11 @@ pub fn reach_scores(
 ) -> bool
     requires men { AreFourMen columns.Reach four.now men.now }
     requires leaving { HoldsExits columns.Reach four.now.children men.now side leaving.now }
-    requires kept { AreKept four.now.own.now.class (column_score four.now.own.now) men.now (other_side side) keys.old blocks.old }
-    ensures kept { result ≡ true → AreKept four.now.own.now.class (column_score four.now.own.now) men.now (other_side side) keys.new blocks.new }
+    requires kept { AreKept four.now.own.class (column_score four.now.own) men.now (other_side side) keys.old blocks.old }
+    ensures kept { result ≡ true → AreKept four.now.own.class (column_score four.now.own) men.now (other_side side) keys.new blocks.new }
     ensures scores { result ≡ true → (a b : ℕ) → a < 64 → b < 64 → AreReachScores four.now men.now side a b (at out.new a b) }
 {
-    if !quiet_block(
-        &TableScores { table: four.own },
-        Column::Reach,
-        men,
-        side,
-        keys,
-        blocks,
-        out,
-    ) {
+    if !quiet_block(&four.own, Column::Reach, men, side, keys, blocks, out) {
         return false;
     }
     let mut zeroed = nothing();

@@ -19,6 +19,7 @@ use crate::rows::row_of;
 use crate::successors::entries_at;
 use egt_blocks::digits::digit_on;
 use egt_board::{Man, Position, Side, SquareSet};
+use egt_class::Class;
 use egt_index::laws::{codes_spell_one_position, codes_tell_turned_men};
 use egt_index::{ShelfMen, code_of, last_digits, position, size};
 use egt_lanes::Row;
@@ -85,11 +86,10 @@ fn ends_are_right(table: &Table, part: Part, man: Man, first: u32, ends: SquareS
 }
 
 /// The shelf's first number with that side to move.
-pub fn first_of(table: &Table, shelf: u32, side: Side) -> u32
-    requires within { IsWithin table.now.class shelf }
-    ensures { result ≡ number_in table.now.class shelf side 0 }
+pub fn first_of(class: Class, shelf: u32, side: Side) -> u32
+    requires within { IsWithin class shelf }
+    ensures { result ≡ number_in class shelf side 0 }
 {
-    let class = table.class();
     let _size = size(class);
     let first = shelf * (2 * last_digits(class));
     match side {
@@ -165,5 +165,11 @@ pub(crate) fn row_is_right(
         return false;
     }
     let ends = lanes_of(own).without(moving);
-    ends_are_right(table, part, men.last, first_of(table, shelf, side), ends)
+    ends_are_right(
+        table,
+        part,
+        men.last,
+        first_of(table.class(), shelf, side),
+        ends,
+    )
 }

@@ -76,13 +76,13 @@ fn side_is_right(
 ) -> bool
     requires men { AreFourMen (column_of part) four.now men.now }
     requires room { first + half + 64 < 4294967296 }
-    requires kept { AreKept four.now.own.now.class (column_score four.now.own.now) men.now (other_side side) keys.old blocks.old }
-    ensures kept { result ≡ true → AreKept four.now.own.now.class (column_score four.now.own.now) men.now (other_side side) keys.new blocks.new }
+    requires kept { AreKept four.now.own.class (column_score four.now.own) men.now (other_side side) keys.old blocks.old }
+    ensures kept { result ≡ true → AreKept four.now.own.class (column_score four.now.own) men.now (other_side side) keys.new blocks.new }
     ensures judged { result ≡ true → (tables : Tables) → AreTablesOf (tables_in part tables) (four_in part four.now) men.now →
-        AreJudged part tables four.now.own.now men.now first side × AreJudged part tables four.now.own.now men.now (first + half) side }
+        AreJudged part tables four.now.own men.now first side × AreJudged part tables four.now.own men.now (first + half) side }
 {
     a_code_is_an_index_or_void();
-    if side_is_blank(four.own, column_of(part), men, first, half, side) {
+    if side_is_blank(&four.own, column_of(part), men, first, half, side) {
         return true;
     }
     block_is_right(four, men, part, first, half, side, keys, blocks)
@@ -103,10 +103,10 @@ fn pair_is_right(
 ) -> bool
     requires men { AreFourMen (column_of part) four.now men.now }
     requires room { first + half + 64 < 4294967296 }
-    requires kept { AreKept four.now.own.now.class (column_score four.now.own.now) men.now (other_side side) keys.old blocks.old }
-    ensures kept { result ≡ true → AreKept four.now.own.now.class (column_score four.now.own.now) men.now (other_side side) keys.new blocks.new }
+    requires kept { AreKept four.now.own.class (column_score four.now.own) men.now (other_side side) keys.old blocks.old }
+    ensures kept { result ≡ true → AreKept four.now.own.class (column_score four.now.own) men.now (other_side side) keys.new blocks.new }
     ensures judged { result ≡ true → (tables : Tables) → AreTablesOf (tables_in part tables) (four_in part four.now) men.now →
-        AreJudged part tables four.now.own.now men.now first side × AreJudged part tables four.now.own.now men.now (first + half) side }
+        AreJudged part tables four.now.own men.now first side × AreJudged part tables four.now.own men.now (first + half) side }
 {
     let Some(here) = shelf_men(four.own.class(), first) else {
         return false;
@@ -126,7 +126,7 @@ fn side_pairs_are_right(
     requires men { AreFourMen (column_of part) four.now men.now }
     requires few { 64 * pairs.now.kings < 4294967296 }
     requires room { 64 * pairs.now.kings * pairs.now.step + pairs.now.half + 64 < 4294967296 }
-    ensures { result ≡ true → (tables : Tables) → AreTablesOf (tables_in part tables) (four_in part four.now) men.now → AreJudgedPairs part tables four.now.own.now men.now pairs.now side }
+    ensures { result ≡ true → (tables : Tables) → AreTablesOf (tables_in part tables) (four_in part four.now) men.now → AreJudgedPairs part tables four.now.own men.now pairs.now side }
 {
     let mut keys = no_keys();
     let mut blocks = [nothing(); NEAR_PLACES];
@@ -151,7 +151,7 @@ fn side_pairs_are_right(
 /// Whether all entries of the part keep the rules, at all codes of the class.
 pub fn pairs_are_right(four: &FourMen, men: &ShelfMen, part: Part) -> bool
     requires men { AreFourMen (column_of part) four.now men.now }
-    ensures { result ≡ true → (tables : Tables) → AreTablesOf (tables_in part tables) (four_in part four.now) men.now → (i : ℕ) → i < size_of four.now.own.now.class → KeepsPart part tables four.now.own.now i }
+    ensures { result ≡ true → (tables : Tables) → AreTablesOf (tables_in part tables) (four_in part four.now) men.now → (i : ℕ) → i < size_of four.now.own.class → KeepsPart part tables four.now.own i }
 {
     judged_pairs_hold_all_codes();
     let Some(pairs) = pairs_of(four.own.class(), men) else {
@@ -311,8 +311,8 @@ pub fn children_of<'t>(
     part: Part,
 ) -> Option<Children<'t>>
     ensures of { IfSome result (λ children. AreChildren (column_of part) children men.now) }
-    ensures four { IfSome result (λ children. (four : FourMen) → four.children ≡ children → IsOwnTable part class men.now four.own.now →
-        AreFourMen (column_of part) four men.now × AreTablesOf (tables_in part (beside (table_at library.now) four.own.now)) (four_in part four) men.now) }
+    ensures four { IfSome result (λ children. (four : FourMen) → four.children ≡ children → IsOwnTable part class men.now four.own →
+        AreFourMen (column_of part) four men.now × AreTablesOf (tables_in part (beside (table_at library.now) four.own)) (four_in part four) men.now) }
 {
     if is_king(men.one) || is_king(men.last) || !is_own_class(class, men) {
         return None;
@@ -348,7 +348,7 @@ pub(crate) fn four_men<'t>(
     requires there { HasColumn (column_of part) table.now }
     requires bytes { HasBytes (table_in part table.now) }
     requires men { AreMenOf table.now.class men.now }
-    ensures own { IfSome result (λ four. four.own.now ≡ table.now) }
+    ensures own { IfSome result (λ four. four.own ≡ table.now) }
     ensures of { IfSome result (λ four. AreFourMen (column_of part) four men.now) }
     ensures tables { IfSome result (λ four. AreTablesOf (tables_in part (beside (table_at library.now) table.now)) (four_in part four) men.now) }
 {

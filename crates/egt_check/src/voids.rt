@@ -9,7 +9,7 @@ ghost use Rattle.egt_table.specs.Table.{HasColumn};
 ghost use Rattle.egt_check.specs.Voids.{AreAllAlike, TellsVoids, TellsVoidsIn};
 ghost use Rattle.egt_check.specs.Worth.{column_score};
 
-use crate::rows::row_of;
+use crate::own::Own;
 use egt_blocks::digits::first_square;
 use egt_board::Side;
 use egt_class::Class;
@@ -35,7 +35,7 @@ pub(crate) fn is_passed(class: Class, men: &ShelfMen, shelf: u32) -> Option<bool
 
 /// At which numbers of the shelf with that side to move the entry's score is not 0, by the last man's digits, as bits.
 pub(crate) fn marks_of(
-    table: &Table,
+    table: &Own,
     column: Column,
     men: &ShelfMen,
     shelf: u32,
@@ -49,7 +49,7 @@ pub(crate) fn marks_of(
         bit_at result k ≡ (if column_score table.now column (code_of table.now.class (number_in table.now.class shelf side k)) == 0 then 0 else 1) }
 {
     codes_tell_turned_men();
-    let row = row_of(table, column, men, shelf, side, passed);
+    let row = table.row(column, men, shelf, side, passed);
     lanes_of(row).bits >> first_square(men.last)
 }
 
@@ -68,8 +68,9 @@ fn tells_shelf(table: &Table, shelf: u32) -> bool
         return false;
     };
     let indexes = indexes_of(class, shelf);
-    let white = marks_of(table, Column::Mate, &men, shelf, Side::White, passed);
-    let black = marks_of(table, Column::Mate, &men, shelf, Side::Black, passed);
+    let own = Own::of_table(table);
+    let white = marks_of(&own, Column::Mate, &men, shelf, Side::White, passed);
+    let black = marks_of(&own, Column::Mate, &men, shelf, Side::Black, passed);
     white == indexes.white && black == indexes.black
 }
 

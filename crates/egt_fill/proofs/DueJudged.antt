@@ -21,16 +21,16 @@ use Rattle.egt_fill.specs.Settled.{AreAllDue, AreDue}
 -- entries of a part that are due to the greatest scores of all moves keep the rules, one by one
 abbrev pub DueAreRight : Type 0
 DueAreRight = (part : Part) (tables : Tables) (four : FourMen) (men : ShelfMen) (side : Side) (passed : Bool) (a b i score zeroing : ℕ) → AreTablesOf (tables_in part tables) (four_in part four) men → men.one.kind ≢ K → men.last.kind ≢ K
-    → IsRightLane part passed four.own.now men side a b i score zeroing → AreAllScoresOf part passed four men side a b score zeroing → KeepsPart part tables four.own.now i
+    → IsRightLane part passed four.own men side a b i score zeroing → AreAllScoresOf part passed four men side a b score zeroing → KeepsPart part tables four.own i
 
 module _ (right : DueAreRight) (part : Part) (tables : Tables) (four : FourMen) (men : ShelfMen) (are : AreTablesOf (tables_in part tables) (four_in part four) men) (one : men.one.kind ≢ K) (last : men.last.kind ≢ K)
-    (t : TableValue) (own : four.own.now ≡ t) (children : Children) (same : four.children ≡ children) where
-  own_judged : (passed : Bool) (first : ℕ) (side : Side) → AreDue part passed four.own.now children men first side → AreJudged part tables four.own.now men first side
+    (t : TableValue) (own : four.own ≡ t) (children : Children) (same : four.children ≡ children) where
+  own_judged : (passed : Bool) (first : ℕ) (side : Side) → AreDue part passed four.own children men first side → AreJudged part tables four.own men first side
   own_judged passed first side due = λ x y x_in y_in.
       let lane = due x y x_in y_in in
       let a = x + kind_less men.one.kind in
       let b = y + kind_less men.last.kind in
-      right part tables four men side passed a b (code_of four.own.now.class (number_in four.own.now.class (first + x) side y)) lane.0 lane.1 are one last lane.2 (lane.3 four refl same)
+      right part tables four men side passed a b (code_of four.own.class (number_in four.own.class (first + x) side y)) lane.0 lane.1 are one last lane.2 (lane.3 four refl same)
 
   pub due_judged : (passed : Bool) (first : ℕ) (side : Side) → AreDue part passed t children men first side → AreJudged part tables t men first side
   due_judged passed first side = subst (λ (u : TableValue). AreDue part passed u children men first side → AreJudged part tables u men first side) own (own_judged passed first side)

@@ -78,7 +78,7 @@ module _ (part : Part) (white black : ℕ) (s : Side) (old new : TableValue) (me
   pub scores_in_stay : (passed : Bool) (children : Children) (men : ShelfMen) (side : Side) → ¬ ReadsKings old.class men side white black s
       → (a b score zeroing : ℕ) → AreScoresIn part passed old children men side a b score zeroing → AreScoresIn part passed new children men side a b score zeroing
   scores_in_stay passed children men side unread a b score zeroing are four own_is children_is =
-      let before : FourMen = record { own = record { ref_ptr = four.own.ref_ptr; now = old }; children = four.children } in
+      let before : FourMen = record { own = old; children = four.children } in
       scores_stay part white black s before four refl (subst (λ t. IsMended part white black s old t) (sym own_is) mended) passed men side unread a b score zeroing (are before refl children_is)
 
   -- ---- shelves of men whose moves lead to none of the entries that were put

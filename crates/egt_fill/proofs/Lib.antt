@@ -1,6 +1,6 @@
 pub mod PutEntries
+pub mod LanesPut
 pub mod ShelfLanes
-pub mod UnlikeRows
 pub mod ToldOnce
 pub mod KeptThrough
 pub mod KeysForgotten
@@ -12,8 +12,8 @@ pub mod DueJudged
 pub mod StampPlaces
 pub mod ItemMended
 pub mod ItemSeen
-pub mod DrawnCodes
 pub mod DrawnBytes
+pub mod DrawnEntries
 pub mod FilledTables
 pub mod StillUnderWay
 pub mod PassKept

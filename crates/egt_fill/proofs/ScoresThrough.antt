@@ -1,6 +1,5 @@
 -- The greatest scores of all moves stay when entries that no move leads to are put.
 use Rattle.std.proofs.Common.{◌≡◌, ◌⊎◌, ℕ, Bool, true, false, Option, refl, sym, ap, inl, inr, subst}
-use Rattle.std.specs.Borrow.{Bor}
 use Rattle.egt_board.specs.Man.{other_side}
 use Rattle.egt_board.specs.declared.man.Man.{Man}
 use Rattle.egt_board.specs.declared.man.Side.{Side}
@@ -75,32 +74,32 @@ reads_kings c code men side white black s read of = elim read.kings [
 
 -- ---- scores of moves, by another table of the class
 
-module _ (own next : Bor TableValue) (children : Children) (men : ShelfMen) (side : Side) (alike : AreReadAlike own.now next.now men side) where
+module _ (own next : TableValue) (children : Children) (men : ShelfMen) (side : Side) (alike : AreReadAlike own next men side) where
   abbrev before : FourMen
   before = record { own = own; children = children }
 
   abbrev after : FourMen
   after = record { own = next; children = children }
 
-  raised : (column : Column) (In : ℕ → ℕ → Type 0) (high : ℕ) → ((code : ℕ) → In own.now.class code → IsReadFor own.now.class men side code)
-      → IsRaised 0 (In own.now.class) (column_score own.now column) high → IsRaised 0 (In next.now.class) (column_score next.now column) high
-  raised column In high read is = subst (λ c. IsRaised 0 (In c) (column_score next.now column) high) (sym alike.class)
-      (raised_worth 0 high (In own.now.class) (column_score own.now column) (column_score next.now column) (λ code at. alike.same column code (read code at)) is)
+  raised : (column : Column) (In : ℕ → ℕ → Type 0) (high : ℕ) → ((code : ℕ) → In own.class code → IsReadFor own.class men side code)
+      → IsRaised 0 (In own.class) (column_score own column) high → IsRaised 0 (In next.class) (column_score next column) high
+  raised column In high read is = subst (λ c. IsRaised 0 (In c) (column_score next column) high) (sym alike.class)
+      (raised_worth 0 high (In own.class) (column_score own column) (column_score next column) (λ code at. alike.same column code (read code at)) is)
 
-  quiet : (column : Column) (a b high : ℕ) → IsRaised 0 (AreQuietCodes own.now.class men side a b) (column_score own.now column) high → IsRaised 0 (AreQuietCodes next.now.class men side a b) (column_score next.now column) high
+  quiet : (column : Column) (a b high : ℕ) → IsRaised 0 (AreQuietCodes own.class men side a b) (column_score own column) high → IsRaised 0 (AreQuietCodes next.class men side a b) (column_score next column) high
   quiet column a b high = raised column (λ c. AreQuietCodes c men side a b) high (λ code is. record { passed = false; stand = is.0; kings = quiet_kings men side a b is.0 is.1; is = is.2 })
 
   -- the men may be named in the other order
   module _ (column : Column) (first : Bool) (at : ShelfMen) (a b : ℕ) (white : at.white ≡ men.white) (black : at.black ≡ men.black) where
-    stepped : (high : ℕ) → IsRaised 0 (AreStepCodes own.now.class first at side a b) (column_score own.now column) high → IsRaised 0 (AreStepCodes next.now.class first at side a b) (column_score next.now column) high
+    stepped : (high : ℕ) → IsRaised 0 (AreStepCodes own.class first at side a b) (column_score own column) high → IsRaised 0 (AreStepCodes next.class first at side a b) (column_score next column) high
     stepped high = raised column (λ c. AreStepCodes c first at side a b) high
         (λ code is. record { passed = false; stand = stand_after first false at a at.last is.0; kings = pawn_kings first men at side a at.last is.0 white black; is = is.3 })
 
-    leapt : (high : ℕ) → IsRaised 0 (AreLeapCodes own.now.class first at side a b) (column_score own.now column) high → IsRaised 0 (AreLeapCodes next.now.class first at side a b) (column_score next.now column) high
+    leapt : (high : ℕ) → IsRaised 0 (AreLeapCodes own.class first at side a b) (column_score own column) high → IsRaised 0 (AreLeapCodes next.class first at side a b) (column_score next column) high
     leapt high = raised column (λ c. AreLeapCodes c first at side a b) high
         (λ code is. record { passed = true; stand = stand_after first false at a at.last is.0; kings = pawn_kings first men at side a at.last is.0 white black; is = is.3 })
 
-    pawn : (kinds : Promotions) (score : ℕ) → ArePawnScores column own.now first kinds at side a b score → ArePawnScores column next.now first kinds at side a b score
+    pawn : (kinds : Promotions) (score : ℕ) → ArePawnScores column own first kinds at side a b score → ArePawnScores column next first kinds at side a b score
     pawn kinds score is = record {
       stepped = is.stepped;
       leapt = is.leapt;
@@ -115,11 +114,11 @@ module _ (own next : Bor TableValue) (children : Children) (men : ShelfMen) (sid
       knight_is = is.knight_is;
     }
 
-    by_pawn : (promotions : Option Promotions) (low high : ℕ) → IsRaisedByPawn column own.now first promotions at side a b low high → IsRaisedByPawn column next.now first promotions at side a b low high
+    by_pawn : (promotions : Option Promotions) (low high : ℕ) → IsRaisedByPawn column own first promotions at side a b low high → IsRaisedByPawn column next first promotions at side a b low high
     by_pawn promotions low high (inl none) = inl none
     by_pawn promotions low high (inr is) = inr (is.0, is.1, is.2, is.3, is.4, pawn is.2 is.4 is.5, is.6)
 
-  by_pawns : (column : Column) (first last : Option Promotions) (a b score : ℕ) → AreRaisedByPawns column own.now first last men side a b score → AreRaisedByPawns column next.now first last men side a b score
+  by_pawns : (column : Column) (first last : Option Promotions) (a b score : ℕ) → AreRaisedByPawns column own first last men side a b score → AreRaisedByPawns column next first last men side a b score
   by_pawns column first last a b score is = record {
     by_first = is.by_first;
     by_last = is.by_last;
@@ -187,7 +186,7 @@ module _ (own next : Bor TableValue) (children : Children) (men : ShelfMen) (sid
   all_scores Reach passed a b score zeroing is = all_reach passed a b score is
 
 -- the children's tables may be told by an equation
-scores_alike : (part : Part) (four next : FourMen) (men : ShelfMen) (side : Side) → next.children ≡ four.children → AreReadAlike four.own.now next.own.now men side
+scores_alike : (part : Part) (four next : FourMen) (men : ShelfMen) (side : Side) → next.children ≡ four.children → AreReadAlike four.own next.own men side
     → (passed : Bool) (a b score zeroing : ℕ) → AreAllScoresOf part passed four men side a b score zeroing → AreAllScoresOf part passed next men side a b score zeroing
 scores_alike part four next men side children alike passed a b score zeroing is =
     subst (λ c. AreAllScoresOf part passed (record { own = next.own; children = c }) men side a b score zeroing) (sym children)
@@ -196,23 +195,23 @@ scores_alike part four next men side children alike passed a b score zeroing is 
 -- ---- scores of all moves
 
 -- entries of kings that are not read were put
-pub scores_stay : (part : Part) (white black : ℕ) (s : Side) (four next : FourMen) → next.children ≡ four.children → IsMended part white black s four.own.now next.own.now
-    → (passed : Bool) (men : ShelfMen) (side : Side) → ¬ ReadsKings four.own.now.class men side white black s
+pub scores_stay : (part : Part) (white black : ℕ) (s : Side) (four next : FourMen) → next.children ≡ four.children → IsMended part white black s four.own next.own
+    → (passed : Bool) (men : ShelfMen) (side : Side) → ¬ ReadsKings four.own.class men side white black s
     → (a b score zeroing : ℕ) → AreAllScoresOf part passed four men side a b score zeroing → AreAllScoresOf part passed next men side a b score zeroing
 scores_stay part white black s four next children mended passed men side apart = scores_alike part four next men side children alike passed
   where
-    alike : AreReadAlike four.own.now next.own.now men side
+    alike : AreReadAlike four.own next.own men side
     alike = record {
       class = mended.class;
-      same = λ column code read. score_stays part white black s four.own.now next.own.now mended column code (λ of. apart (reads_kings four.own.now.class code men side white black s read of));
+      same = λ column code read. score_stays part white black s four.own next.own mended column code (λ of. apart (reads_kings four.own.class code men side white black s read of));
     }
 
 -- the table is seen through another reference
-pub scores_same : (part : Part) (four next : FourMen) → next.own.now ≡ four.own.now → next.children ≡ four.children
+pub scores_same : (part : Part) (four next : FourMen) → next.own ≡ four.own → next.children ≡ four.children
     → (passed : Bool) (men : ShelfMen) (side : Side) (a b score zeroing : ℕ) → AreAllScoresOf part passed four men side a b score zeroing → AreAllScoresOf part passed next men side a b score zeroing
 scores_same part four next own children passed men side = scores_alike part four next men side children alike passed
   where
-    alike : AreReadAlike four.own.now next.own.now men side
+    alike : AreReadAlike four.own next.own men side
     alike = record {
       class = ap (λ (t : TableValue). t.class) own;
       same = λ column code read. ap (λ (t : TableValue). column_score t column code) own;

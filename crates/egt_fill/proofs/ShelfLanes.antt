@@ -44,6 +44,10 @@ pub code_at : (c d first digit shelf : ℕ) (side : Side) (code : ℕ) → d ≡
 code_at c d first digit shelf side code same from is =
     is ∙ ap (λ k. code_of k (first + 2 * digit)) same ∙ ap (code_of c) (let e : first + 2 * digit ≡ number_in c shelf side digit = omega (arith, from) in e)
 
+-- the first number by the class
+pub first_here : (d c first shelf : ℕ) (side : Side) → d ≡ c → first ≡ number_in d shelf side 0 → first ≡ number_in c shelf side 0
+first_here d c first shelf side same is = is ∙ ap (λ k. number_in k shelf side 0) same
+
 -- one more is put
 pub more : (part : Part) (d first digit square : ℕ) (shelf : Shelf) (lanes : SquareSet) (code : ℕ) (old mid new : TableValue) → digit < kind_digits shelf.men.last.kind → digit + kind_less shelf.men.last.kind ≡ square → Has lanes square
     → d ≡ old.class → first ≡ number_in old.class shelf.number shelf.side 0 → code ≡ code_of d (first + 2 * digit)

@@ -10,3 +10,4 @@ pub mod UnderWay
 pub mod Rounds
 pub mod Forgotten
 pub mod Begun
+pub mod Ends

@@ -18,7 +18,7 @@ use Rattle.egt_fill.specs.declared.filling.Filling.{Filling}
 
 -- the greatest scores of all moves, the class's own table being this one
 abbrev pub AreScoresIn : Part → (passed : Bool) → TableValue → Children → ShelfMen → Side → (a b score zeroing : ℕ) → Type 0
-AreScoresIn part passed t children men side a b score zeroing = (four : FourMen) → four.own.now ≡ t → four.children ≡ children → AreAllScoresOf part passed four men side a b score zeroing
+AreScoresIn part passed t children men side a b score zeroing = (four : FourMen) → four.own ≡ t → four.children ≡ children → AreAllScoresOf part passed four men side a b score zeroing
 
 -- the part's entries of the shelves from this one on, one for each digit of the first man, with that side to move, are due to them
 abbrev pub AreDue : Part → (passed : Bool) → TableValue → Children → ShelfMen → (first : ℕ) → Side → Type 0
@@ -36,5 +36,5 @@ pub record IsFilling (f : Filling) : Type 0 where
   pub below : f.class < 36
   pub men_of : AreMenOf f.class f.men
   pub children : AreChildren (column_of f.part) f.children f.men
-  pub four : (four : FourMen) → four.children ≡ f.children → IsOwnTable f.part f.class f.men four.own.now →
-      AreFourMen (column_of f.part) four f.men × AreTablesOf (tables_in f.part (beside (table_at f.library.now) four.own.now)) (four_in f.part four) f.men
+  pub four : (four : FourMen) → four.children ≡ f.children → IsOwnTable f.part f.class f.men four.own →
+      AreFourMen (column_of f.part) four f.men × AreTablesOf (tables_in f.part (beside (table_at f.library.now) four.own)) (four_in f.part four) f.men

@@ -15,13 +15,14 @@ use crate::stamps::stamp_place;
 use egt_blocks::blocks::{begin_with, nothing};
 use egt_board::{Side, SquareSet};
 use egt_check::blank::side_is_blank;
+use egt_check::found::Found;
 use egt_check::move_scores::exits;
+use egt_check::own::Own;
 use egt_check::pair_order::nth_pair;
 use egt_check::pairs::{Pairs, pairs_of};
 use egt_check::part::column_of;
 use egt_check::table_judging::with_kings;
 use egt_index::{ShelfMen, shelf_men};
-use egt_table::Table;
 use std::alloc::{AllocError, Global};
 
 /// Whether the shelves of the men begin with this one, and those with a target `half` further on.
@@ -86,7 +87,7 @@ fn item_of(
 fn begin_pair(
     alloc: Global,
     f: &Filling,
-    table: &Table,
+    table: &Found,
     first: u32,
     side: Side,
     items: &mut Vec<Item>,
@@ -103,7 +104,8 @@ fn begin_pair(
         return Ok(false);
     };
     let men = with_kings(&f.men, here.white, here.black);
-    if side_is_blank(table, column_of(f.part), &men, first, f.half, side) {
+    let own = Own::of_found(table);
+    if side_is_blank(&own, column_of(f.part), &men, first, f.half, side) {
         return Ok(true);
     }
     let Some(item) = item_of(alloc, f, &men, first, side)? else {
@@ -117,7 +119,7 @@ fn begin_pair(
 fn begin_side(
     alloc: Global,
     f: &Filling,
-    table: &Table,
+    table: &Found,
     pairs: &Pairs,
     side: Side,
     items: &mut Vec<Item>,
@@ -145,7 +147,7 @@ fn begin_side(
 pub(crate) fn begun_items(
     alloc: Global,
     f: &Filling,
-    table: &Table,
+    table: &Found,
 ) -> Result<Option<Vec<Item>>, AllocError>
     requires filling { IsFilling f.now }
     requires table { IsOwnTable f.now.part f.now.class f.now.men table.now }

@@ -12,13 +12,14 @@ use crate::items::Item;
 use crate::stamps::stamp_place;
 use egt_board::{Side, Square};
 use egt_check::blank::side_is_blank;
+use egt_check::found::Found;
+use egt_check::own::Own;
 use egt_check::pairs::{judged_pairs_hold_all_codes, pairs_of};
 use egt_check::part::column_of;
 use egt_check::part_laws::entries_due_to_all_moves_are_right;
 use egt_check::table_judging::with_kings;
 use egt_index::laws::a_code_is_an_index_or_void;
 use egt_index::shelf_men;
-use egt_table::Table;
 
 /// Whether there is an item of these shelves, at the place of the kings who stand there.
 fn has_item(
@@ -43,7 +44,7 @@ fn has_item(
 /// Whether all entries of the shelves from this one on with that side to move, and of those `half` further on, are of no position or those of an item.
 pub(crate) fn pair_is_covered(
     filling: &Filling,
-    table: &Table,
+    table: &Found,
     first: u32,
     side: Side,
     items: &[Item],
@@ -61,8 +62,9 @@ pub(crate) fn pair_is_covered(
         return false;
     };
     let there = with_kings(&filling.men, here.white, here.black);
+    let own = Own::of_found(table);
     if side_is_blank(
-        table,
+        &own,
         column_of(filling.part),
         &there,
         first,
@@ -77,7 +79,7 @@ pub(crate) fn pair_is_covered(
 /// Whether so are those of all shelves, with either side to move: then all entries of the part keep the rules.
 pub(crate) fn all_are_covered(
     filling: &Filling,
-    table: &Table,
+    table: &Found,
     items: &[Item],
     places: &[u32],
 ) -> bool

@@ -6,13 +6,12 @@
 pub mod beginning;
 pub mod begun;
 pub mod covering;
-pub mod entry_of;
+pub mod ends;
 pub mod filling;
 mod forgetting;
 pub mod items;
 pub mod looking;
 pub mod mending;
-pub mod putting;
 pub mod rounds;
 pub mod settling;
 pub mod stamps;

@@ -15,13 +15,13 @@ use crate::mending::{Mended, Shelf, mend_shelves};
 use egt_blocks::blocks::nothing;
 use egt_blocks::kept_blocks::BlockKey;
 use egt_check::block_judging::{part_scores, raise_part_passed};
-use egt_check::move_scores::{beside_own, passing_captures};
+use egt_check::found::Found;
+use egt_check::move_scores::{beside_found, passing_captures};
 use egt_check::part::column_of;
 use egt_check::table_judging::with_kings;
 use egt_index::ShelfMen;
 use egt_index::laws::numbers_stand_for_codes;
 use egt_lanes::Block;
-use egt_table::Table;
 
 /// The greatest scores of all moves, where there is no target and where there is one; the second of each are of the zeroing column alone.
 #[derive(Drop)]
@@ -35,7 +35,7 @@ pub(crate) struct Scores {
 /// The greatest scores of all moves from the item's positions. False where a table does not tell.
 fn item_scores(
     f: &Filling,
-    table: &Table,
+    table: &Found,
     item: &Item,
     men: &ShelfMen,
     keys: &mut [Option<BlockKey>],
@@ -51,7 +51,7 @@ fn item_scores(
     ensures scores { result ≡ true → AreItemScores f.now table.now men.now item.now.side out.new }
 {
     let side = item.side;
-    let four = beside_own(table, &f.children);
+    let four = beside_found(table, &f.children);
     let mut plain = nothing();
     let mut clocks = nothing();
     if !part_scores(
@@ -97,7 +97,7 @@ fn together(one: Mended, other: Mended) -> Mended
 /// Puts what is due to the scores in the item's entries.
 fn mend_item(
     f: &Filling,
-    table: &mut Table,
+    table: &mut Found,
     item: &mut Item,
     men: &ShelfMen,
     scores: &Scores,
@@ -149,7 +149,7 @@ fn mend_item(
 /// Looks at the item's positions: puts what is due to the greatest scores of all moves.
 pub(crate) fn look(
     f: &Filling,
-    table: &mut Table,
+    table: &mut Found,
     item: &mut Item,
     keys: &mut [Option<BlockKey>],
     blocks: &mut [Block],

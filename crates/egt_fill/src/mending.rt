@@ -5,29 +5,35 @@ ghost use Rattle.egt_board.specs.SquareSet.{Has};
 ghost use Rattle.egt_index.specs.Numbers.{code_of};
 ghost use Rattle.egt_index.specs.Scales.{kind_digits, kind_less};
 ghost use Rattle.egt_index.specs.ShelfCodes.{AreMenOf, number_in};
+ghost use Rattle.egt_index.specs.Size.{size_of};
 ghost use Rattle.egt_blocks.specs.Blocks.{AreShelvesOf};
 ghost use Rattle.egt_table.specs.Table.{HasColumn};
 ghost use Rattle.egt_check.specs.Parts.{column_of, table_in};
 ghost use Rattle.egt_entries.specs.declared.metric.Metric.TheVariants.{Zeroing};
+ghost use Rattle.egt_check.specs.Found.{IsToldAt};
+ghost use Rattle.egt_check.specs.RightRow.{IsRightEndOf};
+ghost use Rattle.egt_check.specs.ScoreRows.{IsMaskOf};
 ghost use Rattle.egt_check.specs.Worth.{HasBytes, score_at};
 ghost use Rattle.egt_check.specs.declared.part.Part.TheVariants as parts;
 ghost use Rattle.egt_fill.specs.Mended.{AllEnded, AreEnded, AreRightRows, IsCodeIn, IsCodeOf, IsLaneOf, IsMendedAt, IsPutAt, IsRightRow, IsRowSeen, IsShelf};
 ghost use Rattle.egt_fill.specs.declared.mending.Mended.TheVariants as mends;
 
-use crate::putting::{put, see_end};
+use crate::ends::end_score;
 use egt_blocks::blocks::begin_with;
 use egt_blocks::digits::{digit_on, digits_of, first_square};
 use egt_blocks::men::men_on;
 use egt_board::{Side, Square, SquareSet};
+use egt_check::found::Found;
+use egt_check::lane_sets::{mask_of, unlike};
 use egt_check::part::{Part, column_of};
 use egt_check::row_judging::{due_in, first_of};
-use egt_check::rows::row_of;
 use egt_index::laws::{codes_tell_turned_men, numbers_stand_for_codes};
 use egt_index::{ShelfMen, code_of, size};
+use egt_lanes::row::greater;
 use egt_lanes::score::due;
-use egt_lanes::sets::{kept, lanes_of};
+use egt_lanes::sets::lanes_of;
 use egt_lanes::{Block, Row};
-use egt_table::{Column, Table};
+use egt_table::Column;
 use std::simd::prelude::*;
 
 /// A shelf of a class: its men with all squares of the last one, the side to move, and whether its positions have a target.
@@ -39,82 +45,95 @@ pub(crate) struct Shelf {
     pub(crate) passed: bool,
 }
 
-/// Of each square what `within` has there where the rows differ, else 0.
-#[inline(always)]
-fn unlike(a: Row, b: Row, within: Row) -> Row
-    ensures { (s : ℕ) → s < 64 → slice_index result s ≡ (if slice_index a s == slice_index b s then 0 else slice_index within s) }
-{
-    a.simd_ne(b).select(within, Row::splat(0))
-}
-
-/// The squares at which the rows differ and `within` is not 0.
-#[inline(always)]
-fn apart(a: Row, b: Row, within: Row) -> SquareSet
-    ensures { (s : ℕ) → s < 64 → bit_at result.bits s ≡ 0 → slice_index within s ≢ 0 → slice_index a s ≡ slice_index b s }
-{
-    lanes_of(unlike(a, b, within))
-}
-
-/// Puts the entries with these scores at the shelf's codes with the last man on these squares. False where no entries have them.
+/// Puts the entries with these scores at the shelf's codes with the last man on these squares, where the mask is not 0.
+/// False where no entries have them that tell one result, and where a code is no index: then all stays as it is.
 fn put_lanes(
-    table: &mut Table,
+    table: &mut Found,
     part: Part,
     shelf: &Shelf,
     lanes: SquareSet,
+    mask: Row,
     scores: Row,
     clocks: Row,
 ) -> bool
     requires shelf { IsShelf table.old.class shelf.now }
+    requires mask { IsMaskOf lanes mask }
     requires there { HasColumn (column_of part) table.old }
     requires bytes { HasBytes (table_in part table.old) }
     ensures mended { IsMendedAt part (IsLaneOf table.old.class shelf.now lanes) table.old table.new }
+    ensures told { result ≡ true → (digit : ℕ) → digit < kind_digits shelf.now.men.last.kind → Has lanes (digit + kind_less shelf.now.men.last.kind) →
+        IsToldAt part table.new (code_of table.old.class (number_in table.old.class shelf.now.number shelf.now.side digit)) (slice_index scores (digit + kind_less shelf.now.men.last.kind)) (slice_index clocks (digit + kind_less shelf.now.men.last.kind)) }
     ensures put { result ≡ true → (digit : ℕ) → digit < kind_digits shelf.now.men.last.kind → Has lanes (digit + kind_less shelf.now.men.last.kind) →
         IsPutAt part table.new (code_of table.old.class (number_in table.old.class shelf.now.number shelf.now.side digit)) (slice_index scores (digit + kind_less shelf.now.men.last.kind)) (slice_index clocks (digit + kind_less shelf.now.men.last.kind)) }
 {
-    numbers_stand_for_codes();
-    let class = table.class();
-    let _size = size(class);
-    let first = first_of(table, shelf.number, shelf.side);
-    let mut rest = lanes;
-    while let Some(square) = rest.pop_first() {
-        let Some(digit) = digit_on(shelf.men.last, square) else {
-            return false;
-        };
-        let lane = usize::from(square.number());
-        let code = code_of(class, first + 2 * digit);
-        if !put(table, part, code, scores[lane], clocks[lane]) {
-            return false;
-        }
-    }
-    true
+    let _class = table.class();
+    table.put(
+        part,
+        &shelf.men,
+        shelf.number,
+        shelf.side,
+        lanes,
+        mask,
+        scores,
+        clocks,
+    )
 }
 
-/// The squares at which the zeroing column, which is put with the mate column, is not due to these scores, among those where `within` is not 0.
-fn wrong_clocks(table: &Table, part: Part, shelf: &Shelf, clocks: Row, within: Row) -> SquareSet
+/// Of each square where the zeroing column, which is put with the mate column, is not due to these scores what `within` has there, else 0.
+fn wrong_clocks(table: &Found, part: Part, shelf: &Shelf, clocks: Row, within: Row) -> Row
     requires shelf { IsShelf table.now.class shelf.now }
-    ensures { (digit : ℕ) → digit < kind_digits shelf.now.men.last.kind → bit_at result.bits (digit + kind_less shelf.now.men.last.kind) ≡ 0 → slice_index within (digit + kind_less shelf.now.men.last.kind) ≢ 0 →
+    ensures due { (digit : ℕ) → digit < kind_digits shelf.now.men.last.kind → slice_index result (digit + kind_less shelf.now.men.last.kind) ≡ 0 → slice_index within (digit + kind_less shelf.now.men.last.kind) ≢ 0 →
         part ≡ parts.Values → score_at table.now Zeroing (code_of table.now.class (number_in table.now.class shelf.now.number shelf.now.side digit)) ≡ slice_index clocks (digit + kind_less shelf.now.men.last.kind) }
+    ensures within { (s : ℕ) → s < 64 → slice_index within s ≡ 0 → slice_index result s ≡ 0 }
 {
     codes_tell_turned_men();
     match part {
         Part::Values => {
-            let own = row_of(
-                table,
+            let own = table.row(
                 Column::Zeroing,
                 &shelf.men,
                 shelf.number,
                 shelf.side,
                 shelf.passed,
             );
-            apart(own, clocks, within)
+            unlike(own, clocks, within)
         }
-        Part::Reach => SquareSet::EMPTY,
+        Part::Reach => Row::splat(0),
     }
+}
+
+/// Sees that the code's position, with the last man on the square of this digit, is checkmate or stalemate, and puts the entries
+/// that tell it. False where it has a move.
+fn see_end(
+    table: &mut Found,
+    part: Part,
+    shelf: &Shelf,
+    digit: u32,
+    square: Square,
+    code: u32,
+) -> bool
+    requires shelf { IsShelf table.old.class shelf.now }
+    requires there { HasColumn (column_of part) table.old }
+    requires bytes { HasBytes (table_in part table.old) }
+    requires below { digit < kind_digits shelf.now.men.last.kind }
+    requires on { digit + kind_less shelf.now.men.last.kind ≡ square }
+    requires code { code ≡ code_of table.old.class (number_in table.old.class shelf.now.number shelf.now.side digit) }
+    requires within { code < size_of table.old.class }
+    ensures mended { IsMendedAt part (λ i. i ≡ code) table.old table.new }
+    ensures right { result ≡ true → IsRightEndOf part table.new code }
+{
+    let _class = table.class();
+    let Some(score) = end_score(table.class(), code) else {
+        return false;
+    };
+    let lanes = SquareSet::EMPTY.with(square);
+    let scores = Row::splat(score);
+    put_lanes(table, part, shelf, lanes, mask_of(lanes), scores, scores)
 }
 
 /// Sees that the entries tell checkmate and stalemate at the shelf's codes with the last man on these squares, and puts those of checkmate where they do not.
 /// False where some position there has a move.
-fn see_ends(table: &mut Table, part: Part, shelf: &Shelf, ends: SquareSet) -> bool
+fn see_ends(table: &mut Found, part: Part, shelf: &Shelf, ends: SquareSet) -> bool
     requires shelf { IsShelf table.old.class shelf.now }
     requires there { HasColumn (column_of part) table.old }
     requires bytes { HasBytes (table_in part table.old) }
@@ -124,13 +143,14 @@ fn see_ends(table: &mut Table, part: Part, shelf: &Shelf, ends: SquareSet) -> bo
     numbers_stand_for_codes();
     let class = table.class();
     let _size = size(class);
-    let first = first_of(table, shelf.number, shelf.side);
+    let first = first_of(class, shelf.number, shelf.side);
     let mut rest = ends;
     while let Some(square) = rest.pop_first() {
         let Some(digit) = digit_on(shelf.men.last, square) else {
             return false;
         };
-        if !see_end(table, part, code_of(class, first + 2 * digit)) {
+        let code = code_of(class, first + 2 * digit);
+        if !see_end(table, part, shelf, digit, square, code) {
             return false;
         }
     }
@@ -148,48 +168,43 @@ pub(crate) enum Mended {
     Untold,
 }
 
-/// The last man's squares at which the entries of a row are not due to the greatest scores of the moves, and those at which there is no move and that `ended`
-/// lacks.
+/// The last man's squares at which the entries of a row are not due to the greatest scores of the moves, as a mask and as a set, and those at which there is no
+/// move and that `ended` lacks.
 fn row_seen(
-    table: &Table,
+    table: &Found,
     part: Part,
     shelf: &Shelf,
     scores: Row,
     zeroing: Row,
     ended: SquareSet,
-) -> (SquareSet, SquareSet)
+) -> (Row, SquareSet, SquareSet)
     requires shelf { IsShelf table.now.class shelf.now }
     requires there { HasColumn (column_of part) table.now }
-    ensures { IsRowSeen part table.now shelf.now scores zeroing ended result.0 result.1 }
+    ensures mask { IsMaskOf result.1 result.0 }
+    ensures seen { IsRowSeen part table.now shelf.now scores zeroing ended result.1 result.2 }
 {
     codes_tell_turned_men();
-    let own = row_of(
-        table,
+    let own = table.row(
         column_of(part),
         &shelf.men,
         shelf.number,
         shelf.side,
         shelf.passed,
     );
-    let moving = lanes_of(scores);
-    let within = kept(own, moving);
-    let wrong = apart(own, due_in(part, scores), within).union(wrong_clocks(
-        table,
-        part,
-        shelf,
-        due(zeroing),
-        within,
-    ));
-    (
-        wrong.common(moving),
-        lanes_of(own).without(moving).without(ended),
-    )
+    // A row's scores are 0 where there is no move, and its own entries where there is no position.
+    let within = unlike(scores, Row::splat(0), own);
+    let wrong = greater(
+        unlike(own, due_in(part, scores), within),
+        wrong_clocks(table, part, shelf, due(zeroing), within),
+    );
+    let ends = lanes_of(own).without(lanes_of(scores)).without(ended);
+    (wrong, lanes_of(wrong), ends)
 }
 
 /// Puts what is due to the greatest scores of the moves at the shelf's codes that are indexes. Where there is no move, the entries tell checkmate or stalemate
 /// from the first look on, and `ended` has the last man's square.
 pub(crate) fn mend_row(
-    table: &mut Table,
+    table: &mut Found,
     part: Part,
     shelf: &Shelf,
     scores: Row,
@@ -207,13 +222,13 @@ pub(crate) fn mend_row(
 {
     numbers_stand_for_codes();
     let _class = table.class();
-    let (wrong, ends) = row_seen(table, part, shelf, scores, zeroing, *ended);
-    if wrong.is_empty() && ends.is_empty() {
+    let (wrong, lanes, ends) = row_seen(table, part, shelf, scores, zeroing, *ended);
+    if lanes.is_empty() && ends.is_empty() {
         return Mended::Due;
     }
     let seen = ended.union(ends);
     // What was seen to have no move has none.
-    if !wrong.common(seen).is_empty() {
+    if !lanes.common(seen).is_empty() {
         return Mended::Untold;
     }
     if !see_ends(table, part, shelf, ends) {
@@ -224,6 +239,7 @@ pub(crate) fn mend_row(
         table,
         part,
         shelf,
+        lanes,
         wrong,
         due_in(part, scores),
         due(zeroing),
@@ -237,7 +253,7 @@ pub(crate) fn mend_row(
 /// Puts what is due to the greatest scores of the moves at the codes of the shelves of these men from this one on, one for each digit of the first man; `ended`
 /// has for each of his squares those of the last man at which there is no move.
 pub(crate) fn mend_shelves(
-    table: &mut Table,
+    table: &mut Found,
     part: Part,
     shelves: &Shelf,
     scores: &Block,

@@ -22,9 +22,9 @@ use crate::mending::Mended;
 use crate::stamps::{needs_look, stamp_place};
 use egt_blocks::kept_blocks::BlockKey;
 use egt_board::Side;
+use egt_check::found::Found;
 use egt_check::table_judging::with_kings;
 use egt_lanes::Block;
-use egt_table::Table;
 
 /// How many rounds there are at most. A distance in bytes needs fewer.
 const ROUNDS: u32 = 256;
@@ -44,7 +44,7 @@ enum Visited {
 /// forgotten. Blocks are kept of positions with the other side to move, which are read, and of those with the item's own.
 fn visit(
     f: &Filling,
-    table: &mut Table,
+    table: &mut Found,
     item: &mut Item,
     stamps: &mut [u32],
     tick: &mut u32,
@@ -97,7 +97,7 @@ fn is_side(one: Side, other: Side) -> bool
 /// Visits all items with that side to move. Whether one was looked at; `None` where its entries are not told. The contract alone reads the places.
 fn pass(
     f: &Filling,
-    table: &mut Table,
+    table: &mut Found,
     items: &mut [Item],
     places: &[u32],
     stamps: &mut [u32],
@@ -148,7 +148,7 @@ fn pass(
 /// Visits all items, those with White to move first. Whether one was looked at; `None` where its entries are not told. The contract alone reads the places.
 fn round(
     f: &Filling,
-    table: &mut Table,
+    table: &mut Found,
     items: &mut [Item],
     places: &[u32],
     stamps: &mut [u32],
@@ -210,7 +210,7 @@ fn round(
 /// there are too many rounds.
 pub(crate) fn settle_items(
     f: &Filling,
-    table: &mut Table,
+    table: &mut Found,
     items: &mut [Item],
     places: &[u32],
     stamps: &mut [u32],

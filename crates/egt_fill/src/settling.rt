@@ -22,10 +22,10 @@ use crate::looking::Scores;
 use crate::rounds::settle_items;
 use egt_blocks::blocks::nothing;
 use egt_blocks::kept_blocks::{BlockKey, RANK_PLACES};
+use egt_check::found::Found;
 use egt_class::Class;
 use egt_index::men::has_pawns;
 use egt_lanes::Block;
-use egt_table::Table;
 use std::alloc::{AllocError, Global};
 
 /// How many blocks are kept of the positions with one side to move: one for each pair of kings and column. The white king stands on one of the first five files,
@@ -59,7 +59,7 @@ fn no_stamps(alloc: Global) -> Result<Vec<u32>, AllocError>
 /// Looks at the items until all that is due is put, and sees that they are of all codes.
 fn settle_all(
     f: &Filling,
-    table: &mut Table,
+    table: &mut Found,
     items: &mut [Item],
     places: &[u32],
     stamps: &mut [u32],
@@ -96,7 +96,7 @@ fn settle_all(
 }
 
 /// Puts what is due at all codes of the part, until all entries are. False where that is not told by bytes.
-pub(crate) fn settle(alloc: Global, f: &Filling, table: &mut Table) -> Result<bool, AllocError>
+pub(crate) fn settle(alloc: Global, f: &Filling, table: &mut Found) -> Result<bool, AllocError>
     requires filling { IsFilling f.now }
     requires table { IsOwnTable f.now.part f.now.class f.now.men table.old }
     ensures class { table.new.class ≡ table.old.class }

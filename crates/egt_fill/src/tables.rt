@@ -10,6 +10,7 @@ use crate::settling::settle;
 use egt_check::Library;
 use egt_check::laws::{kept_reaches_are_true, rules_are_kept_by_true_tables_alone};
 use egt_check::part::Part;
+use egt_check::score_rows::ScoreRows;
 use egt_class::laws::children_have_smaller_numbers;
 use egt_class::{Class, children};
 use egt_table::Table;
@@ -59,10 +60,13 @@ pub fn filled_values(
     let Some(filling) = filling_of(library, class, Part::Values) else {
         return Ok(None);
     };
-    let mut table = begun_values(alloc, class)?;
-    if !settle(alloc, &filling, &mut table)? {
+    let Some(mut found) = begun_values(alloc, class)? else {
+        return Ok(None);
+    };
+    if !settle(alloc, &filling, &mut found)? {
         return Ok(None);
     }
+    let table = found.into_table();
     let _class = table.class();
     Ok(Some(table))
 }
@@ -83,11 +87,17 @@ pub fn filled_reach(alloc: Global, table: Table, library: &Library) -> Reached
     let Some(filling) = filling_of(library, class, Part::Reach) else {
         return Reached::Untold(table);
     };
-    let mut table = match with_drawn_reach(alloc, table) {
-        Ok(table) => table,
+    let scores = match ScoreRows::drawn(alloc, class) {
+        Ok(Some(scores)) => scores,
+        Ok(None) => return Reached::Untold(table),
+        Err(_refused) => return Reached::NoMemory(table),
+    };
+    let mut found = match with_drawn_reach(alloc, table, scores) {
+        Ok(found) => found,
         Err(table) => return Reached::NoMemory(table),
     };
-    let told = settle(alloc, &filling, &mut table);
+    let told = settle(alloc, &filling, &mut found);
+    let table = found.into_table();
     let _class = table.class();
     match told {
         Ok(true) => Reached::Filled(table),

@@ -28,10 +28,10 @@ returns c = λ tables four men side passed a b p mate zeroing are one last has s
     }
 
     -- with those of captures in passing
-    with_passing : (tables : Tables) (four : FourMen) (men : ShelfMen) (side : Side) (a b : ℕ) (p : Setup) → AreTablesOf tables four men → men.one.kind ≢ K → men.last.kind ≢ K → (passed : Bool) (mate zeroing passing : ℕ) → HasStand four.own.now.class false (stand_on men a b) side passed p → AreMoveScores four men side a b mate zeroing
+    with_passing : (tables : Tables) (four : FourMen) (men : ShelfMen) (side : Side) (a b : ℕ) (p : Setup) → AreTablesOf tables four men → men.one.kind ≢ K → men.last.kind ≢ K → (passed : Bool) (mate zeroing passing : ℕ) → HasStand four.own.class false (stand_on men a b) side passed p → AreMoveScores four men side a b mate zeroing
         → AreGiven tables p (IsEitherPassing men p a b) passing (zeroing_score passing) → AreGiven tables p (λ m. Unit {0}) (max mate passing) (max zeroing (zeroing_score passing))
     with_passing tables four men side a b p are one last passed mate zeroing passing has s by_passing =
-        let k = four.own.now.class in
+        let k = four.own.class in
         let class_in = are.is_table.class_in in
         let z = s.zeroed_are in
         let greatest = max (max z.by_first z.by_last) z.by_pawns in
@@ -44,9 +44,9 @@ returns c = λ tables four men side passed a b p mate zeroing are one last has s
         subst (λ x. AreGiven tables p (λ m. Unit {0}) x (max zeroing (zeroing_score passing))) mate_same
         (subst (AreGiven tables p (λ m. Unit {0}) (max s.quiet_mate (max greatest passing))) zeroing_same
         (c.moves_of_either_kind_give_all.ensures tables p s.quiet_mate s.quiet_zeroing (max greatest passing) (zeroing_score (max greatest passing))
-        (c.quiet_codes_give_the_quiet_moves.ensures tables four.own.now men side passed a b p s.quiet_mate s.quiet_zeroing are.is_table are.found are.bytes has s.mate_raised s.zeroing_raised)
+        (c.quiet_codes_give_the_quiet_moves.ensures tables four.own men side passed a b p s.quiet_mate s.quiet_zeroing are.is_table are.found are.bytes has s.mate_raised s.zeroing_raised)
         (loud_given tables k men side passed a b p has (λ q m leads. c.pawns_moves_are_of_four_kinds.ensures.kinds p q m.from m leads refl)
-        four.own.now four.children.first_pawn four.children.last_pawn (max z.by_first z.by_last) z.by_pawns passing
+        four.own four.children.first_pawn four.children.last_pawn (max z.by_first z.by_last) z.by_pawns passing
         (laws tables k class_in men false side passed a b p one has)
         (laws tables k class_in (men_swapped men) true side passed b a p last has)
         (record { is_table = are.is_table; found = are.found; bytes = are.bytes; class_after = are.own_after }) are.first_pawn are.last_pawn
@@ -54,15 +54,15 @@ returns c = λ tables four men side passed a b p mate zeroing are one last has s
         has are.first are.last z.first_raised z.last_raised)
         z.pawns by_passing)))
 
-    all_given : (tables : Tables) (four : FourMen) (men : ShelfMen) (side : Side) (a b : ℕ) (p : Setup) → AreTablesOf tables four men → men.one.kind ≢ K → men.last.kind ≢ K → (passed : Bool) (mate zeroing : ℕ) → HasStand four.own.now.class false (stand_on men a b) side passed p → AreAllScores passed four men side a b mate zeroing → AreGiven tables p (λ m. Unit {0}) mate zeroing
+    all_given : (tables : Tables) (four : FourMen) (men : ShelfMen) (side : Side) (a b : ℕ) (p : Setup) → AreTablesOf tables four men → men.one.kind ≢ K → men.last.kind ≢ K → (passed : Bool) (mate zeroing : ℕ) → HasStand four.own.class false (stand_on men a b) side passed p → AreAllScores passed four men side a b mate zeroing → AreGiven tables p (λ m. Unit {0}) mate zeroing
     all_given tables four men side a b p are one last false mate zeroing has s =
         let mate_same : max mate 0 ≡ mate = omega arith in
         let zeroing_same : max zeroing (zeroing_score 0) ≡ zeroing = omega arith in
         subst (λ x. AreGiven tables p (λ m. Unit {0}) x zeroing) mate_same
         (subst (AreGiven tables p (λ m. Unit {0}) (max mate 0)) zeroing_same
-        (with_passing tables four men side a b p are one last false mate zeroing 0 has s (nothing_passing tables men a b p (c.pawns_moves_are_of_four_kinds.ensures.without_a_target four.own.now.class false (stand_on men a b) side p has).1)))
+        (with_passing tables four men side a b p are one last false mate zeroing 0 has s (nothing_passing tables men a b p (c.pawns_moves_are_of_four_kinds.ensures.without_a_target four.own.class false (stand_on men a b) side p has).1)))
     all_given tables four men side a b p are one last true mate zeroing has s =
-        let k = four.own.now.class in
+        let k = four.own.class in
         let class_in = are.is_table.class_in in
         let by = s.passing_are in
         let passing_is : max by.by_last by.by_first ≡ s.passing = sym by.is in

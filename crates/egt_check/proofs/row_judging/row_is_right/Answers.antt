@@ -1,4 +1,4 @@
-use Rattle.std.proofs.Common.{◌≡◌, ◌≢◌, ◌∙◌, ℕ, ◌+◌, ◌*◌, arith, refl, sym, subst}
+use Rattle.std.proofs.Common.{◌≡◌, ◌≢◌, ◌∙◌, ℕ, ◌+◌, ◌*◌, ap, arith, refl, sym, subst}
 use Rattle.std.specs.Prelude.{slice_index}
 use Rattle.std.specs.Int.{bit_at}
 use Rattle.egt_index.specs.Numbers.{code_of}
@@ -48,6 +48,6 @@ returns c = λ right digit below some.
     let stays : bit_at moving.bits b ≡ 0 = c.lanes_of-moving.ensures b b_in ∙ if_same moves 0 0 1 stuck in
     let stands : bit_at c.lanes_of.result.bits b ≡ 1 = c.lanes_of.ensures b b_in ∙ if_not own 0 0 1 there in
     let left = left_at c.lanes_of.result.bits moving.bits c.without-ends.result.bits b (c.without-ends.ensures.squares b) stands stays in
-    let first = c.first_of.ensures in
+    let first = c.first_of.ensures ∙ ap (λ k. number_in k shelf side 0) c.class.ensures.class in
     let at : c.first_of.result + 2 * digit ≡ number_in t.class shelf side digit = omega (arith, first) in
     subst (λ (k : ℕ). IsRightEndOf part t (code_of t.class k)) at (c.ends_are_right.ensures right digit below left))

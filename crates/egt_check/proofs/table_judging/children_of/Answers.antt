@@ -17,7 +17,7 @@ use Rattle.egt_check.proofs.table_judging.children_of.Goals as goal
 pub returns-clause-four : goal.returns-clause-four
 returns-clause-four c = λ four same is.
     let part = c.args.part in
-    let t = four.own.now in
+    let t = four.own in
     let tables = table_at c.args.library.now in
     let men = c.args.men.now in
     let first = c.in_ok-first.first.now in

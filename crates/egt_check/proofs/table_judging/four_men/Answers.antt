@@ -10,8 +10,8 @@ use Rattle.egt_entries.specs.Tables.{Tables, beside, table_at}
 use Rattle.egt_check.proofs.table_judging.four_men.Goals as goal
 
 -- what holds beside each table of the class holds beside this one
-beside_this : (part : Part) (class : ℕ) (tables : Tables) (t : TableValue) (men : ShelfMen) (children : Children) (four : FourMen) → four.own.now ≡ t → four.children ≡ children → IsOwnTable part class men t
-    → ((other : FourMen) → other.children ≡ children → IsOwnTable part class men other.own.now → AreFourMen (column_of part) other men × AreTablesOf (tables_in part (beside tables other.own.now)) (four_in part other) men)
+beside_this : (part : Part) (class : ℕ) (tables : Tables) (t : TableValue) (men : ShelfMen) (children : Children) (four : FourMen) → four.own ≡ t → four.children ≡ children → IsOwnTable part class men t
+    → ((other : FourMen) → other.children ≡ children → IsOwnTable part class men other.own → AreFourMen (column_of part) other men × AreTablesOf (tables_in part (beside tables other.own)) (four_in part other) men)
     → AreFourMen (column_of part) four men × AreTablesOf (tables_in part (beside tables t)) (four_in part four) men
 beside_this part class tables t men children four own same is each =
     let are = each four same (subst (λ (u : TableValue). IsOwnTable part class men u) (sym own) is) in

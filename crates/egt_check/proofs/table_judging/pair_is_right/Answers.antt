@@ -25,7 +25,7 @@ side_is_right-requires-clause-men c = are_there c.args.part c.args.four.now c.ar
 pub returns-clause-judged : goal.returns-clause-judged
 returns-clause-judged c = λ told tables are.
     let part = c.args.part in
-    let t = c.args.four.now.own.now in
+    let t = c.args.four.now.own in
     let side = c.args.side in
     let upper = c.args.first + c.args.half in
     let there : AreTablesOf (tables_in part tables) (four_in part c.args.four.now) c.with_kings-there.result =
@@ -45,8 +45,8 @@ kept_there d worth men there white black side keys blocks is = (
 
 pub side_is_right-requires-clause-kept : goal.side_is_right-requires-clause-kept
 side_is_right-requires-clause-kept c =
-    (kept_there c.args.four.now.own.now.class (column_score c.args.four.now.own.now) c.args.men.now c.with_kings-there.result c.in-Some.here.white c.in-Some.here.black (other_side c.args.side) c.args.keys.now c.args.blocks.now c.with_kings-there.ensures).0 c.requires.kept
+    (kept_there c.args.four.now.own.class (column_score c.args.four.now.own) c.args.men.now c.with_kings-there.result c.in-Some.here.white c.in-Some.here.black (other_side c.args.side) c.args.keys.now c.args.blocks.now c.with_kings-there.ensures).0 c.requires.kept
 
 pub returns-clause-kept : goal.returns-clause-kept
 returns-clause-kept c = λ told.
-    (kept_there c.args.four.now.own.now.class (column_score c.args.four.now.own.now) c.args.men.now c.with_kings-there.result c.in-Some.here.white c.in-Some.here.black (other_side c.args.side) c.side_is_right.new.keys c.side_is_right.new.blocks c.with_kings-there.ensures).1 (c.side_is_right.ensures.kept told)
+    (kept_there c.args.four.now.own.class (column_score c.args.four.now.own) c.args.men.now c.with_kings-there.result c.in-Some.here.white c.in-Some.here.black (other_side c.args.side) c.side_is_right.new.keys c.side_is_right.new.blocks c.with_kings-there.ensures).1 (c.side_is_right.ensures.kept told)

@@ -11,5 +11,5 @@ use Rattle.egt_check.specs.Worth.{column_score}
 
 -- the pairs that came before are right, and what is kept holds
 abbrev pub invariant-loop-n : goal.invariant-loop-n
-invariant-loop-n l = ((tables : Tables) → AreTablesOf (tables_in l.part tables) (four_in l.part l.four) l.men → (n : ℕ) → n < l.n → IsJudgedPair l.part tables l.four.own.now l.men l.pairs l.side (nth_pair l.side l.pairs.kings n))
-    × AreKept l.four.own.now.class (column_score l.four.own.now) l.men (other_side l.side) l.keys l.blocks
+invariant-loop-n l = ((tables : Tables) → AreTablesOf (tables_in l.part tables) (four_in l.part l.four) l.men → (n : ℕ) → n < l.n → IsJudgedPair l.part tables l.four.own l.men l.pairs l.side (nth_pair l.side l.pairs.kings n))
+    × AreKept l.four.own.class (column_score l.four.own) l.men (other_side l.side) l.keys l.blocks

@@ -13,9 +13,9 @@ pub part_scores-requires-clause-men : goal.part_scores-requires-clause-men
 part_scores-requires-clause-men c =
     let f = c.args.f.now in
     let item = c.args.item.now in
-    let four = c.beside_own-four.result in
-    let own : IsOwnTable f.part f.class f.men four.own.now = subst (λ (t : TableValue). IsOwnTable f.part f.class f.men t) (sym c.beside_own-four.ensures.own) c.requires.table in
-    subst (λ (m : ShelfMen). AreFourMen (column_of f.part) four m) (sym c.requires.men) (four_there f.men item.white item.black (column_of f.part) four (c.requires.filling.four four c.beside_own-four.ensures.children own).0)
+    let four = c.beside_found-four.result in
+    let own : IsOwnTable f.part f.class f.men four.own = subst (λ (t : TableValue). IsOwnTable f.part f.class f.men t) (sym c.beside_found-four.ensures.own) c.requires.table in
+    subst (λ (m : ShelfMen). AreFourMen (column_of f.part) four m) (sym c.requires.men) (four_there f.men item.white item.black (column_of f.part) four (c.requires.filling.four four c.beside_found-four.ensures.children own).0)
 
 pub passing_captures-requires : goal.passing_captures-requires
 passing_captures-requires c =
@@ -27,20 +27,20 @@ passing_captures-requires c =
 pub returns-clause-scores : goal.returns-clause-scores
 returns-clause-scores c = λ told. record {
   plain = λ a b a_in b_in next own same.
-      let four = c.beside_own-four.result in
-      scores_same c.args.f.now.part four next (own ∙ sym c.beside_own-four.ensures.own) (same ∙ sym c.beside_own-four.ensures.children) false c.args.men.now c.args.item.now.side a b (at c.part_scores.new.scores a b) (at c.part_scores.new.zeroing a b)
+      let four = c.beside_found-four.result in
+      scores_same c.args.f.now.part four next (own ∙ sym c.beside_found-four.ensures.own) (same ∙ sym c.beside_found-four.ensures.children) false c.args.men.now c.args.item.now.side a b (at c.part_scores.new.scores a b) (at c.part_scores.new.zeroing a b)
       (c.part_scores.ensures.scores c.if-not-part_scores.false a b a_in b_in);
   passed = λ some a b a_in b_in next own same.
-      let four = c.beside_own-four.result in
-      scores_same c.args.f.now.part four next (own ∙ sym c.beside_own-four.ensures.own) (same ∙ sym c.beside_own-four.ensures.children) true c.args.men.now c.args.item.now.side a b (at c.raise_part_passed.new.scores a b) (at c.raise_part_passed.new.zeroing a b)
+      let four = c.beside_found-four.result in
+      scores_same c.args.f.now.part four next (own ∙ sym c.beside_found-four.ensures.own) (same ∙ sym c.beside_found-four.ensures.children) true c.args.men.now c.args.item.now.side a b (at c.raise_part_passed.new.scores a b) (at c.raise_part_passed.new.zeroing a b)
       (c.raise_part_passed.ensures a b a_in b_in (c.part_scores.ensures.scores c.if-not-part_scores.false a b a_in b_in));
 }
 
 pub returns-then-f-eq0-clause-scores : goal.returns-then-f-eq0-clause-scores
 returns-then-f-eq0-clause-scores c = λ told. record {
   plain = λ a b a_in b_in next own same.
-      let four = c.beside_own-four.result in
-      scores_same c.args.f.now.part four next (own ∙ sym c.beside_own-four.ensures.own) (same ∙ sym c.beside_own-four.ensures.children) false c.args.men.now c.args.item.now.side a b (at c.part_scores.new.scores a b) (at c.part_scores.new.zeroing a b)
+      let four = c.beside_found-four.result in
+      scores_same c.args.f.now.part four next (own ∙ sym c.beside_found-four.ensures.own) (same ∙ sym c.beside_found-four.ensures.children) false c.args.men.now c.args.item.now.side a b (at c.part_scores.new.scores a b) (at c.part_scores.new.zeroing a b)
       (c.part_scores.ensures.scores c.if-not-part_scores.false a b a_in b_in);
   passed = λ some. absurd (some c.if-f-eq0.true);
 }

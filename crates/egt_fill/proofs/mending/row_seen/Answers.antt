@@ -1,6 +1,7 @@
-use Rattle.std.proofs.Common.{◌≡◌, ◌≢◌, ◌∙◌, ℕ, ◌+◌, ◌<◌, arith, inl, inr, refl, sym, slice_index, subst}
+use Rattle.std.proofs.Common.{◌==◌, if◌then◌else◌, ap, ◌≡◌, ◌≢◌, ◌∙◌, ℕ, ◌+◌, ◌<◌, arith, inl, inr, refl, sym, slice_index, subst}
 use Rattle.std.specs.Int.{bit_at}
 use Rattle.std.proofs.lemmas.Bool.{cases_eq}
+use Rattle.std.proofs.lemmas.List.{get_or-replicate}
 use Rattle.egt_index.specs.Numbers.{code_of}
 use Rattle.egt_index.specs.Scales.{kind_less}
 use Rattle.egt_index.specs.ShelfCodes.{number_in}
@@ -17,6 +18,7 @@ use Rattle.egt_blocks.proofs.ShelfRead.{square_in}
 use Rattle.egt_check.proofs.ByteJudged.{if_not, if_same}
 use Rattle.egt_check.proofs.RowJudged.{lane_is, left_at}
 use Rattle.egt_fill.specs.Mended.{IsPutAt, score_in}
+use Rattle.egt_fill.proofs.LanesPut.{none_within, same_there}
 use Rattle.egt_fill.proofs.mending.row_seen.Goals as goal
 
 -- the part's columns have these scores
@@ -24,52 +26,65 @@ put_in : (part : Part) (t : TableValue) (code score clock : ℕ) → column_scor
 put_in Values t code score clock is clock_is = (is, clock_is refl)
 put_in Reach t code score clock is clock_is = is
 
-pub returns : goal.returns
-returns c =
+-- what is 0 where a mask of the same has no square
+none_there : (bit n : ℕ) → bit ≡ (if n == 0 then 0 else 1) → bit ≡ 0 → n ≡ 0
+none_there bit n is none = elim (cases_eq n 0) [ inl zero ↦ zero | inr some ↦ absurd (let one = is ∙ if_not n 0 0 1 some in omega (arith, one, none)) ]
+
+pub returns-clause-seen : goal.returns-clause-seen
+returns-clause-seen c =
     let t = c.args.table.now in
     let part = c.args.part in
     let shelf = c.args.shelf.now in
     let kind = shelf.men.last.kind in
-    let moving = c.lanes_of-moving.result in
-    let own_is : (digit : ℕ) → (below : digit < _) → slice_index c.row_of-own.result (digit + kind_less kind) ≡ score_in part t shelf digit = λ digit below.
+    let scores = c.args.scores in
+    let own = c.row-own.result in
+    let within = c.unlike-within.result in
+    let wrong = c.greater-wrong.result in
+    let lanes = c.lanes_of-3.result in
+    let own_is : (digit : ℕ) → (below : digit < _) → slice_index own (digit + kind_less kind) ≡ score_in part t shelf digit = λ digit below.
     let b_in = square_in kind digit below in
-    subst (λ (column : Column). slice_index c.row_of-own.result (digit + kind_less kind) ≡ column_score t column (code_of t.class (number_in t.class shelf.number shelf.side digit))) c.column_of.ensures
-    (lane_is shelf.passed t c.column_of.result shelf.men shelf.number shelf.side c.requires.shelf.of c.codes_tell_turned_men.ensures.one digit (slice_index c.row_of-own.result (digit + kind_less kind)) below (c.row_of-own.ensures (digit + kind_less kind) b_in)) in
+    subst (λ (column : Column). slice_index own (digit + kind_less kind) ≡ column_score t column (code_of t.class (number_in t.class shelf.number shelf.side digit))) c.column_of.ensures
+    (lane_is shelf.passed t c.column_of.result shelf.men shelf.number shelf.side c.requires.shelf.of c.codes_tell_turned_men.ensures.one digit (slice_index own (digit + kind_less kind)) below (c.row-own.ensures (digit + kind_less kind) b_in)) in
+    let within_is : (b : ℕ) → b < 64 → slice_index within b ≡ (if slice_index scores b == 0 then 0 else slice_index own b) = λ b b_in.
+    c.unlike-within.ensures b b_in ∙ ap (λ n. if slice_index scores b == n then 0 else slice_index own b) (get_or-replicate 64 b 0 0 b_in) in
     record {
       due = λ digit below some can none.
           let b = digit + kind_less kind in
           let b_in = square_in kind digit below in
-          let moves : bit_at moving.bits b ≡ 1 = c.lanes_of-moving.ensures b b_in ∙ if_not (slice_index c.args.scores b) 0 0 1 can in
-          let within : slice_index c.kept-within.result b ≢ 0 = λ zero. some (sym (own_is digit below) ∙ sym (c.kept-within.ensures b b_in ∙ if_same (bit_at moving.bits b) 1 (slice_index c.row_of-own.result b) 0 moves) ∙ zero) in
-          let both = c.common.ensures.squares b in
-          let either = c.union-wrong.ensures.squares b in
-          let first : bit_at c.apart.result.bits b ≡ 0 = omega (arith, both, either, moves, none) in
-          let second : bit_at c.wrong_clocks.result.bits b ≡ 0 = omega (arith, both, either, moves, none) in
-          put_in part t (code_of t.class (number_in t.class shelf.number shelf.side digit)) (due_in part (slice_index c.args.scores b)) (due_score (slice_index c.args.zeroing b))
-          (sym (own_is digit below) ∙ c.apart.ensures b b_in first within ∙ c.due_in.ensures b b_in)
-          (λ is. c.wrong_clocks.ensures digit below second within is ∙ c.due.ensures b b_in);
+          let inside : slice_index within b ≢ 0 = λ zero. some (sym (own_is digit below) ∙ sym (within_is b b_in ∙ if_not (slice_index scores b) 0 0 (slice_index own b) can) ∙ zero) in
+          let nothing = none_there (bit_at lanes.bits b) (slice_index wrong b) (c.lanes_of-3.ensures b b_in) none in
+          let both = c.greater-wrong.ensures b b_in in
+          let first : slice_index c.unlike.result b ≡ 0 = omega (arith, both, nothing) in
+          let second : slice_index c.wrong_clocks.result b ≡ 0 = omega (arith, both, nothing) in
+          put_in part t (code_of t.class (number_in t.class shelf.number shelf.side digit)) (due_in part (slice_index scores b)) (due_score (slice_index c.args.zeroing b))
+          (sym (own_is digit below) ∙ same_there (slice_index own b) (slice_index c.due_in.result b) (slice_index within b) (slice_index c.unlike.result b) (c.unlike.ensures b b_in) first inside ∙ c.due_in.ensures b b_in)
+          (λ is. c.wrong_clocks.ensures.due digit below second inside is ∙ c.due.ensures b b_in);
       moving = λ digit below has zero.
           let b = digit + kind_less kind in
           let b_in = square_in kind digit below in
-          let stays : bit_at moving.bits b ≡ 0 = c.lanes_of-moving.ensures b b_in ∙ if_same (slice_index c.args.scores b) 0 0 1 zero in
-          let both = c.common.ensures.squares b in
-          omega (arith, both, stays, has);
+          let outside : slice_index within b ≡ 0 = within_is b b_in ∙ if_same (slice_index scores b) 0 0 (slice_index own b) zero in
+          let first = none_within (slice_index own b) (slice_index c.due_in.result b) (slice_index within b) (slice_index c.unlike.result b) (c.unlike.ensures b b_in) outside in
+          let second = c.wrong_clocks.ensures.within b b_in outside in
+          let both = c.greater-wrong.ensures b b_in in
+          let none : slice_index wrong b ≡ 0 = omega (arith, both, first, second) in
+          let stays = c.lanes_of-3.ensures b b_in ∙ if_same (slice_index wrong b) 0 0 1 none in
+          omega (arith, stays, has);
       end = λ digit below some zero none.
           let b = digit + kind_less kind in
           let b_in = square_in kind digit below in
-          let stays : bit_at moving.bits b ≡ 0 = c.lanes_of-moving.ensures b b_in ∙ if_same (slice_index c.args.scores b) 0 0 1 zero in
-          let stands : bit_at c.lanes_of.result.bits b ≡ 1 = c.lanes_of.ensures b b_in ∙ if_not (slice_index c.row_of-own.result b) 0 0 1 (λ e. some (sym (own_is digit below) ∙ e)) in
-          let left = left_at c.lanes_of.result.bits moving.bits c.without.result.bits b (c.without.ensures.squares b) stands stays in
-          left_at c.without.result.bits c.args.ended.bits c.without-2.result.bits b (c.without-2.ensures.squares b) left none;
+          let stays : bit_at c.lanes_of-2.result.bits b ≡ 0 = c.lanes_of-2.ensures b b_in ∙ if_same (slice_index scores b) 0 0 1 zero in
+          let stands : bit_at c.lanes_of.result.bits b ≡ 1 = c.lanes_of.ensures b b_in ∙ if_not (slice_index own b) 0 0 1 (λ e. some (sym (own_is digit below) ∙ e)) in
+          let left = left_at c.lanes_of.result.bits c.lanes_of-2.result.bits c.without.result.bits b (c.without.ensures.squares b) stands stays in
+          left_at c.without.result.bits c.args.ended.bits c.without-ends.result.bits b (c.without-ends.ensures.squares b) left none;
       still = λ digit below has.
           let b = digit + kind_less kind in
           let b_in = square_in kind digit below in
-          elim (cases_eq (slice_index c.args.scores b) 0) [
+          elim (cases_eq (slice_index scores b) 0) [
             | inl zero ↦ zero
             | inr can ↦
-                let moves : bit_at moving.bits b ≡ 1 = c.lanes_of-moving.ensures b b_in ∙ if_not (slice_index c.args.scores b) 0 0 1 can in
+                let moves : bit_at c.lanes_of-2.result.bits b ≡ 1 = c.lanes_of-2.ensures b b_in ∙ if_not (slice_index scores b) 0 0 1 can in
                 let first = c.without.ensures.squares b in
-                let second = c.without-2.ensures.squares b in
+                let second = c.without-ends.ensures.squares b in
                 absurd (omega (arith, has, first, second, moves))
           ];
     }

@@ -1,12 +1,17 @@
-use Rattle.std.proofs.Common.{◌∙◌, subst, sym}
+use Rattle.std.proofs.Common.{◌∙◌, ◌<◌, ℕ, Option, IfSome, subst, sym}
+use Rattle.egt_index.specs.Size.{size_of}
+use Rattle.egt_check.specs.ScoreRows.{CodeScores, IsDrawnIndex}
 use Rattle.egt_check.specs.declared.part.Part.TheVariants.{Reach}
 use Rattle.egt_entries.specs.Tables.{HasReachChildren, Tables, beside, table_at}
-use Rattle.egt_entries.specs.Truth.{HasTrueChildren}
-use Rattle.egt_table.specs.Table.{TableValue}
+use Rattle.egt_entries.specs.Truth.{HasTrueChildren, IsTrueTable}
+use Rattle.egt_table.specs.Table.{IsTable, TableValue}
 use Rattle.egt_table.specs.declared.column.Column.TheVariants as columns
 use Rattle.egt_fill.specs.Filled.{IsWithReach}
 use Rattle.egt_fill.proofs.FilledTables.{KeepsAll, reach_is_true, with_true_reach}
 use Rattle.egt_fill.proofs.tables.filled_reach.Goals as goal
+
+pub with_drawn_reach-requires-clause-drawn : goal.with_drawn_reach-requires-clause-drawn
+with_drawn_reach-requires-clause-drawn c = subst (λ n. (code : ℕ) → code < size_of n → IsDrawnIndex c.in-Ok-Some.scores code) c.class-class.ensures.class (subst (λ (o : Option CodeScores). IfSome o (λ rows. (code : ℕ) → code < size_of c.class-class.result → IsDrawnIndex rows code)) c.in-Ok-Some.field-0-is c.in-Ok-Some.ensures.drawn)
 
 pub returns-in-Ok-true : goal.returns-in-Ok-true
 returns-in-Ok-true c =
@@ -24,8 +29,10 @@ returns-in-Ok-true c =
     let children = subst (HasTrueChildren tables) (sym (with.class ∙ sym c.class-class.ensures.class)) c.children_are_true.ensures in
     let reach_children = subst (HasReachChildren tables) (sym with.class) c.requires.reach_children in
     let right : KeepsAll f.part (beside (table_at f.library.now) t) t = c.in-Ok-true.ensures.right c.in-Ok-true.field-0-test in
-    let keeps = subst (λ library. KeepsAll Reach (beside (table_at library) t) t) c.in-Some.ensures.library (subst (λ part. KeepsAll part (beside (table_at f.library.now) t) t) c.in-Some.ensures.part right) in (
+    let keeps = subst (λ library. KeepsAll Reach (beside (table_at library) t) t) c.in-Some.ensures.library (subst (λ part. KeepsAll part (beside (table_at f.library.now) t) t) c.in-Some.ensures.part right) in
+    let same = c.into_table-table.ensures in
+    subst (λ (u : TableValue). IsWithReach old u × IsTrueTable u) (sym same) (
       with,
       with_true_reach old t with c.requires.truth
-          (reach_is_true c.children_have_smaller_numbers.ensures.smaller tables t c.class-class-2.ensures.table children reach_children with.reach keeps c.kept_reaches_are_true.ensures),
+          (reach_is_true c.children_have_smaller_numbers.ensures.smaller tables t (subst IsTable same c.class-class-2.ensures.table) children reach_children with.reach keeps c.kept_reaches_are_true.ensures),
     )

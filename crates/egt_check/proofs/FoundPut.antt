@@ -1,0 +1,204 @@
+-- Scores that are put, and what they tell.
+use Rattle.std.proofs.Common.{◌≡◌, ◌≢◌, ◌∙◌, ◌⊎◌, ℕ, ◌+◌, ◌*◌, ◌-◌, ◌%◌, ◌<◌, ◌≤◌, List, Option, Some, None, get_or, length, map, slice_index, Fits, w8, arith, refl, sym, ap, subst, inl, inr}
+use lib.Lanes.{Each1}
+use Rattle.std.proofs.lemmas.Simd.{Each1-get_or}
+use Rattle.std.proofs.lemmas.Bool.{cases_eq, cases_lt}
+use Rattle.std.proofs.lemmas.Bool.Decides.{nat_tests}
+use Rattle.egt_board.specs.SquareSet.{Has}
+use Rattle.egt_board.specs.declared.man.Kind.{Kind}
+use Rattle.egt_board.specs.declared.man.Side.{Side}
+use Rattle.egt_board.specs.declared.square_set.SquareSet.{SquareSet}
+use Rattle.egt_index.specs.Numbers.{code_of}
+use Rattle.egt_index.specs.Scales.{kind_digits, kind_less}
+use Rattle.egt_index.specs.ShelfCodes.{number_in}
+use Rattle.egt_index.specs.Size.{size_of}
+use Rattle.egt_index.specs.declared.shelf_codes.ShelfMen.{ShelfMen}
+use Rattle.egt_lanes.specs.Scores.{byte_score, reach_score, zeroing_score}
+use Rattle.egt_table.specs.Table.{HasColumn, TableValue, entries_of, entries_or_none}
+use Rattle.egt_table.specs.declared.column.Column.{Column}
+use Rattle.egt_table.specs.declared.column.Column.TheVariants.{Mate, Zeroing, Reach}
+use Rattle.egt_blocks.proofs.ShelfRead.{square_in}
+use Rattle.egt_check.specs.Given.{AreAlike, IsKnown}
+use Rattle.egt_check.specs.Worth.{column_score, entry_score}
+use Rattle.egt_check.specs.declared.part.Part.TheVariants as parts
+use Rattle.egt_check.specs.Found.{AreTold, IsNearScore, IsPutIn, IsToldAt, IsValueScore, TellColumn, TellsEntry, near_told, table_told, told, value_told}
+use Rattle.egt_check.specs.ScoreRows.{CodeScores, IsLaneIn}
+use Rattle.egt_check.proofs.FoundTold.{mate_score, near_score, told_at, zeroing_score as clock_score}
+
+-- ---- scores of entries
+
+-- a lane of a row
+pub lane_in : (row : List ℕ) (kind : Kind) (digit : ℕ) → length row ≡ 64 → Each1 (Fits w8) row → digit < kind_digits kind → slice_index row (digit + kind_less kind) < 256
+lane_in row kind digit long fits below =
+    let s_in = square_in kind digit below in
+    (Each1-get_or (Fits w8) row (digit + kind_less kind) 0 (omega (arith, long, s_in)) fits).fits
+
+value_shape : (b : ℕ) → b < 256 → IsValueScore b → ((b ≡ 128) × (value_told b ≡ 1)) ⊎ (((b < 126) × (value_told b ≡ 2 + 2 * b)) ⊎ ((129 < b) × (value_told b ≡ 513 - 2 * b)))
+value_shape b b_in is = elim (cases_eq b 128) [
+  | inl draw ↦ inl (draw, ap value_told draw)
+  | inr other ↦ elim (cases_lt b 128) [
+    | inl low ↦ inr (inl ((let a = is.no_win in let d = is.no_entry in omega (arith, a, d, low)), (let some = is.some in grind (arith, nat_tests, some, other, low))))
+    | inr high ↦ inr (inr ((let a = is.no_loss in omega (arith, a, other, high)), (let some = is.some in grind (arith, nat_tests, some, other, high))))
+  ]
+]
+
+pub value_tells : (b : ℕ) → b < 256 → IsValueScore b → TellsEntry Mate b
+value_tells b b_in is = elim (value_shape b b_in is) [
+  | inl draw ↦ ap (λ e. byte_score (e % 256)) draw.1 ∙ sym draw.0
+  | inr either ↦ elim either [
+    | inl win ↦ ap (λ e. byte_score (e % 256)) win.1 ∙ win_score b win.0
+    | inr loss ↦ ap (λ e. byte_score (e % 256)) loss.1 ∙ loss_score b loss.0 b_in
+  ]
+]
+  where
+    win_score : (b : ℕ) → b < 126 → byte_score ((2 + 2 * b) % 256) ≡ b
+    win_score b low = grind (arith, nat_tests, low)
+
+    loss_score : (b : ℕ) → 129 < b → b < 256 → byte_score ((513 - 2 * b) % 256) ≡ b
+    loss_score b high b_in = grind (arith, nat_tests, high, b_in)
+
+near_shape : (b : ℕ) → b < 256 → IsNearScore b → ((b ≡ 128) × (near_told b ≡ 1)) ⊎ ((129 < b) × (near_told b ≡ 257 - b))
+near_shape b b_in is = elim (cases_eq b 128) [
+  | inl draw ↦ inl (draw, ap near_told draw)
+  | inr other ↦ inr (
+    (let a = is.no_loss in let high = is.high in omega (arith, a, other, high)),
+    (let high = is.high in grind (arith, nat_tests, other, high)),
+  )
+]
+
+pub near_tells : (b : ℕ) → b < 256 → IsNearScore b → TellsEntry Reach b
+near_tells b b_in is = elim (near_shape b b_in is) [
+  | inl draw ↦ ap (λ e. reach_score (e % 256)) draw.1 ∙ sym draw.0
+  | inr loss ↦ ap (λ e. reach_score (e % 256)) loss.1 ∙ loss_score b loss.0 b_in
+]
+  where
+    loss_score : (b : ℕ) → 129 < b → b < 256 → reach_score ((257 - b) % 256) ≡ b
+    loss_score b high b_in = grind (arith, nat_tests, high, b_in)
+
+pub near_known : (b : ℕ) → b < 256 → IsNearScore b → (near_told b ≢ 0) × (near_told b < 128)
+near_known b b_in is = elim (near_shape b b_in is) [
+  | inl draw ↦ let told = draw.1 in ((λ none. omega (arith, told, none)), omega (arith, told))
+  | inr loss ↦ let told = loss.1 in let high = loss.0 in ((λ none. omega (arith, told, none, b_in)), omega (arith, told, high))
+]
+
+-- what the shapes zero to
+zeroed_win : (b : ℕ) → b < 126 → zeroing_score b ≡ 0
+zeroed_win b low = grind (arith, nat_tests, low)
+
+zeroed_loss : (b : ℕ) → 129 < b → zeroing_score b ≡ 255
+zeroed_loss b high = grind (arith, nat_tests, high)
+
+known_value : (b : ℕ) → b < 256 → IsValueScore b → IsKnown (value_told b)
+known_value b b_in is = elim (value_shape b b_in is) [
+  | inl draw ↦ let told = draw.1 in record { some = λ none. omega (arith, told, none); other = λ two. omega (arith, told, two); low = omega (arith, told) }
+  | inr either ↦ elim either [
+    | inl win ↦ let told = win.1 in let low = win.0 in let some = is.some in record { some = λ none. omega (arith, told, none); other = λ two. omega (arith, told, two, some); low = omega (arith, told, low) }
+    | inr loss ↦ let told = loss.1 in let high = loss.0 in record { some = λ none. omega (arith, told, none, b_in); other = λ two. omega (arith, told, two, b_in); low = omega (arith, told, high) }
+  ]
+]
+
+pub value_alike : (a b : ℕ) → a < 256 → b < 256 → IsValueScore a → IsValueScore b → zeroing_score a ≡ zeroing_score b → AreAlike (value_told a) (value_told b)
+value_alike a b a_in b_in a_is b_is same =
+    let first_known = known_value a a_in a_is in
+    let second_known = known_value b b_in b_is in
+    elim (value_shape a a_in a_is) [
+      | inl first ↦ elim (value_shape b b_in b_is) [
+        | inl second ↦ let x = first.1 in let y = second.1 in record { mate_known = first_known; zeroing_known = second_known; parity = omega (arith, x, y); drawn = (λ e. y, λ e. x) }
+        | inr either ↦ let at : zeroing_score a ≡ 128 = ap zeroing_score first.0 in elim either [
+          | inl win ↦ absurd (let there = zeroed_win b win.0 in omega (arith, at, there, same))
+          | inr loss ↦ absurd (let there = zeroed_loss b loss.0 in omega (arith, at, there, same))
+        ]
+      ]
+      | inr either ↦ elim either [
+        | inl win ↦ let here = zeroed_win a win.0 in elim (value_shape b b_in b_is) [
+          | inl second ↦ absurd (let at : zeroing_score b ≡ 128 = ap zeroing_score second.0 in omega (arith, at, here, same))
+          | inr other ↦ elim other [
+            | inl also ↦ let x = win.1 in let y = also.1 in let p = win.0 in let q = also.0 in record { mate_known = first_known; zeroing_known = second_known; parity = omega (arith, x, y); drawn = (λ e. absurd (omega (arith, e, x)), λ e. absurd (omega (arith, e, y))) }
+            | inr loss ↦ absurd (let there = zeroed_loss b loss.0 in omega (arith, here, there, same))
+          ]
+        ]
+        | inr loss ↦ let here = zeroed_loss a loss.0 in elim (value_shape b b_in b_is) [
+          | inl second ↦ absurd (let at : zeroing_score b ≡ 128 = ap zeroing_score second.0 in omega (arith, at, here, same))
+          | inr other ↦ elim other [
+            | inl win ↦ absurd (let there = zeroed_win b win.0 in omega (arith, here, there, same))
+            | inr also ↦ let x = loss.1 in let y = also.1 in record { mate_known = first_known; zeroing_known = second_known; parity = omega (arith, x, y, a_in, b_in); drawn = (λ e. absurd (omega (arith, e, x, a_in)), λ e. absurd (omega (arith, e, y, b_in))) }
+          ]
+        ]
+      ]
+    ]
+
+-- ---- scores that were put
+
+-- the scores after some at the shelf's squares were put
+module _ (column : Column) (c shelf : ℕ) (men : ShelfMen) (side : Side) (lanes : SquareSet) (old new : CodeScores) (row : List ℕ) (tell : TellColumn column c old) (none : told column 0 ≡ 0)
+    (class : new.class ≡ old.class) (long : length new.scores ≡ size_of old.class)
+    (put : (digit : ℕ) → digit < kind_digits men.last.kind → Has lanes (digit + kind_less men.last.kind) → slice_index new.scores (code_of old.class (number_in old.class shelf side digit)) ≡ slice_index row (digit + kind_less men.last.kind))
+    (others : (code : ℕ) → (slice_index new.scores code ≡ slice_index old.scores code) ⊎ IsLaneIn old.class men shelf side lanes code)
+    (tells : (digit : ℕ) → digit < kind_digits men.last.kind → Has lanes (digit + kind_less men.last.kind) → TellsEntry column (slice_index row (digit + kind_less men.last.kind))) where
+  pub still_tell : TellColumn column c new
+  still_tell = record {
+    class_is = class ∙ tell.class_is;
+    long = long ∙ ap (λ n. size_of n) tell.class_is;
+    tell = λ code. elim (others code) [
+      | inl same ↦ subst (TellsEntry column) (sym same) (tell.tell code)
+      | inr lane ↦ subst (TellsEntry column) (sym (ap (slice_index new.scores) lane.3 ∙ put lane.0 lane.1 lane.2)) (tells lane.0 lane.1 lane.2)
+    ];
+  }
+
+  pub same_told : (code : ℕ) → (slice_index (map (told column) new.scores) code ≡ slice_index (map (told column) old.scores) code) ⊎ IsLaneIn c men shelf side lanes code
+  same_told code = elim (others code) [
+    | inl same ↦ inl (told_at column new.scores code none ∙ ap (told column) same ∙ sym (told_at column old.scores code none))
+    | inr lane ↦ inr (subst (λ n. IsLaneIn n men shelf side lanes code) tell.class_is lane)
+  ]
+
+  pub put_told : (digit : ℕ) → digit < kind_digits men.last.kind → Has lanes (digit + kind_less men.last.kind) → slice_index new.scores (code_of c (number_in c shelf side digit)) ≡ slice_index row (digit + kind_less men.last.kind)
+  put_told digit below has = subst (λ n. slice_index new.scores (code_of n (number_in n shelf side digit)) ≡ slice_index row (digit + kind_less men.last.kind)) tell.class_is (put digit below has)
+
+module _ (At : ℕ → Type 0) (t : TableValue) (old_scores old_clocks scores clocks : CodeScores)
+    (mate : (code : ℕ) → (slice_index (map value_told scores.scores) code ≡ slice_index (map value_told old_scores.scores) code) ⊎ At code)
+    (zeroing : (code : ℕ) → (slice_index (map value_told clocks.scores) code ≡ slice_index (map value_told old_clocks.scores) code) ⊎ At code) where
+  values_same : (column : Column) (code : ℕ) → (slice_index (entries_of column (table_told t scores (Some clocks))) code ≡ slice_index (entries_of column (table_told t old_scores (Some old_clocks))) code) ⊎ At code
+  values_same Mate code = mate code
+  values_same Zeroing code = zeroing code
+  values_same Reach code = inl refl
+
+  values_there : (column : Column) → HasColumn column (table_told t old_scores (Some old_clocks)) → HasColumn column (table_told t scores (Some clocks))
+  values_there Mate has = has
+  values_there Zeroing has = has
+  values_there Reach has = has
+
+  pub values_put_in : IsPutIn parts.Values At (table_told t old_scores (Some old_clocks)) (table_told t scores (Some clocks))
+  values_put_in = record { class = refl; there = values_there; same = values_same; mate = λ is. cc; zeroing = λ is. cc; reach = λ is. refl }
+
+module _ (At : ℕ → Type 0) (t : TableValue) (old_scores scores : CodeScores)
+    (near : (code : ℕ) → (slice_index (map near_told scores.scores) code ≡ slice_index (map near_told old_scores.scores) code) ⊎ At code) where
+  near_same : (column : Column) (code : ℕ) → (slice_index (entries_of column (table_told t scores None)) code ≡ slice_index (entries_of column (table_told t old_scores None)) code) ⊎ At code
+  near_same Mate code = inl refl
+  near_same Zeroing code = inl refl
+  near_same Reach code = near code
+
+  near_there : (column : Column) → HasColumn column (table_told t old_scores None) → HasColumn column (table_told t scores None)
+  near_there Mate has = has
+  near_there Zeroing has = has
+  near_there Reach has = refl
+
+  pub near_put_in : IsPutIn parts.Reach At (table_told t old_scores None) (table_told t scores None)
+  near_put_in = record { class = refl; there = near_there; same = near_same; mate = λ is. refl; zeroing = λ is. refl; reach = λ is. cc }
+
+-- what are put are told
+pub values_told_at : (t : TableValue) (scores clocks : CodeScores) (code score clock : ℕ) → TellColumn Mate t.class scores → TellColumn Zeroing t.class clocks → slice_index scores.scores code ≡ score → slice_index clocks.scores code ≡ clock
+    → score < 256 → clock < 256 → AreTold parts.Values score clock → IsToldAt parts.Values (table_told t scores (Some clocks)) code score clock
+values_told_at t scores clocks code score clock tell also is clock_is score_in clock_in told_both = (
+  mate_score t scores clocks tell code ∙ is,
+  clock_score t scores clocks also code ∙ clock_is,
+  subst (λ n. AreAlike n (slice_index (map value_told clocks.scores) code)) (sym (told_at Mate scores.scores code refl ∙ ap value_told is))
+      (subst (λ n. AreAlike (value_told score) n) (sym (told_at Zeroing clocks.scores code refl ∙ ap value_told clock_is))
+      (value_alike score clock score_in clock_in told_both.0 told_both.1 told_both.2)),
+)
+
+pub near_told_at : (t : TableValue) (scores : CodeScores) (code score clock : ℕ) → TellColumn Reach t.class scores → slice_index scores.scores code ≡ score
+    → score < 256 → AreTold parts.Reach score clock → IsToldAt parts.Reach (table_told t scores None) code score clock
+near_told_at t scores code score clock tell is score_in told_near =
+    let entry : slice_index (map near_told scores.scores) code ≡ near_told score = told_at Reach scores.scores code refl ∙ ap near_told is in
+    let known = near_known score score_in told_near in
+    (near_score t scores scores tell code ∙ is, (λ none. known.0 (sym entry ∙ none)), subst (λ n. n < 128) (sym entry) known.1)

@@ -1,0 +1,13 @@
+use Rattle.std.proofs.Common.{ℕ, ◌<◌}
+use Rattle.egt_board.specs.declared.man.Side.{Side}
+use Rattle.egt_index.specs.Numbers.{code_of, places}
+use Rattle.egt_index.specs.ShelfCodes.{number_in}
+use Rattle.egt_check.specs.Found.{IsToldEntry, IsToldFrom}
+use Rattle.egt_check.proofs.found.tell_column.Given as goal
+
+-- the codes of the shelves so far are told
+abbrev pub invariant-loop-shelf : goal.invariant-loop-shelf
+invariant-loop-shelf l = record {
+  from : IsToldFrom l.column l.scores.scores l.fn.table l.table;
+  told : (shelf : ℕ) → shelf < l.shelf → (side : Side) (k : ℕ) → k < places l.fn.table.class → IsToldEntry l.column l.scores.scores l.table (code_of l.fn.table.class (number_in l.fn.table.class shelf side k));
+}

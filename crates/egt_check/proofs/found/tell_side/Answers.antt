@@ -1,0 +1,39 @@
+use Rattle.std.proofs.Common.{◌≡◌, ◌∙◌, ◌+◌, ◌*◌, ◌<◌, ℕ, ap, arith, below_more, length, sym, subst, slice_index}
+use Rattle.std.proofs.lemmas.List.{get_or_default}
+use Rattle.egt_index.specs.Numbers.{code_of}
+use Rattle.egt_index.specs.Scales.{kind_digits, kind_less}
+use Rattle.egt_index.specs.ShelfCodes.{number_in}
+use Rattle.egt_blocks.proofs.ShelfRead.{square_in}
+use Rattle.egt_table.specs.Table.{TableValue}
+use Rattle.egt_check.specs.Found.{IsToldEntry, told}
+use Rattle.egt_check.proofs.FoundTold.{told_here, told_more, told_still}
+use Rattle.egt_check.proofs.found.tell_side.Goals as goal
+
+pub loop-digit-preserved : goal.loop-digit-preserved
+loop-digit-preserved c =
+    let start : TableValue = c.args.table.now in
+    let column = c.args.column in
+    let scores = c.args.scores.now.scores in
+    let shelf = c.args.shelf in
+    let side = c.args.side in
+    let kind = c.args.men.now.last.kind in
+    let cl : ℕ = start.class in
+    let k : ℕ = c.loop-digit.digit in
+    let below : k < kind_digits kind = (let test = c.loop-digit-test.true in let end = c.from-digit-end.ensures in let digits = c.digits_of.ensures in omega (arith, test, end, digits)) in
+    let code_is : c.code_of.result ≡ code_of cl (number_in cl shelf side k) =
+    c.code_of.ensures.is ∙ ap (λ n. code_of n (c.first_of-first.result + 2 * k)) c.class-class.ensures.class
+    ∙ ap (code_of cl) (let first = c.first_of-first.ensures ∙ ap (λ n. number_in n shelf side 0) c.class-class.ensures.class in let e : c.first_of-first.result + 2 * k ≡ number_in cl shelf side k = omega (arith, first) in e) in
+    let lane : c.from-from.result + k ≡ k + kind_less kind = (let from = c.from-from.ensures in let first = c.first_square.ensures in omega (arith, from, first)) in
+    let inside : c.from-from.result + k < length c.row-row.result = (let wide = c.loop-digit.auto.row.0 in let s_in = square_in kind k below in omega (arith, lane, wide, s_in)) in
+    let score : c.index-score.result.now ≡ slice_index scores c.code_of.result =
+    c.index-score.ensures ∙ get_or_default c.row-row.result (c.from-from.result + k) c.index-score.result.now 0 inside ∙ ap (slice_index c.row-row.result) lane
+    ∙ c.row-row.ensures.digits k below ∙ ap (λ n. slice_index scores (code_of n (number_in n shelf side k))) c.requires.class ∙ ap (slice_index scores) (sym code_is) in
+    let entry = c.told.ensures ∙ ap (told column) score in
+    let put = c.set.ensures in
+    let from = c.loop-digit.invariant.from in
+    record {
+      from = told_more column scores start c.loop-digit.table c.set.new.self c.code_of.result c.told.result from entry put.class put.there put.columns put.reach put.here put.others;
+      told = below_more _ _
+          (λ j less. told_still column scores start c.loop-digit.table c.set.new.self c.code_of.result c.told.result from entry put.class put.there put.columns put.reach put.here put.others _ (c.loop-digit.invariant.told j less))
+          (subst (IsToldEntry column scores c.set.new.self) code_is (told_here column scores start c.loop-digit.table c.set.new.self c.code_of.result c.told.result from entry put.class put.there put.columns put.reach put.here put.others));
+    }

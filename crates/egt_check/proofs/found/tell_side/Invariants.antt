@@ -1,0 +1,12 @@
+use Rattle.std.proofs.Common.{ℕ, ◌<◌}
+use Rattle.egt_index.specs.Numbers.{code_of}
+use Rattle.egt_index.specs.ShelfCodes.{number_in}
+use Rattle.egt_check.specs.Found.{IsToldEntry, IsToldFrom}
+use Rattle.egt_check.proofs.found.tell_side.Given as goal
+
+-- the codes of the digits so far are told
+abbrev pub invariant-loop-digit : goal.invariant-loop-digit
+invariant-loop-digit l = record {
+  from : IsToldFrom l.column l.scores.scores l.fn.table l.table;
+  told : (k : ℕ) → k < l.digit → IsToldEntry l.column l.scores.scores l.table (code_of l.fn.table.class (number_in l.fn.table.class l.fn.shelf l.fn.side k));
+}

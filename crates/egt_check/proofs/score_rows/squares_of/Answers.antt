@@ -1,0 +1,23 @@
+use Rattle.std.proofs.Common.{◌≡◌, ◌∙◌, ◌+◌, ◌*◌, ◌-◌, ◌%◌, ◌<◌, ap, arith, inl, inr, sym}
+use Rattle.std.specs.Int.{bit_at}
+use Rattle.egt_index.specs.Scales.{kind_digits, kind_less}
+use Rattle.egt_blocks.proofs.ShelfRead.{pawn_digits}
+use Rattle.egt_check.proofs.ScoresDrawn.{shifted_high, shifted_low}
+use Rattle.egt_check.proofs.score_rows.squares_of.Goals as goal
+
+pub returns-then-is_pawn-clause-digits : goal.returns-then-is_pawn-clause-digits
+returns-then-is_pawn-clause-digits c = λ k k_in.
+    let pawn = pawn_digits c.args.man.kind (sym c.is_pawn.ensures ∙ c.if-is_pawn.true) in
+    let digits = pawn.1 in
+    let less = pawn.2 in
+    shifted_high c.args.digits (k + kind_less c.args.man.kind) (omega (arith, less)) (omega (arith, less, digits, k_in))
+    ∙ ap (bit_at c.args.digits) (let is : k + kind_less c.args.man.kind - 8 ≡ k = omega (arith, less) in is)
+
+pub returns-then-is_pawn-clause-edges : goal.returns-then-is_pawn-clause-edges
+returns-then-is_pawn-clause-edges c = λ pawn s s_in edge.
+    let kinds = pawn_digits c.args.man.kind (sym c.is_pawn.ensures ∙ c.if-is_pawn.true) in
+    let digits = kinds.1 in
+    elim edge [
+      | inl low ↦ shifted_low c.args.digits s low
+      | inr high ↦ shifted_high c.args.digits s (omega (arith, high)) s_in ∙ c.requires (s - 8) (omega (arith, high, digits))
+    ]

@@ -1,0 +1,340 @@
+//! The entries of a class with two men beside the kings while they are found: their scores are kept as rows of bytes.
+ghost use Rattle.std.specs.Prelude.{◌≡◌, ◌≢◌, ◌<◌, ◌⊎◌, ◌+◌, ℕ, None, Some, IsSome, length, map, false, slice_index, true};
+ghost use Rattle.std.specs.Int.{bit_at};
+ghost use Rattle.egt_board.specs.SquareSet.{Has};
+ghost use Rattle.egt_board.specs.declared.man.Kind.TheVariants.{P};
+ghost use Rattle.egt_index.specs.Numbers.{code_of, places};
+ghost use Rattle.egt_index.specs.Scales.{kind_digits, kind_less};
+ghost use Rattle.egt_index.specs.ShelfCodes.{HasTwoBeside, IsShelf, IsShelfOf, IsWithin, number_in, stand_with};
+ghost use Rattle.egt_index.specs.Size.{size_of};
+ghost use Rattle.egt_index.specs.TellsMen.{TellsMen};
+ghost use Rattle.egt_lanes.specs.Raised.{IsRaised};
+ghost use Rattle.egt_table.specs.Table.{HasColumn, IsTable, entries_of};
+ghost use Rattle.egt_table.specs.declared.column.Column.{Column};
+ghost use Rattle.egt_table.specs.declared.column.Column.TheVariants as columns;
+ghost use Rattle.egt_check.specs.Given.{AreAlike};
+ghost use Rattle.egt_check.specs.Parts.{column_of};
+ghost use Rattle.egt_check.specs.Worth.{column_score};
+ghost use Rattle.egt_check.specs.declared.part.Part.TheVariants as parts;
+ghost use Rattle.egt_check.specs.Found.{IsPutIn, IsToldAt, IsToldEntry, IsToldFrom, TellColumn, table_told, told, value_told, near_told};
+ghost use Rattle.egt_check.specs.ScoreRows.{IsLaneIn, IsMaskOf};
+
+use crate::fitting::are_told;
+use crate::part::{Part, column_of};
+use crate::row_judging::first_of;
+use crate::rows::row_of;
+use crate::score_rows::ScoreRows;
+use egt_blocks::digits::{digits_of, first_square};
+use egt_board::{Side, SquareSet};
+use egt_class::Class;
+use egt_index::laws::{codes_tell_turned_men, numbers_stand_for_codes};
+use egt_index::{ShelfMen, code_of, last_digits, shelf_men, size};
+use egt_lanes::Row;
+use egt_lanes::score::zeroed;
+use egt_lanes::sets::lanes_of;
+use egt_table::{Column, Table};
+use std::marker::Model;
+use std::simd::prelude::*;
+
+/// A table of a class with two men beside the kings, the entries of one part of which are being found.
+#[derive(Drop)]
+pub struct Found {
+    /// Its class and other columns.
+    table: Table,
+    /// The scores in the mate column or, without clocks, in the column of the nearest mates.
+    scores: ScoreRows,
+    /// Those in the zeroing column, which is found with the mate column.
+    clocks: Option<ScoreRows>,
+}
+
+impl Model for Found {
+    ghost use Rattle.egt_table.specs.Table.{TableValue};
+    ghost use Rattle.egt_check.specs.Found.{AreFound, table_told};
+
+    ghost Value = { TableValue };
+
+    ghost view = { λ f. table_told f.table f.scores f.clocks };
+
+    ghost invariant = { λ f. AreFound f.table f.scores f.clocks };
+}
+
+/// The entry of the mate column or the zeroing column that has the score.
+fn value_told(score: u8) -> u16
+    ensures { result ≡ value_told score }
+{
+    let number = u16::from(score);
+    if number == 0 {
+        0
+    } else if number == 128 {
+        1
+    } else if number < 128 {
+        2 + 2 * number
+    } else {
+        513 - 2 * number
+    }
+}
+
+/// The entry of the column of the nearest mates that has the score.
+fn near_told(score: u8) -> u16
+    ensures { result ≡ near_told score }
+{
+    let number = u16::from(score);
+    if number == 0 {
+        0
+    } else if number == 128 {
+        1
+    } else {
+        257 - number
+    }
+}
+
+/// The entry of the column that has the score.
+fn told(column: Column, score: u8) -> u16
+    ensures { result ≡ told column score }
+{
+    match column {
+        Column::Mate | Column::Zeroing => value_told(score),
+        Column::Reach => near_told(score),
+    }
+}
+
+/// Gives the shelf's codes with that side to move the entries that their scores tell.
+fn tell_side(
+    table: &mut Table,
+    column: Column,
+    scores: &ScoreRows,
+    men: &ShelfMen,
+    shelf: u32,
+    side: Side,
+)
+    requires there { HasColumn column table.old }
+    requires class { scores.now.class ≡ table.old.class }
+    requires shelf { IsShelf table.old.class shelf men.now }
+    requires within { IsWithin table.old.class shelf }
+    ensures kept { IsToldFrom column scores.now.scores table.old table.new }
+    ensures told { (k : ℕ) → k < places table.old.class → IsToldEntry column scores.now.scores table.new (code_of table.old.class (number_in table.old.class shelf side k)) }
+{
+    numbers_stand_for_codes();
+    let class = table.class();
+    let _size = size(class);
+    let row = scores.row(men, shelf, side);
+    let from = usize::from(first_square(men.last));
+    let first = first_of(class, shelf, side);
+    for digit in 0..u32::from(digits_of(men.last)) {
+        let score = row[from + digit as usize];
+        table.set(
+            column,
+            code_of(class, first + 2 * digit),
+            told(column, score),
+        );
+    }
+}
+
+/// Gives the codes of the shelf the entries that their scores tell.
+fn tell_shelf(table: &mut Table, column: Column, scores: &ScoreRows, shelf: u32)
+    requires there { HasColumn column table.old }
+    requires class { scores.now.class ≡ table.old.class }
+    requires two { HasTwoBeside table.old.class }
+    requires within { IsWithin table.old.class shelf }
+    ensures kept { IsToldFrom column scores.now.scores table.old table.new }
+    ensures told { (side : Side) (k : ℕ) → k < places table.old.class → IsToldEntry column scores.now.scores table.new (code_of table.old.class (number_in table.old.class shelf side k)) }
+{
+    let Some(men) = shelf_men(table.class(), shelf) else {
+        unreachable!()
+    };
+    tell_side(table, column, scores, &men, shelf, Side::White);
+    tell_side(table, column, scores, &men, shelf, Side::Black);
+}
+
+/// Gives all codes the entries in the column that their scores tell.
+fn tell_column(table: &mut Table, column: Column, scores: &ScoreRows)
+    requires there { HasColumn column table.old }
+    requires class { scores.now.class ≡ table.old.class }
+    requires two { HasTwoBeside table.old.class }
+    ensures kept { IsToldFrom column scores.now.scores table.old table.new }
+    ensures told { entries_of column table.new ≡ map (told column) scores.now.scores }
+{
+    numbers_stand_for_codes();
+    let class = table.class();
+    let _scores = scores.class();
+    for shelf in 0..size(class) / (2 * last_digits(class)) {
+        tell_shelf(table, column, scores, shelf);
+    }
+    let _whole = table.class();
+}
+
+impl Found {
+    /// The table with the entries that these scores tell in its columns of values.
+    pub fn values(table: Table, scores: ScoreRows, clocks: ScoreRows) -> Found
+        requires scores { TellColumn columns.Mate table.class scores }
+        requires clocks { TellColumn columns.Zeroing table.class clocks }
+        ensures { result ≡ table_told table scores (Some clocks) }
+    {
+        let _class = table.class();
+        Found {
+            table,
+            scores,
+            clocks: Some(clocks),
+        }
+    }
+
+    /// The table with the entries that these scores tell in its column of the nearest mates.
+    pub fn reach(table: Table, scores: ScoreRows) -> Found
+        requires there { IsSome table.reach }
+        requires scores { TellColumn columns.Reach table.class scores }
+        ensures { result ≡ table_told table scores None }
+    {
+        let _class = table.class();
+        Found {
+            table,
+            scores,
+            clocks: None,
+        }
+    }
+
+    /// The class.
+    pub fn class(&self) -> Class
+        ensures class { result ≡ self.now.class }
+        ensures table { IsTable self.now }
+    {
+        self.table.class()
+    }
+
+    /// The scores of the shelf's codes with that side to move, by the last man's square, and with a target where one was
+    /// passed.
+    #[inline(always)]
+    pub fn row(&self, column: Column, men: &ShelfMen, shelf: u32, side: Side, passed: bool) -> Row
+        requires there { HasColumn column self.now }
+        requires shelf { IsShelfOf passed self.now.class shelf men.now }
+        requires within { IsWithin self.now.class shelf }
+        ensures { (s : ℕ) → s < 64 → IsRaised 0 (λ code. TellsMen passed self.now.class code (stand_with men.now s) side) (column_score self.now column) (slice_index result s) }
+    {
+        codes_tell_turned_men();
+        let _class = self.table.class();
+        match &self.clocks {
+            Some(clocks) => match column {
+                Column::Mate => self.scores.row(men, shelf, side),
+                Column::Zeroing => clocks.row(men, shelf, side),
+                Column::Reach => row_of(&self.table, column, men, shelf, side, passed),
+            },
+            None => match column {
+                Column::Mate => row_of(&self.table, column, men, shelf, side, passed),
+                Column::Zeroing => row_of(&self.table, column, men, shelf, side, passed),
+                Column::Reach => self.scores.row(men, shelf, side),
+            },
+        }
+    }
+
+    /// Puts the entries with these scores in both columns of values.
+    #[inline(always)]
+    fn put_values(
+        &mut self,
+        men: &ShelfMen,
+        shelf: u32,
+        side: Side,
+        lanes: SquareSet,
+        mask: Row,
+        scores: Row,
+        clocks: Row,
+    ) -> bool
+        requires shelf { IsShelf self.old.class shelf men.now }
+        requires within { IsWithin self.old.class shelf }
+        requires mask { IsMaskOf lanes mask }
+        ensures put { IsPutIn parts.Values (IsLaneIn self.old.class men.now shelf side lanes) self.old self.new }
+        ensures kept { result ≡ false → self.new ≡ self.old }
+        ensures indexes { result ≡ true → (digit : ℕ) → digit < kind_digits men.now.last.kind → Has lanes (digit + kind_less men.now.last.kind) →
+            column_score self.old (column_of parts.Values) (code_of self.old.class (number_in self.old.class shelf side digit)) ≢ 0 }
+        ensures told { result ≡ true → (digit : ℕ) → digit < kind_digits men.now.last.kind → Has lanes (digit + kind_less men.now.last.kind) →
+            IsToldAt parts.Values self.new (code_of self.old.class (number_in self.old.class shelf side digit)) (slice_index scores (digit + kind_less men.now.last.kind)) (slice_index clocks (digit + kind_less men.now.last.kind)) }
+    {
+        let _class = self.table.class();
+        let own = self.scores.row(men, shelf, side);
+        if !are_told(Part::Values, own, lanes, mask, scores, clocks) {
+            return false;
+        }
+        let Some(rows) = &mut self.clocks else {
+            return false;
+        };
+        rows.put(men, shelf, side, lanes, mask, clocks);
+        self.scores.put(men, shelf, side, lanes, mask, scores);
+        true
+    }
+
+    /// Puts the entries with these scores in the column of the nearest mates. The contract alone reads the clocks.
+    #[inline(always)]
+    fn put_near(
+        &mut self,
+        men: &ShelfMen,
+        shelf: u32,
+        side: Side,
+        lanes: SquareSet,
+        mask: Row,
+        scores: Row,
+        clocks: Row,
+    ) -> bool
+        requires shelf { IsShelf self.old.class shelf men.now }
+        requires within { IsWithin self.old.class shelf }
+        requires mask { IsMaskOf lanes mask }
+        ensures put { IsPutIn parts.Reach (IsLaneIn self.old.class men.now shelf side lanes) self.old self.new }
+        ensures kept { result ≡ false → self.new ≡ self.old }
+        ensures indexes { result ≡ true → (digit : ℕ) → digit < kind_digits men.now.last.kind → Has lanes (digit + kind_less men.now.last.kind) →
+            column_score self.old (column_of parts.Reach) (code_of self.old.class (number_in self.old.class shelf side digit)) ≢ 0 }
+        ensures told { result ≡ true → (digit : ℕ) → digit < kind_digits men.now.last.kind → Has lanes (digit + kind_less men.now.last.kind) →
+            IsToldAt parts.Reach self.new (code_of self.old.class (number_in self.old.class shelf side digit)) (slice_index scores (digit + kind_less men.now.last.kind)) (slice_index clocks (digit + kind_less men.now.last.kind)) }
+    {
+        let _class = self.table.class();
+        let own = self.scores.row(men, shelf, side);
+        if self.clocks.is_some() || !are_told(Part::Reach, own, lanes, mask, scores, clocks) {
+            return false;
+        }
+        self.scores.put(men, shelf, side, lanes, mask, scores);
+        true
+    }
+
+    /// Puts the entries with these scores at the shelf's codes with that side to move and the last man on one of these squares,
+    /// where the mask is not 0; the second are of the zeroing column alone. False where no entries have them that tell one result, where a code of
+    /// these is no index, and where it is not this part whose entries are being found: then all stays as it is.
+    #[inline(always)]
+    pub fn put(
+        &mut self,
+        part: Part,
+        men: &ShelfMen,
+        shelf: u32,
+        side: Side,
+        lanes: SquareSet,
+        mask: Row,
+        scores: Row,
+        clocks: Row,
+    ) -> bool
+        requires shelf { IsShelf self.old.class shelf men.now }
+        requires within { IsWithin self.old.class shelf }
+        requires mask { IsMaskOf lanes mask }
+        ensures put { IsPutIn part (IsLaneIn self.old.class men.now shelf side lanes) self.old self.new }
+        ensures kept { result ≡ false → self.new ≡ self.old }
+        ensures indexes { result ≡ true → (digit : ℕ) → digit < kind_digits men.now.last.kind → Has lanes (digit + kind_less men.now.last.kind) →
+            column_score self.old (column_of part) (code_of self.old.class (number_in self.old.class shelf side digit)) ≢ 0 }
+        ensures told { result ≡ true → (digit : ℕ) → digit < kind_digits men.now.last.kind → Has lanes (digit + kind_less men.now.last.kind) →
+            IsToldAt part self.new (code_of self.old.class (number_in self.old.class shelf side digit)) (slice_index scores (digit + kind_less men.now.last.kind)) (slice_index clocks (digit + kind_less men.now.last.kind)) }
+    {
+        match part {
+            Part::Values => self.put_values(men, shelf, side, lanes, mask, scores, clocks),
+            Part::Reach => self.put_near(men, shelf, side, lanes, mask, scores, clocks),
+        }
+    }
+
+    /// The table with the entries that are found.
+    pub fn into_table(self) -> Table
+        ensures { result ≡ self }
+    {
+        let mut table = self.table;
+        let _class = table.class();
+        match &self.clocks {
+            Some(clocks) => {
+                tell_column(&mut table, Column::Mate, &self.scores);
+                tell_column(&mut table, Column::Zeroing, clocks);
+            }
+            None => tell_column(&mut table, Column::Reach, &self.scores),
+        }
+        table
+    }
+}

@@ -1,0 +1,39 @@
+-- Entries that scores of draws tell.
+use Rattle.std.proofs.Common.{◌≡◌, ◌∙◌, ℕ, ◌<◌, List, length, map, arith, refl, ap, sym, subst, inl, inr, slice_index}
+use Rattle.egt_index.specs.Index.{IsVoid}
+use Rattle.egt_index.specs.Size.{size_of}
+use Rattle.egt_table.specs.declared.column.Column.{Column}
+use Rattle.egt_table.specs.declared.column.Column.TheVariants.{Mate, Zeroing, Reach}
+use Rattle.egt_check.specs.Found.{TellColumn, TellsEntry, told}
+use Rattle.egt_check.specs.ScoreRows.{AreDrawnOrNone, CodeScores, HasNoVoidScore, IsDrawnIndex}
+use Rattle.egt_check.proofs.FoundTold.{told_at, told_none}
+use Rattle.egt_fill.specs.Filled.{IsDrawn}
+
+draw_told : (column : Column) → told column 128 ≡ 1
+draw_told Mate = refl
+draw_told Zeroing = refl
+draw_told Reach = refl
+
+none_tells : (column : Column) → TellsEntry column 0
+none_tells Mate = refl
+none_tells Zeroing = refl
+none_tells Reach = refl
+
+draw_tells : (column : Column) → TellsEntry column 128
+draw_tells Mate = refl
+draw_tells Zeroing = refl
+draw_tells Reach = refl
+
+module _ (column : Column) (c : ℕ) (v : CodeScores) (class : v.class ≡ c) where
+  pub drawn_told : HasNoVoidScore v → ((code : ℕ) → code < size_of c → IsDrawnIndex v code) → IsDrawn c (map (told column) v.scores)
+  drawn_told none drawn i below = record {
+    void = λ is. told_at column v.scores i (told_none column) ∙ ap (told column) (none i (subst (λ n. IsVoid n i) (sym class) is)) ∙ told_none column;
+    index = λ is. told_at column v.scores i (told_none column) ∙ ap (told column) (drawn i below (subst (λ n. ¬ IsVoid n i) (sym class) is)) ∙ draw_told column;
+  }
+
+  pub drawn_tell : length v.scores ≡ size_of c → AreDrawnOrNone v → TellColumn column c v
+  drawn_tell long few = record {
+    class_is = class;
+    long = long;
+    tell = λ code. elim (few code) [ inl none ↦ subst (TellsEntry column) (sym none) (none_tells column) | inr draw ↦ subst (TellsEntry column) (sym draw) (draw_tells column) ];
+  }

@@ -1,0 +1,14 @@
+use Rattle.std.proofs.Common.{◌≡◌, ◌∙◌, ℕ, inl, inr, refl, subst, sym}
+use Rattle.egt_board.specs.Setup.{Setup}
+use Rattle.egt_entries.specs.Score.{IsAtEnd}
+use Rattle.egt_fill.proofs.ends.end_score.Goals as goal
+
+pub returns-in-3 : goal.returns-in-3
+returns-in-3 c = λ p spells.
+    let same = c.codes_spell_one_position.ensures c.args.class c.args.code c.in_ok-position.position p c.in_ok-position.ensures.spells spells in
+    (c.in_ok-entry_without_move.field-0, subst (λ (q : Setup). IsAtEnd q c.in_ok-entry_without_move.field-0) same c.in_ok-entry_without_move.ensures, inl (c.in-3.is, refl))
+
+pub returns-in-1 : goal.returns-in-1
+returns-in-1 c = λ p spells.
+    let same = c.codes_spell_one_position.ensures c.args.class c.args.code c.in_ok-position.position p c.in_ok-position.ensures.spells spells in
+    (c.in_ok-entry_without_move.field-0, subst (λ (q : Setup). IsAtEnd q c.in_ok-entry_without_move.field-0) same c.in_ok-entry_without_move.ensures, inr (c.in-1.is, refl))
