@@ -1,7 +1,7 @@
 //! The scores of the positions of a class with two men beside the kings, whose kings stand on two squares: a row for each square of the
 //! first man, a lane for each of the last. Each code has some turn of these men; codes that are not least score nothing.
 //! So the codes after a turn are not read where the kings tell that all of them are void.
-ghost use Rattle.std.specs.Prelude.{◌≡◌, ◌≢◌, ◌/◌, ◌%◌, ◌<◌, ◌↔◌, ◌==◌, ◌+◌, ℕ, Bool, false, true, not, IfSome, IsTrue};
+ghost use Rattle.std.specs.Prelude.{◌≡◌, ◌/◌, ◌%◌, ◌<◌, ◌↔◌, ◌==◌, ◌+◌, ℕ, Bool, false, true, not, IfSome, IsTrue, slice_index};
 ghost use Rattle.egt_board.specs.SquareSet.{Has};
 ghost use Rattle.egt_board.specs.Turned.{turned_side, turned_square};
 ghost use Rattle.egt_board.specs.declared.man.Side.{Side};
@@ -27,8 +27,7 @@ use egt_index::laws::codes_tell_turned_men;
 use egt_index::men::has_equal_sides;
 use egt_index::nearer::is_void_after;
 use egt_index::{ShelfMen, has_pawns, last_digits, shelf_of, size};
-use egt_lanes::block::raise_transposed;
-use egt_lanes::row::greater;
+use egt_lanes::block::{raise, raise_transposed};
 use egt_lanes::turn::turned;
 use egt_lanes::{Block, Row};
 use egt_table::Column;
@@ -61,9 +60,10 @@ pub fn begin_with(class: Class, men: &ShelfMen, passed: bool, first: u32) -> boo
     }
 }
 
-/// Raises the row of the first man's square, if it is one of these, to the scores of the codes after the turn, and with a target where one was passed.
+/// The scores of the codes after the turn, with the first man on this square and a target where one was passed. Nothing
+/// is read where the square is none of these rows.
 #[inline(always)]
-fn raise_row<S: ShelfScores>(
+fn row_after<S: ShelfScores>(
     source: &S,
     column: Column,
     men: &ShelfMen,
@@ -73,27 +73,25 @@ fn raise_row<S: ShelfScores>(
     side: Side,
     turn: u8,
     passed: bool,
-    out: &mut Block,
-)
+) -> Row
     requires there { S.has source.now column }
     requires turn { turn < 16 }
     requires shelves { AreShelvesOf passed (S.number source.now) (turned_from men.now on turn) first }
     requires room { first + 64 < 4294967296 }
-    ensures others { (a b : ℕ) → a ≢ on → at out.new a b ≡ at out.old a b }
-    ensures raised { (b : ℕ) → b < 64 → Has rows on → IsRaisedAfter passed (S.number source.now) (S.worth source.now column) turn (stand_on men.now on b) side (at out.old on b) (at out.new on b) }
+    ensures { (b : ℕ) → b < 64 → Has rows on → IsRaisedAfter passed (S.number source.now) (S.worth source.now column)
+        turn (stand_on men.now on b) side 0 (slice_index result b) }
 {
     codes_tell_turned_men();
     if !rows.contains(on) {
-        return;
+        return Row::splat(0);
     }
     let there = turned_from(men, on, turn);
     if !may_stand(there.one, there.on) {
-        return;
+        return Row::splat(0);
     }
     let shelf = first + u32::from(there.on.number() - first_square(there.one));
     let row = source.shelf_row(column, &there, shelf, side_after(side, turn), passed);
-    let a = usize::from(on.number());
-    out[a] = greater(out[a], turned(row, turn));
+    turned(row, turn)
 }
 
 /// Whether the kings tell that the codes after the turn are void, wherever the men beside them stand.
@@ -105,8 +103,8 @@ fn are_void_after(class: Class, men: &ShelfMen, turn: u8) -> bool
     is_void_after(class, men.white, men.black, turn)
 }
 
-/// Raises these rows of the block to the scores of the codes after the turn. False where it does not tell.
-fn raise_turned<S: ShelfScores>(
+/// Writes the scores of the codes after the turn to these rows of the block. False where the source does not tell.
+fn turned_block<S: ShelfScores>(
     source: &S,
     column: Column,
     men: &ShelfMen,
@@ -121,37 +119,30 @@ fn raise_turned<S: ShelfScores>(
     requires men { AreMenOf (S.number source.now) men.now }
     requires turn { turn < 16 }
     requires keeps { turn % 8 < symmetries (has_pawns (material_of (S.number source.now))) }
-    ensures { result ≡ true → (a b : ℕ) → a < 64 → b < 64 → Has rows a → IsRaisedAfter passed (S.number source.now) (S.worth source.now column) turn (stand_on men.now a b) side (at out.old a b) (at out.new a b) }
+    ensures { result ≡ true → (a b : ℕ) → a < 64 → b < 64 → Has rows a → IsRaisedAfter passed (S.number source.now)
+        (S.worth source.now column) turn (stand_on men.now a b) side 0 (at out.new a b) }
 {
     let class = source.class();
-    // Void codes score nothing: the block stays as it is.
+    // Void codes score nothing.
     if are_void_after(class, men, turn) {
+        *out = nothing();
         return true;
     }
     let there = turned_from(men, men.on, turn);
     let Some(first) = shelves_of(class, &there, passed) else {
         return false;
     };
+    // Each row is written once, since the block is seldom in the cache.
     for a in 0..64u8 {
-        raise_row(
-            source,
-            column,
-            men,
-            rows,
-            first,
-            Square::at(a),
-            side,
-            turn,
-            passed,
-            out,
-        );
+        let on = Square::at(a);
+        out[usize::from(a)] = row_after(source, column, men, rows, first, on, side, turn, passed);
     }
     true
 }
 
-/// Raises these rows of the block to the scores of the codes after the turns that exchange colours so and bring the white king home. False where it does not
-/// tell.
-fn raise_home<S: ShelfScores>(
+/// Writes the scores of the codes after the turns that exchange colours so and bring the white king home to these rows
+/// of the block. False where the source does not tell.
+fn home_block<S: ShelfScores>(
     source: &S,
     column: Column,
     men: &ShelfMen,
@@ -164,20 +155,27 @@ fn raise_home<S: ShelfScores>(
     requires there { S.has source.now column }
     requires voids { ScoresNoVoids (S.number source.now) (S.worth source.now column) }
     requires men { AreMenOf (S.number source.now) men.now }
-    ensures { result ≡ true → (a b : ℕ) → a < 64 → b < 64 → Has rows a → IsRaisedHome passed (S.number source.now) (S.worth source.now column) flips (stand_on men.now a b) side (at out.old a b) (at out.new a b) }
+    ensures { result ≡ true → (a b : ℕ) → a < 64 → b < 64 → Has rows a → IsRaisedHome passed (S.number source.now)
+        (S.worth source.now column) flips (stand_on men.now a b) side 0 (at out.new a b) }
 {
     let (first, second) = home(has_pawns(source.class()), flips, men.white);
-    if !raise_turned(source, column, men, rows, side, first, passed, out) {
+    if !turned_block(source, column, men, rows, side, first, passed, out) {
         return false;
     }
     match second {
-        Some(second) => raise_turned(source, column, men, rows, side, second, passed, out),
+        Some(second) => {
+            let mut other = nothing();
+            let told = turned_block(source, column, men, rows, side, second, passed, &mut other);
+            raise(out, &other);
+            told
+        }
         None => true,
     }
 }
 
-/// Raises these rows of the one block to the scores of the codes in these colours, and where both sides have the same men the other block to those with
-/// colours exchanged, there with rows for the last man's square and lanes for the first one's. False where it does not tell.
+/// Writes the scores of the codes in these colours to these rows of the one block, and where both sides have the same
+/// men those with colours exchanged to the other, there with rows for the last man's square and lanes for the first
+/// one's. False where the source does not tell.
 #[tactic(auto, using(crate::proofs::BlockRaising::all_squares))]
 pub fn gather<S: ShelfScores>(
     source: &S,
@@ -193,18 +191,20 @@ pub fn gather<S: ShelfScores>(
     requires there { S.has source.now column }
     requires voids { ScoresNoVoids (S.number source.now) (S.worth source.now column) }
     requires men { AreMenOf (S.number source.now) men.now }
-    ensures own { result ≡ true → (a b : ℕ) → a < 64 → b < 64 → Has rows a → IsRaisedHome passed (S.number source.now) (S.worth source.now column) flips (stand_on men.now a b) side (at own.old a b) (at own.new a b) }
+    ensures own { result ≡ true → (a b : ℕ) → a < 64 → b < 64 → Has rows a → IsRaisedHome passed (S.number source.now)
+        (S.worth source.now column) flips (stand_on men.now a b) side 0 (at own.new a b) }
     ensures across { result ≡ true → has_equal_sides (S.number source.now) ≡ true → (a b : ℕ) → a < 64 → b < 64 →
-        IsRaisedHome passed (S.number source.now) (S.worth source.now column) (not flips) (stand_on (men_across men.now) b a) side (at across.old b a) (at across.new b a) }
+        IsRaisedHome passed (S.number source.now) (S.worth source.now column) (not flips)
+        (stand_on (men_across men.now) b a) side 0 (at across.new b a) }
     ensures same { has_equal_sides (S.number source.now) ≡ false → across.new ≡ across.old }
 {
-    if !raise_home(source, column, men, rows, flips, passed, side, own) {
+    if !home_block(source, column, men, rows, flips, passed, side, own) {
         return false;
     }
     if !has_equal_sides(source.class()) {
         return true;
     }
-    raise_home(
+    home_block(
         source,
         column,
         &men_across(men),
@@ -263,7 +263,6 @@ pub fn read_block<S: ShelfScores>(
     requires men { AreMenOf (S.number source.now) men.now }
     ensures { result ≡ true → (a b : ℕ) → a < 64 → b < 64 → Has rows a → IsReadWith passed (S.number source.now) (S.worth source.now column) flips (stand_on men.now a b) side (at out.new a b) }
 {
-    *out = nothing();
     let mut across = nothing();
     let equal = are_equal(men);
     if !gather(

@@ -77,6 +77,7 @@ pub fn kings_of(men: &ShelfMen) -> SquareSet
 }
 
 /// The men where the turn takes them, the first of them from this square.
+#[inline(always)]
 pub fn turned_from(men: &ShelfMen, on: Square, turn: u8) -> ShelfMen
     requires { turn < 16 }
     ensures { result ≡ turned_from men.now on turn }

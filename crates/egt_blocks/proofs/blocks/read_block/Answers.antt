@@ -1,8 +1,6 @@
-use Rattle.std.proofs.Common.{◌∙◌, ap, not, refl, sym, subst}
+use Rattle.std.proofs.Common.{◌∙◌, ap, refl, sym, subst}
 use Rattle.egt_class.specs.Material.{has_equal_sides}
-use Rattle.egt_lanes.specs.Blocks.{at}
 use Rattle.egt_steps.specs.Stands.{stand_on}
-use Rattle.egt_blocks.specs.Blocks.{IsRaisedHome, men_across}
 use Rattle.egt_blocks.specs.Scored.{IsReadWith}
 use Rattle.egt_blocks.proofs.BlockRaising.{settled_raised}
 use Rattle.egt_blocks.proofs.blocks.read_block.Goals as goal
@@ -18,6 +16,5 @@ returns g c = λ told a b a_in b_in here.
     let sides = c.has_equal_sides.ensures ∙ ap (λ k. has_equal_sides k) c.class.ensures.is in
     subst (IsReadWith passed number worth flips (stand_on men a b) side) (sym (c.settle.ensures a b a_in b_in))
     (settled_raised passed number worth men flips side c.rows_read.result c.gather.new.own c.gather.new.across
-    (λ i j i_in j_in read. subst (λ low. IsRaisedHome passed number worth flips (stand_on men i j) side low (at c.gather.new.own i j)) (c.nothing.ensures i j i_in j_in) (c.if-not-gather.ensures.own refl i j i_in j_in read))
-    (λ equal i j i_in j_in. subst (λ low. IsRaisedHome passed number worth (not flips) (stand_on (men_across men) j i) side low (at c.gather.new.across j i)) (c.nothing-across.ensures j i j_in i_in) (c.if-not-gather.ensures.across refl equal i j i_in j_in))
+    (c.if-not-gather.ensures.own refl) (c.if-not-gather.ensures.across refl)
     c.are_equal-equal.result c.are_equal-equal.ensures c.rows_read.ensures.all a b a_in b_in (c.rows_read.ensures.rows a here a_in) c.has_equal_sides.result (sym sides))

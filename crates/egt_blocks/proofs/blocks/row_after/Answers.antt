@@ -1,7 +1,7 @@
-use Rattle.std.proofs.Common.{◌≡◌, ◌<◌, ◌+◌, inl, inr, refl, ℕ, ◌/◌, ◌%◌, eqb, get_or, List, [], max, arith, sym, ap, ◌∙◌, subst}
+use Rattle.std.proofs.Common.{◌≡◌, ◌<◌, ◌+◌, inl, inr, refl, ◌/◌, ◌%◌, eqb, arith, sym, ap, ◌∙◌, subst}
 use Rattle.std.specs.Prelude.{slice_index}
 use Rattle.std.proofs.lemmas.Bool.{false≢true}
-use Rattle.std.proofs.lemmas.Grind.{get_or-set_at}
+use Rattle.std.proofs.lemmas.List.{get_or-replicate}
 use Rattle.egt_board.specs.Pawn.{MayStand}
 use Rattle.egt_board.specs.Turned.{turned_side, turned_square}
 use Rattle.egt_board.specs.declared.man.Side.{Side}
@@ -10,13 +10,12 @@ use Rattle.egt_index.specs.ShelfCodes.{IsShelfOf, IsWithin, stand_with}
 use Rattle.egt_index.specs.TellsMen.{TellsMen}
 use Rattle.egt_index.specs.TurnedMen.{turned_by}
 use Rattle.egt_index.specs.declared.shelf_codes.ShelfMen.{ShelfMen}
-use Rattle.egt_lanes.specs.Blocks.{at}
 use Rattle.egt_lanes.specs.Raised.{IsRaised}
 use Rattle.egt_steps.specs.Stands.{men_on, stand_on}
-use Rattle.egt_blocks.specs.Blocks.{IsCodeAfter, turned_from}
-use Rattle.egt_blocks.proofs.BlockRaising.{raised_by_none, raised_max, turned_in}
+use Rattle.egt_blocks.specs.Blocks.{IsCodeAfter, IsRaisedAfter, turned_from}
+use Rattle.egt_blocks.proofs.BlockRaising.{raised_by_none, turned_in}
 use Rattle.egt_blocks.proofs.ShelfRuns.{digit_there}
-use Rattle.egt_blocks.proofs.blocks.raise_row.Goals as goal
+use Rattle.egt_blocks.proofs.blocks.row_after.Goals as goal
 
 pub overflow_add-shelf : goal.overflow_add-shelf
 overflow_add-shelf g c = omega (arith, c.from.ensures, c.number.ensures.on_board, c.requires.room)
@@ -25,7 +24,6 @@ overflow_add-shelf g c = omega (arith, c.from.ensures, c.number.ensures.on_board
 shelf_there : (g : _) (c : goal.After-side_after g) → IsShelfOf c.args.passed (g.S.ShelfScores.number c.args.source.now) (c.args.first + c.from.result) c.turned_from-there.result × IsWithin (g.S.ShelfScores.number c.args.source.now) (c.args.first + c.from.result)
 shelf_there g c =
     let number = g.S.ShelfScores.number c.args.source.now in
-    let worth = g.S.ShelfScores.worth c.args.source.now c.args.column in
     let there : ShelfMen = c.turned_from-there.result in
     let after = turned_from c.args.men.now c.args.on c.args.turn in
     let is = c.turned_from-there.ensures in
@@ -44,31 +42,29 @@ shelf_row-row-requires-clause-shelf g c = (shelf_there g c).0
 pub shelf_row-row-requires-clause-within : goal.shelf_row-row-requires-clause-within
 shelf_row-row-requires-clause-within g c = (shelf_there g c).1
 
-pub returns-then-not-contains-clause-raised : goal.returns-then-not-contains-clause-raised
-returns-then-not-contains-clause-raised g c = λ b b_in here. absurd (false≢true (sym c.if-not-contains.true ∙ c.contains.ensures.1 here))
+pub returns-then-not-contains : goal.returns-then-not-contains
+returns-then-not-contains g c = λ b b_in here. absurd (false≢true (sym c.if-not-contains.true ∙ c.contains.ensures.1 here))
 
-pub returns-then-not-may_stand-clause-raised : goal.returns-then-not-may_stand-clause-raised
-returns-then-not-may_stand-clause-raised g c = λ b b_in _.
+pub returns-then-not-may_stand : goal.returns-then-not-may_stand
+returns-then-not-may_stand g c = λ b b_in _.
     let number = g.S.ShelfScores.number c.args.source.now in
     let worth = g.S.ShelfScores.worth c.args.source.now c.args.column in
     let stand = stand_on c.args.men.now c.args.on b in
-    raised_by_none (at c.args.out.now c.args.on b) (λ code. IsCodeAfter c.args.passed number c.args.turn code stand c.args.side) worth
+    subst (IsRaisedAfter c.args.passed number worth c.args.turn stand c.args.side 0) (sym (get_or-replicate 64 b 0 0 b_in))
+    (raised_by_none 0 (λ code. IsCodeAfter c.args.passed number c.args.turn code stand c.args.side) worth
     (λ code tells.
     let may = c.codes_tell_turned_men.ensures.pawns c.args.passed number code (turned_by c.args.turn stand) (turned_side (eqb (c.args.turn / 8) 1) c.args.side) c.args.men.now.one (turned_square (c.args.turn % 8) (eqb (c.args.turn / 8) 1) c.args.on) tells (inr (inr (inl (refl, refl)))) in
     let there = subst (λ (men : ShelfMen). MayStand men.one men.on) (sym c.turned_from-there.ensures) may in
-    false≢true (sym c.if-not-may_stand.true ∙ c.may_stand.ensures.1 there))
+    false≢true (sym c.if-not-may_stand.true ∙ c.may_stand.ensures.1 there)))
 
-pub returns-clause-raised : goal.returns-clause-raised
-returns-clause-raised g c = λ b b_in _.
+pub returns : goal.returns
+returns g c = λ b b_in _.
     let number = g.S.ShelfScores.number c.args.source.now in
     let worth = g.S.ShelfScores.worth c.args.source.now c.args.column in
-    let s = turned_square (c.args.turn % 8) (eqb (c.args.turn / 8) 1) b in
-    let s_in = turned_in (eqb (c.args.turn / 8) 1) (c.args.turn % 8) b (omega arith) b_in in
-    let row = c.shelf_row-row.ensures s s_in in
-    let codes =
-    subst (λ (men : ShelfMen). IsRaised 0 (λ code. TellsMen c.args.passed number code (stand_with men s) (turned_side (eqb (c.args.turn / 8) 1) c.args.side)) worth (slice_index c.shelf_row-row.result s)) c.turned_from-there.ensures
-    (subst (λ (side : Side). IsRaised 0 (λ code. TellsMen c.args.passed number code (stand_with c.turned_from-there.result s) side) worth (slice_index c.shelf_row-row.result s)) c.side_after.ensures row) in
-    let place = c.from-a.ensures ∙ c.number-2.ensures.value in
-    raised_max (at c.args.out.now c.args.on b) (λ code. IsCodeAfter c.args.passed number c.args.turn code (stand_on c.args.men.now c.args.on b) c.args.side) worth (slice_index c.shelf_row-row.result s) _ codes
-    (ap (λ (r : List ℕ). get_or r b 0) (get_or-set_at c.args.out.now c.from-a.result c.args.on c.greater.result [] (sym place) (omega arith)) ∙ c.greater.ensures b b_in
-    ∙ ap (λ k. max (slice_index (get_or c.args.out.now k []) b) (slice_index c.turned.result b)) place ∙ ap (λ v. max (at c.args.out.now c.args.on b) v) (c.turned.ensures b b_in))
+    let flips = eqb (c.args.turn / 8) 1 in
+    let s = turned_square (c.args.turn % 8) flips b in
+    let row = slice_index c.shelf_row-row.result s in
+    subst (IsRaisedAfter c.args.passed number worth c.args.turn (stand_on c.args.men.now c.args.on b) c.args.side 0) (sym (c.turned.ensures b b_in))
+    (subst (λ (men : ShelfMen). IsRaised 0 (λ code. TellsMen c.args.passed number code (stand_with men s) (turned_side flips c.args.side)) worth row) c.turned_from-there.ensures
+    (subst (λ (side : Side). IsRaised 0 (λ code. TellsMen c.args.passed number code (stand_with c.turned_from-there.result s) side) worth row) c.side_after.ensures
+    (c.shelf_row-row.ensures s (turned_in flips (c.args.turn % 8) b (omega arith) b_in))))
