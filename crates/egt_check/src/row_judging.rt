@@ -14,6 +14,7 @@ ghost use Rattle.egt_check.specs.RightRow.{IsRightAtOf, IsRightEndOf, due_in};
 ghost use Rattle.egt_entries.specs.Score.{IsAtEnd};
 ghost use Rattle.egt_check.specs.Worth.{column_score, score_at};
 
+use crate::lane_sets::unlike;
 use crate::part::{Part, column_of};
 use crate::rows::row_of;
 use crate::successors::entries_at;
@@ -25,9 +26,10 @@ use egt_index::{ShelfMen, code_of, last_digits, position, size};
 use egt_lanes::Row;
 use egt_lanes::row::differ;
 use egt_lanes::score::{due, reach_due};
-use egt_lanes::sets::{kept, lanes_of};
+use egt_lanes::sets::lanes_of;
 use egt_moves::{Standing, standing};
 use egt_table::{Column, Table};
+use std::simd::prelude::*;
 
 /// The entry of a position without a legal move; `None` where there is one.
 pub fn entry_without_move(position: &Position) -> Option<u16>
@@ -157,14 +159,14 @@ pub(crate) fn row_is_right(
 {
     codes_tell_turned_men();
     let own = row_of(table, column_of(part), men, shelf, side, passed);
-    let moving = lanes_of(scores);
-    let within = kept(own, moving);
+    // A row's scores are 0 where there is no move.
+    let within = unlike(scores, Row::splat(0), own);
     if differ(own, due_in(part, scores), within)
         || !clock_is_due(table, men, part, shelf, side, passed, zeroing, within)
     {
         return false;
     }
-    let ends = lanes_of(own).without(moving);
+    let ends = lanes_of(own).without(lanes_of(scores));
     ends_are_right(
         table,
         part,

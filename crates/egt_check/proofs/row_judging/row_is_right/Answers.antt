@@ -1,6 +1,7 @@
-use Rattle.std.proofs.Common.{◌≡◌, ◌≢◌, ◌∙◌, ℕ, ◌+◌, ◌*◌, ap, arith, refl, sym, subst}
+use Rattle.std.proofs.Common.{◌==◌, if◌then◌else◌, ◌≡◌, ◌≢◌, ◌∙◌, ℕ, ◌+◌, ◌*◌, ap, arith, refl, sym, subst}
 use Rattle.std.specs.Prelude.{slice_index}
 use Rattle.std.specs.Int.{bit_at}
+use Rattle.std.proofs.lemmas.List.{get_or-replicate}
 use Rattle.egt_index.specs.Numbers.{code_of}
 use Rattle.egt_index.specs.Scales.{kind_less}
 use Rattle.egt_index.specs.ShelfCodes.{number_in}
@@ -35,17 +36,16 @@ returns c = λ right digit below some.
     let b_in = square_in men.last.kind digit below in
     let own = slice_index c.row_of-own.result b in
     let moves = slice_index c.args.scores b in
-    let moving = c.lanes_of-moving.result in
+    let moving = c.lanes_of-2.result in
     let code = code_of t.class (number_in t.class shelf side digit) in
     let own_is : own ≡ column_score t (column_of part) code = subst (λ (column : Column). own ≡ column_score t column code) c.column_of.ensures (lane_is c.args.passed t c.column_of.result men shelf side c.requires.shelf c.codes_tell_turned_men.ensures.one digit own below (c.row_of-own.ensures b b_in)) in
     let there : own ≢ 0 = λ none. some (sym own_is ∙ none) in
-    let within : moves ≢ 0 → slice_index c.kept-within.result b ≢ 0 = λ can none.
-    let moves_there : bit_at moving.bits b ≡ 1 = c.lanes_of-moving.ensures b b_in ∙ if_not moves 0 0 1 can in
-    there (sym (c.kept-within.ensures b b_in ∙ if_same (bit_at moving.bits b) 1 own 0 moves_there) ∙ none) in
+    let within : moves ≢ 0 → slice_index c.unlike-within.result b ≢ 0 = λ can none.
+    there (sym (c.unlike-within.ensures b b_in ∙ ap (λ n. if moves == n then 0 else own) (get_or-replicate 64 b 0 0 b_in) ∙ if_not moves 0 0 own can) ∙ none) in
     right_at part t code moves (slice_index c.args.zeroing b) (λ can. sym own_is ∙ c.differ.ensures.alike c.if-differ.false b b_in (within can) ∙ c.due_in.ensures b b_in)
     (λ can is. c.clock_is_due.ensures c.if-not-clock_is_due.false is digit below (within can))
     (λ stuck.
-    let stays : bit_at moving.bits b ≡ 0 = c.lanes_of-moving.ensures b b_in ∙ if_same moves 0 0 1 stuck in
+    let stays : bit_at moving.bits b ≡ 0 = c.lanes_of-2.ensures b b_in ∙ if_same moves 0 0 1 stuck in
     let stands : bit_at c.lanes_of.result.bits b ≡ 1 = c.lanes_of.ensures b b_in ∙ if_not own 0 0 1 there in
     let left = left_at c.lanes_of.result.bits moving.bits c.without-ends.result.bits b (c.without-ends.ensures.squares b) stands stays in
     let first = c.first_of.ensures ∙ ap (λ k. number_in k shelf side 0) c.class.ensures.class in
