@@ -18,4 +18,5 @@ pub mod stamps;
 pub mod tables;
 mod turns;
 
+pub use rounds::ROUNDS;
 pub use tables::{Reached, filled_reach, filled_values};

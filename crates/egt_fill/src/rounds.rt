@@ -26,8 +26,8 @@ use egt_check::found::Found;
 use egt_check::table_judging::with_kings;
 use egt_lanes::Block;
 
-/// How many rounds there are at most. A distance in bytes needs fewer.
-const ROUNDS: u32 = 256;
+/// How many rounds are enough: a distance in bytes needs fewer.
+pub const ROUNDS: u32 = 256;
 
 /// What a visit came to.
 #[derive(Clone, Copy)]
@@ -206,8 +206,8 @@ fn round(
     Some(white || black)
 }
 
-/// Looks at items until nothing that one reads has changed since it was looked at: then all entries are due. False where their entries are not told, and where
-/// there are too many rounds.
+/// Looks at items until nothing that one reads has changed since it was looked at: then all entries are due. False where
+/// their entries are not told, and where so many rounds are too few.
 pub(crate) fn settle_items(
     f: &Filling,
     table: &mut Found,
@@ -219,6 +219,7 @@ pub(crate) fn settle_items(
     black_keys: &mut [Option<BlockKey>],
     black_blocks: &mut [Block],
     scores: &mut Scores,
+    rounds: u32,
 ) -> bool
     requires filling { IsFilling f.now }
     requires table { IsOwnTable f.now.part f.now.class f.now.men table.old }
@@ -229,7 +230,7 @@ pub(crate) fn settle_items(
     ensures due { result ≡ true → All (IsDueItem f.now table.new) items.new }
 {
     let mut tick = 1;
-    for _ in 0..ROUNDS {
+    for _ in 0..rounds {
         let _class = table.class();
         match round(
             f,

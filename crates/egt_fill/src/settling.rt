@@ -56,7 +56,7 @@ fn no_stamps(alloc: Global) -> Result<Vec<u32>, AllocError>
     Ok(stamps)
 }
 
-/// Looks at the items until all that is due is put, and sees that they are of all codes.
+/// Looks at the items until all that is due is put, and sees that they are of all codes. False where so many rounds do not do.
 fn settle_all(
     f: &Filling,
     table: &mut Found,
@@ -68,6 +68,7 @@ fn settle_all(
     black_keys: &mut [Option<BlockKey>],
     black_blocks: &mut [Block],
     scores: &mut Scores,
+    rounds: u32,
 ) -> bool
     requires filling { IsFilling f.now }
     requires table { IsOwnTable f.now.part f.now.class f.now.men table.old }
@@ -88,6 +89,7 @@ fn settle_all(
         black_keys,
         black_blocks,
         scores,
+        rounds,
     ) {
         return false;
     }
@@ -95,8 +97,14 @@ fn settle_all(
     all_are_covered(f, table, items, places)
 }
 
-/// Puts what is due at all codes of the part, until all entries are. False where that is not told by bytes.
-pub(crate) fn settle(alloc: Global, f: &Filling, table: &mut Found) -> Result<bool, AllocError>
+/// Puts what is due at all codes of the part, until all entries are. False where that is not told by bytes, and where so
+/// many rounds of looks are too few.
+pub(crate) fn settle(
+    alloc: Global,
+    f: &Filling,
+    table: &mut Found,
+    rounds: u32,
+) -> Result<bool, AllocError>
     requires filling { IsFilling f.now }
     requires table { IsOwnTable f.now.part f.now.class f.now.men table.old }
     ensures class { table.new.class ≡ table.old.class }
@@ -131,5 +139,6 @@ pub(crate) fn settle(alloc: Global, f: &Filling, table: &mut Found) -> Result<bo
         &mut black_keys,
         &mut black_blocks,
         &mut scores,
+        rounds,
     ))
 }

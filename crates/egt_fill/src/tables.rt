@@ -21,7 +21,7 @@ use std::alloc::{AllocError, Global};
 pub enum Reached {
     /// It has the column.
     Filled(Table),
-    /// It is as it was: bytes do not tell the column.
+    /// It is as it was: bytes do not tell the column, or not in so few rounds.
     Untold(Table),
     /// It is as it was: a growth was refused.
     NoMemory(Table),
@@ -39,7 +39,7 @@ fn children_are_true(class: Class, library: &Library)
 }
 
 /// The table of a class with two men beside the kings, whose children have their tables in the library; without the column of the nearest mates. `None` of
-/// another class, and where bytes do not tell its entries or those of a child.
+/// another class, where bytes do not tell its entries or those of a child, and where more than `rounds` rounds of looks are needed (`ROUNDS` are enough).
 ///
 /// # Errors
 ///
@@ -48,6 +48,7 @@ pub fn filled_values(
     alloc: Global,
     class: Class,
     library: &Library,
+    rounds: u32,
 ) -> Result<Option<Table>, AllocError>
     requires children { HasChildren (table_at library.now) class }
     ensures class { IfOk result (λ filled. IfSome filled (λ t. t.class ≡ class)) }
@@ -63,7 +64,7 @@ pub fn filled_values(
     let Some(mut found) = begun_values(alloc, class)? else {
         return Ok(None);
     };
-    if !settle(alloc, &filling, &mut found)? {
+    if !settle(alloc, &filling, &mut found, rounds)? {
         return Ok(None);
     }
     let table = found.into_table();
@@ -71,9 +72,9 @@ pub fn filled_values(
     Ok(Some(table))
 }
 
-/// A true table with the column of the nearest mates too, where bytes tell it; its other columns are as before. Its class's children have their tables in the
-/// library, with that column.
-pub fn filled_reach(alloc: Global, table: Table, library: &Library) -> Reached
+/// A true table with the column of the nearest mates too, where bytes tell it within so many rounds of looks; its other
+/// columns are as before. Its class's children have their tables in the library, with that column.
+pub fn filled_reach(alloc: Global, table: Table, library: &Library, rounds: u32) -> Reached
     requires truth { IsTrueTable table }
     requires lacks { table.reach ≡ None }
     requires children { HasChildren (table_at library.now) table.class }
@@ -96,7 +97,7 @@ pub fn filled_reach(alloc: Global, table: Table, library: &Library) -> Reached
         Ok(found) => found,
         Err(table) => return Reached::NoMemory(table),
     };
-    let told = settle(alloc, &filling, &mut found);
+    let told = settle(alloc, &filling, &mut found, rounds);
     let table = found.into_table();
     let _class = table.class();
     match told {

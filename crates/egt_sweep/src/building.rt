@@ -24,6 +24,7 @@ use crate::zero_game::ZeroGame;
 use egt_check::laws::rules_are_kept_by_true_tables_alone;
 use egt_check::{Library, first_lacking, first_missing};
 use egt_class::{Class, children};
+use egt_fill::ROUNDS;
 use egt_graph::{Nears, Ranks, SolveFault, nearest, solve};
 use egt_moves::laws::one_value;
 use egt_table::Table;
@@ -202,6 +203,35 @@ fn kept(table: Table, class: Class, library: &Library, limit: u16) -> Result<Tab
     within_limit(table, limit)
 }
 
+/// As `build`, where a class of two men beside the kings is filled within so many rounds of looks; where these are too
+/// few, it is solved as classes of fewer men are.
+///
+/// # Errors
+///
+/// As those of `build`.
+pub fn build_within(
+    alloc: Global,
+    class: Class,
+    library: &Library,
+    limit: u16,
+    rounds: u32,
+) -> Result<Table, BuildFault>
+    requires { limit ≤ 32000 }
+    ensures built { IfOk result (IsBuilt (table_at library.now) class limit) }
+    ensures refused { IfErr result (IsNotBuilt (table_at library.now) class limit) }
+{
+    if let Some(child) = first_missing(class, library) {
+        return Err(BuildFault::Missing(child));
+    }
+    if let Some(child) = first_lacking(class, library) {
+        return Err(BuildFault::NoReach(child));
+    }
+    match filled(alloc, class, library, rounds)? {
+        Some(table) => kept(table, class, library, limit),
+        None => solved(alloc, class, library, limit),
+    }
+}
+
 /// The table of a class whose children have their tables in the library, each with the column of the nearest mates, with no mate distance above `limit`,
 /// which is at most 32,000. A class of two men beside the kings is filled
 /// by blocks, another by retrograde analysis (Thompson 1986). No check is run, and none is needed: every entry is true, and the library takes the table unless it has one of the class.
@@ -221,14 +251,5 @@ pub fn build(
     ensures built { IfOk result (IsBuilt (table_at library.now) class limit) }
     ensures refused { IfErr result (IsNotBuilt (table_at library.now) class limit) }
 {
-    if let Some(child) = first_missing(class, library) {
-        return Err(BuildFault::Missing(child));
-    }
-    if let Some(child) = first_lacking(class, library) {
-        return Err(BuildFault::NoReach(child));
-    }
-    match filled(alloc, class, library)? {
-        Some(table) => kept(table, class, library, limit),
-        None => solved(alloc, class, library, limit),
-    }
+    build_within(alloc, class, library, limit, ROUNDS)
 }

@@ -11,11 +11,12 @@ use egt_fill::{Reached, filled_reach, filled_values};
 use egt_table::Table;
 use std::alloc::Global;
 
-/// The table of a class with all its columns; none where bytes do not tell of its entries.
+/// The table of a class with all its columns; none where bytes do not tell of its entries, and where so many rounds of looks are too few.
 pub(crate) fn filled(
     alloc: Global,
     class: Class,
     library: &Library,
+    rounds: u32,
 ) -> Result<Option<Table>, BuildFault>
     requires children { HasChildren (table_at library.now) class }
     requires reach_children { HasReachChildren (table_at library.now) class }
@@ -24,12 +25,12 @@ pub(crate) fn filled(
     ensures truth { IfOk result (λ filled. IfSome filled IsTrueTable) }
     ensures refused { IfErr result (λ fault. fault ≡ faults.NoMemory) }
 {
-    let table = match filled_values(alloc, class, library) {
+    let table = match filled_values(alloc, class, library, rounds) {
         Ok(Some(table)) => table,
         Ok(None) => return Ok(None),
         Err(_refused) => return Err(BuildFault::NoMemory),
     };
-    match filled_reach(alloc, table, library) {
+    match filled_reach(alloc, table, library, rounds) {
         Reached::Filled(table) => Ok(Some(table)),
         Reached::Untold(_table) => Ok(None),
         Reached::NoMemory(_table) => Err(BuildFault::NoMemory),

@@ -21,7 +21,7 @@ mod sources;
 mod zero_game;
 
 pub use build_fault::BuildFault;
-pub use building::build;
+pub use building::{build, build_within};
 pub use mate_game::MateGame;
 pub use migrate_fault::MigrateFault;
 pub use migrating::migrate;

@@ -10,7 +10,7 @@ use crate::migrate_fault::MigrateFault;
 use crate::ranks::reach_numbers_are_the_nearest_mates;
 use egt_check::laws::rules_are_kept_by_true_tables_alone;
 use egt_check::{Library, first_lacking};
-use egt_fill::{Reached, filled_reach};
+use egt_fill::{ROUNDS, Reached, filled_reach};
 use egt_graph::SolveFault;
 use egt_table::Table;
 use std::alloc::Global;
@@ -66,7 +66,7 @@ pub fn migrate(
     if let Some(child) = first_lacking(class, library) {
         return Err((table, MigrateFault::NoReach(child)));
     }
-    match filled_reach(alloc, table, library) {
+    match filled_reach(alloc, table, library, ROUNDS) {
         Reached::Filled(table) => {
             let _class = table.class();
             Ok(table)

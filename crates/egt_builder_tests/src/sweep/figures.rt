@@ -4,7 +4,7 @@ use egt_class::Class;
 use egt_fixtures::shelf::{file_of, named, whole_library_of};
 use egt_index::size;
 use egt_plain::{PlainTables, whole_table_of};
-use egt_sweep::build;
+use egt_sweep::{build, build_within};
 use egt_table::{Column, Table};
 use std::alloc::Global;
 use std::test::*;
@@ -86,6 +86,43 @@ const KNIGHTS: [&str; 10] = [
 #[test]
 fn a_knight_and_a_pawn(rt: HostRuntime) -> Result<(), Fail> {
     assert_eq!(rt; longest(rt.alloc(), &KNIGHTS, "KNPK")?, 53);
+    Ok(())
+}
+
+/// What two pawns of one side rest on, and what a pawn on each side rests on.
+const ONE_SIDE: [&str; 20] = [
+    "KK", "KQK", "KRK", "KBK", "KNK", "KPK", "KQQK", "KQRK", "KQBK", "KQNK", "KRRK", "KRBK", "KRNK",
+    "KBBK", "KBNK", "KNNK", "KQPK", "KRPK", "KBPK", "KNPK",
+];
+
+const BOTH_SIDES: [&str; 20] = [
+    "KK", "KQK", "KRK", "KBK", "KNK", "KPK", "KQKQ", "KQKR", "KQKB", "KQKN", "KRKR", "KRKB", "KRKN",
+    "KBKB", "KBKN", "KNKN", "KQKP", "KRKP", "KBKP", "KNKP",
+];
+
+// Two pawns mate in 32 moves at most, a pawn against a pawn in 33.
+#[test]
+fn two_pawns(rt: HostRuntime) -> Result<(), Fail> {
+    assert_eq!(rt; longest(rt.alloc(), &ONE_SIDE, "KPPK")?, 63);
+    Ok(())
+}
+
+#[test]
+fn a_pawn_against_a_pawn(rt: HostRuntime) -> Result<(), Fail> {
+    assert_eq!(rt; longest(rt.alloc(), &BOTH_SIDES, "KPKP")?, 65);
+    Ok(())
+}
+
+// One round of looks is too few for two knights, who are then solved by moves backward.
+#[test]
+fn blocks_and_moves_backward_tell_the_same(rt: HostRuntime) -> Result<(), Fail> {
+    let library = built(rt.alloc(), &["KK", "KNK"])?;
+    let class = named("KNNK")?;
+    let by_blocks = build(rt.alloc(), class, &library, 32_000)?;
+    let solved = build_within(rt.alloc(), class, &library, 32_000, 1)?;
+    assert!(rt;
+        file_of(rt.alloc(), &by_blocks)?.as_slice() == file_of(rt.alloc(), &solved)?.as_slice()
+    );
     Ok(())
 }
 
