@@ -1,5 +1,5 @@
 -- Scores that are put, and what they tell.
-use Rattle.std.proofs.Common.{◌≡◌, ◌≢◌, ◌∙◌, ◌⊎◌, ℕ, ◌+◌, ◌*◌, ◌-◌, ◌%◌, ◌<◌, ◌≤◌, List, Option, Some, None, get_or, length, map, slice_index, Fits, w8, arith, refl, sym, ap, subst, inl, inr}
+use Rattle.std.proofs.Common.{◌≡◌, ◌≢◌, ◌∙◌, ◌⊎◌, ℕ, ◌+◌, ◌*◌, ◌-◌, ◌%◌, ◌<◌, List, Some, None, length, map, slice_index, Fits, w8, arith, refl, sym, ap, subst, inl, inr}
 use lib.Lanes.{Each1}
 use Rattle.std.proofs.lemmas.Simd.{Each1-get_or}
 use Rattle.std.proofs.lemmas.Bool.{cases_eq, cases_lt}
@@ -14,12 +14,11 @@ use Rattle.egt_index.specs.ShelfCodes.{number_in}
 use Rattle.egt_index.specs.Size.{size_of}
 use Rattle.egt_index.specs.declared.shelf_codes.ShelfMen.{ShelfMen}
 use Rattle.egt_lanes.specs.Scores.{byte_score, reach_score, zeroing_score}
-use Rattle.egt_table.specs.Table.{HasColumn, TableValue, entries_of, entries_or_none}
+use Rattle.egt_table.specs.Table.{HasColumn, TableValue, entries_of}
 use Rattle.egt_table.specs.declared.column.Column.{Column}
 use Rattle.egt_table.specs.declared.column.Column.TheVariants.{Mate, Zeroing, Reach}
 use Rattle.egt_blocks.proofs.ShelfRead.{square_in}
 use Rattle.egt_check.specs.Given.{AreAlike, IsKnown}
-use Rattle.egt_check.specs.Worth.{column_score, entry_score}
 use Rattle.egt_check.specs.declared.part.Part.TheVariants as parts
 use Rattle.egt_check.specs.Found.{AreTold, IsNearScore, IsPutIn, IsToldAt, IsValueScore, TellColumn, TellsEntry, near_told, table_told, told, value_told}
 use Rattle.egt_check.specs.ScoreRows.{CodeScores, IsLaneIn}

@@ -16,7 +16,7 @@ ghost use Rattle.egt_check.specs.Given.{AreAlike};
 ghost use Rattle.egt_check.specs.Parts.{column_of};
 ghost use Rattle.egt_check.specs.Worth.{column_score};
 ghost use Rattle.egt_check.specs.declared.part.Part.TheVariants as parts;
-ghost use Rattle.egt_check.specs.Found.{IsPutIn, IsToldAt, IsToldEntry, IsToldFrom, TellColumn, table_told, told, value_told, near_told};
+ghost use Rattle.egt_check.specs.Found.{IsPutIn, IsToldAt, IsToldEntry, IsToldFrom, TellColumn, table_told, told};
 ghost use Rattle.egt_check.specs.ScoreRows.{IsLaneIn, IsMaskOf};
 
 use crate::fitting::are_told;
@@ -24,6 +24,7 @@ use crate::part::{Part, column_of};
 use crate::row_judging::first_of;
 use crate::rows::row_of;
 use crate::score_rows::ScoreRows;
+use crate::told_rows::told_row;
 use egt_blocks::digits::{digits_of, first_square};
 use egt_board::{Side, SquareSet};
 use egt_class::Class;
@@ -58,46 +59,6 @@ impl Model for Found {
     ghost invariant = { λ f. AreFound f.table f.scores f.clocks };
 }
 
-/// The entry of the mate column or the zeroing column that has the score.
-fn value_told(score: u8) -> u16
-    ensures { result ≡ value_told score }
-{
-    let number = u16::from(score);
-    if number == 0 {
-        0
-    } else if number == 128 {
-        1
-    } else if number < 128 {
-        2 + 2 * number
-    } else {
-        513 - 2 * number
-    }
-}
-
-/// The entry of the column of the nearest mates that has the score.
-fn near_told(score: u8) -> u16
-    ensures { result ≡ near_told score }
-{
-    let number = u16::from(score);
-    if number == 0 {
-        0
-    } else if number == 128 {
-        1
-    } else {
-        257 - number
-    }
-}
-
-/// The entry of the column that has the score.
-fn told(column: Column, score: u8) -> u16
-    ensures { result ≡ told column score }
-{
-    match column {
-        Column::Mate | Column::Zeroing => value_told(score),
-        Column::Reach => near_told(score),
-    }
-}
-
 /// Gives the shelf's codes with that side to move the entries that their scores tell.
 fn tell_side(
     table: &mut Table,
@@ -118,15 +79,12 @@ fn tell_side(
     let class = table.class();
     let _size = size(class);
     let row = scores.row(men, shelf, side);
+    let entries = told_row(column, row);
     let from = usize::from(first_square(men.last));
     let first = first_of(class, shelf, side);
     for digit in 0..u32::from(digits_of(men.last)) {
-        let score = row[from + digit as usize];
-        table.set(
-            column,
-            code_of(class, first + 2 * digit),
-            told(column, score),
-        );
+        let entry = entries[from + digit as usize];
+        table.set(column, code_of(class, first + 2 * digit), entry);
     }
 }
 

@@ -71,6 +71,10 @@ fn squares_of(man: Man, digits: u64) -> SquareSet
 
 impl ScoreRows {
     /// A score of 0 for each code. `None` of a class that has not two men beside the kings.
+    ///
+    /// # Errors
+    ///
+    /// `AllocError` only where a growth was refused.
     pub fn none(alloc: Global, class: Class) -> Result<Option<ScoreRows>, AllocError>
         ensures class { IfOk result (λ some. IfSome some (λ rows. rows.class ≡ class)) }
         ensures none { IfOk result (λ some. IfSome some (λ rows. (code : ℕ) → slice_index rows.scores code ≡ 0)) }
@@ -113,6 +117,10 @@ impl ScoreRows {
 
     /// The score of a draw for each code that is an index, and 0 for each void one. `None` of a class that has not two men
     /// beside the kings.
+    ///
+    /// # Errors
+    ///
+    /// `AllocError` only where a growth was refused.
     pub fn drawn(alloc: Global, class: Class) -> Result<Option<ScoreRows>, AllocError>
         ensures class { IfOk result (λ some. IfSome some (λ rows. rows.class ≡ class)) }
         ensures void { IfOk result (λ some. IfSome some HasNoVoidScore) }
@@ -183,6 +191,10 @@ impl ScoreRows {
     }
 
     /// The same scores once more.
+    ///
+    /// # Errors
+    ///
+    /// `AllocError` only where a growth was refused.
     pub fn copy(&self, alloc: Global) -> Result<ScoreRows, AllocError>
         ensures { IfOk result (λ rows. rows ≡ self.now) }
     {

@@ -1,4 +1,4 @@
-use Rattle.std.proofs.Common.{◌≡◌, ◌≢◌, ◌∙◌, ◌+◌, ◌<◌, ℕ, Bool, Option, None, Some, false, arith, ap, refl, sym, subst, slice_index}
+use Rattle.std.proofs.Common.{◌≡◌, ◌≢◌, ◌∙◌, ◌+◌, ◌<◌, ℕ, Bool, Option, None, Some, false, ap, refl, sym, subst, slice_index}
 use Rattle.std.specs.Option.{is_some}
 use Rattle.std.proofs.lemmas.Bool.{false≢true}
 use Rattle.egt_board.specs.SquareSet.{Has}
@@ -10,7 +10,7 @@ use Rattle.egt_table.specs.declared.column.Column.TheVariants as columns
 use Rattle.egt_blocks.proofs.ShelfRead.{square_in}
 use Rattle.egt_check.specs.Worth.{column_score}
 use Rattle.egt_check.specs.declared.part.Part.TheVariants as parts
-use Rattle.egt_check.specs.Found.{AreFound, IsPutIn, IsToldAt, TellColumn, table_told}
+use Rattle.egt_check.specs.Found.{AreFound, IsPutIn, IsToldAt, table_told}
 use Rattle.egt_check.specs.ScoreRows.{CodeScores, IsLaneIn}
 use Rattle.egt_check.proofs.FoundPut.{lane_in, near_put_in, near_tells, near_told_at, put_told, same_told, still_tell}
 use Rattle.egt_check.proofs.FoundTold.{near_score}

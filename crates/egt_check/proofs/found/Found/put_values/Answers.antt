@@ -1,4 +1,4 @@
-use Rattle.std.proofs.Common.{◌≡◌, ◌≢◌, ◌∙◌, ◌+◌, ◌<◌, ℕ, Option, None, Some, arith, ap, refl, sym, subst, slice_index}
+use Rattle.std.proofs.Common.{◌≡◌, ◌≢◌, ◌∙◌, ◌+◌, ◌<◌, ℕ, Some, ap, refl, sym, subst, slice_index}
 use Rattle.egt_board.specs.SquareSet.{Has}
 use Rattle.egt_index.specs.Numbers.{code_of}
 use Rattle.egt_index.specs.Scales.{kind_digits, kind_less}
@@ -8,7 +8,7 @@ use Rattle.egt_table.specs.declared.column.Column.TheVariants as columns
 use Rattle.egt_blocks.proofs.ShelfRead.{square_in}
 use Rattle.egt_check.specs.Worth.{column_score}
 use Rattle.egt_check.specs.declared.part.Part.TheVariants as parts
-use Rattle.egt_check.specs.Found.{AreFound, IsPutIn, IsToldAt, TellColumn, table_told}
+use Rattle.egt_check.specs.Found.{AreFound, IsPutIn, IsToldAt, table_told}
 use Rattle.egt_check.specs.ScoreRows.{CodeScores, IsLaneIn}
 use Rattle.egt_check.proofs.FoundPut.{lane_in, put_told, same_told, still_tell, value_tells, values_put_in, values_told_at}
 use Rattle.egt_check.proofs.FoundTold.{mate_score}
