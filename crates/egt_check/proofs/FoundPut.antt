@@ -1,8 +1,8 @@
 -- Scores that are put, and what they tell.
-use Rattle.std.proofs.Common.{◌≡◌, ◌≢◌, ◌∙◌, ◌⊎◌, ℕ, ◌+◌, ◌*◌, ◌-◌, ◌%◌, ◌<◌, ◌≤◌, List, Option, Some, None, get_or, length, map, slice_index, Fits, w8, arith, refl, sym, ap, subst, inl, inr}
+use Rattle.std.proofs.Common.{◌≡◌, ◌≢◌, ◌∙◌, ◌⊎◌, ℕ, ◌+◌, ◌*◌, ◌-◌, ◌%◌, ◌<◌, List, true, Option, Some, None, length, map, slice_index, Fits, w8, arith, refl, sym, ap, subst, inl, inr}
 use lib.Lanes.{Each1}
 use Rattle.std.proofs.lemmas.Simd.{Each1-get_or}
-use Rattle.std.proofs.lemmas.Bool.{cases_eq, cases_lt}
+use Rattle.std.proofs.lemmas.Bool.{cases_eq, cases_lt, false≢true}
 use Rattle.std.proofs.lemmas.Bool.Decides.{nat_tests}
 use Rattle.egt_board.specs.SquareSet.{Has}
 use Rattle.egt_board.specs.declared.man.Kind.{Kind}
@@ -14,21 +14,24 @@ use Rattle.egt_index.specs.ShelfCodes.{number_in}
 use Rattle.egt_index.specs.Size.{size_of}
 use Rattle.egt_index.specs.declared.shelf_codes.ShelfMen.{ShelfMen}
 use Rattle.egt_lanes.specs.Scores.{byte_score, reach_score, zeroing_score}
-use Rattle.egt_table.specs.Table.{HasColumn, TableValue, entries_of, entries_or_none}
+use Rattle.egt_table.specs.Table.{HasColumn, TableValue, entries_of}
 use Rattle.egt_table.specs.declared.column.Column.{Column}
 use Rattle.egt_table.specs.declared.column.Column.TheVariants.{Mate, Zeroing, Reach}
+use Rattle.egt_blocks.specs.ShelfRow.{IsShelfRow}
 use Rattle.egt_blocks.proofs.ShelfRead.{square_in}
 use Rattle.egt_check.specs.Given.{AreAlike, IsKnown}
-use Rattle.egt_check.specs.Worth.{column_score, entry_score}
+use Rattle.egt_check.specs.declared.found.Found.TheInside.{Inside}
+use Rattle.egt_check.specs.declared.part.Part.{Part}
 use Rattle.egt_check.specs.declared.part.Part.TheVariants as parts
-use Rattle.egt_check.specs.Found.{AreTold, IsNearScore, IsPutIn, IsToldAt, IsValueScore, TellColumn, TellsEntry, near_told, table_told, told, value_told}
+use Rattle.egt_check.specs.Found.{AreFound, AreTold, IsNearScore, IsPutIn, IsToldAt, IsValueScore, TellColumn, TellsEntry, near_told, table_told, told, value_told}
+use Rattle.egt_check.specs.Put.{IsPut}
 use Rattle.egt_check.specs.ScoreRows.{CodeScores, IsLaneIn}
-use Rattle.egt_check.proofs.FoundTold.{mate_score, near_score, told_at, zeroing_score as clock_score}
+use Rattle.egt_check.proofs.FoundTold.{mate_score, near_score, told_at, told_none, zeroing_score as clock_score}
 
 -- ---- scores of entries
 
 -- a lane of a row
-pub lane_in : (row : List ℕ) (kind : Kind) (digit : ℕ) → length row ≡ 64 → Each1 (Fits w8) row → digit < kind_digits kind → slice_index row (digit + kind_less kind) < 256
+lane_in : (row : List ℕ) (kind : Kind) (digit : ℕ) → length row ≡ 64 → Each1 (Fits w8) row → digit < kind_digits kind → slice_index row (digit + kind_less kind) < 256
 lane_in row kind digit long fits below =
     let s_in = square_in kind digit below in
     (Each1-get_or (Fits w8) row (digit + kind_less kind) 0 (omega (arith, long, s_in)) fits).fits
@@ -42,7 +45,7 @@ value_shape b b_in is = elim (cases_eq b 128) [
   ]
 ]
 
-pub value_tells : (b : ℕ) → b < 256 → IsValueScore b → TellsEntry Mate b
+value_tells : (b : ℕ) → b < 256 → IsValueScore b → TellsEntry Mate b
 value_tells b b_in is = elim (value_shape b b_in is) [
   | inl draw ↦ ap (λ e. byte_score (e % 256)) draw.1 ∙ sym draw.0
   | inr either ↦ elim either [
@@ -66,7 +69,7 @@ near_shape b b_in is = elim (cases_eq b 128) [
   )
 ]
 
-pub near_tells : (b : ℕ) → b < 256 → IsNearScore b → TellsEntry Reach b
+near_tells : (b : ℕ) → b < 256 → IsNearScore b → TellsEntry Reach b
 near_tells b b_in is = elim (near_shape b b_in is) [
   | inl draw ↦ ap (λ e. reach_score (e % 256)) draw.1 ∙ sym draw.0
   | inr loss ↦ ap (λ e. reach_score (e % 256)) loss.1 ∙ loss_score b loss.0 b_in
@@ -75,7 +78,7 @@ near_tells b b_in is = elim (near_shape b b_in is) [
     loss_score : (b : ℕ) → 129 < b → b < 256 → reach_score ((257 - b) % 256) ≡ b
     loss_score b high b_in = grind (arith, nat_tests, high, b_in)
 
-pub near_known : (b : ℕ) → b < 256 → IsNearScore b → (near_told b ≢ 0) × (near_told b < 128)
+near_known : (b : ℕ) → b < 256 → IsNearScore b → (near_told b ≢ 0) × (near_told b < 128)
 near_known b b_in is = elim (near_shape b b_in is) [
   | inl draw ↦ let told = draw.1 in ((λ none. omega (arith, told, none)), omega (arith, told))
   | inr loss ↦ let told = loss.1 in let high = loss.0 in ((λ none. omega (arith, told, none, b_in)), omega (arith, told, high))
@@ -97,7 +100,7 @@ known_value b b_in is = elim (value_shape b b_in is) [
   ]
 ]
 
-pub value_alike : (a b : ℕ) → a < 256 → b < 256 → IsValueScore a → IsValueScore b → zeroing_score a ≡ zeroing_score b → AreAlike (value_told a) (value_told b)
+value_alike : (a b : ℕ) → a < 256 → b < 256 → IsValueScore a → IsValueScore b → zeroing_score a ≡ zeroing_score b → AreAlike (value_told a) (value_told b)
 value_alike a b a_in b_in a_is b_is same =
     let first_known = known_value a a_in a_is in
     let second_known = known_value b b_in b_is in
@@ -129,30 +132,34 @@ value_alike a b a_in b_in a_is b_is same =
 
 -- ---- scores that were put
 
--- the scores after some at the shelf's squares were put
-module _ (column : Column) (c shelf : ℕ) (men : ShelfMen) (side : Side) (lanes : SquareSet) (old new : CodeScores) (row : List ℕ) (tell : TellColumn column c old) (none : told column 0 ≡ 0)
-    (class : new.class ≡ old.class) (long : length new.scores ≡ size_of old.class)
-    (put : (digit : ℕ) → digit < kind_digits men.last.kind → Has lanes (digit + kind_less men.last.kind) → slice_index new.scores (code_of old.class (number_in old.class shelf side digit)) ≡ slice_index row (digit + kind_less men.last.kind))
-    (others : (code : ℕ) → (slice_index new.scores code ≡ slice_index old.scores code) ⊎ IsLaneIn old.class men shelf side lanes code)
+-- the row's scores were put at the shelf's codes with that side to move and the last man on one of these squares
+pub record IsRowPut (men : ShelfMen) (shelf : ℕ) (side : Side) (lanes : SquareSet) (row : List ℕ) (old new : CodeScores) : Type 0 where
+  pub class : new.class ≡ old.class
+  pub long : length new.scores ≡ size_of old.class
+  pub put : (digit : ℕ) → digit < kind_digits men.last.kind → Has lanes (digit + kind_less men.last.kind)
+      → slice_index new.scores (code_of old.class (number_in old.class shelf side digit)) ≡ slice_index row (digit + kind_less men.last.kind)
+  pub others : (code : ℕ) → (slice_index new.scores code ≡ slice_index old.scores code) ⊎ IsLaneIn old.class men shelf side lanes code
+
+module _ (column : Column) (c shelf : ℕ) (men : ShelfMen) (side : Side) (lanes : SquareSet) (old new : CodeScores) (row : List ℕ) (tell : TellColumn column c old) (is : IsRowPut men shelf side lanes row old new)
     (tells : (digit : ℕ) → digit < kind_digits men.last.kind → Has lanes (digit + kind_less men.last.kind) → TellsEntry column (slice_index row (digit + kind_less men.last.kind))) where
-  pub still_tell : TellColumn column c new
+  still_tell : TellColumn column c new
   still_tell = record {
-    class_is = class ∙ tell.class_is;
-    long = long ∙ ap (λ n. size_of n) tell.class_is;
-    tell = λ code. elim (others code) [
+    class_is = is.class ∙ tell.class_is;
+    long = is.long ∙ ap (λ n. size_of n) tell.class_is;
+    tell = λ code. elim (is.others code) [
       | inl same ↦ subst (TellsEntry column) (sym same) (tell.tell code)
-      | inr lane ↦ subst (TellsEntry column) (sym (ap (slice_index new.scores) lane.3 ∙ put lane.0 lane.1 lane.2)) (tells lane.0 lane.1 lane.2)
+      | inr lane ↦ subst (TellsEntry column) (sym (ap (slice_index new.scores) lane.3 ∙ is.put lane.0 lane.1 lane.2)) (tells lane.0 lane.1 lane.2)
     ];
   }
 
-  pub same_told : (code : ℕ) → (slice_index (map (told column) new.scores) code ≡ slice_index (map (told column) old.scores) code) ⊎ IsLaneIn c men shelf side lanes code
-  same_told code = elim (others code) [
-    | inl same ↦ inl (told_at column new.scores code none ∙ ap (told column) same ∙ sym (told_at column old.scores code none))
+  same_told : (code : ℕ) → (slice_index (map (told column) new.scores) code ≡ slice_index (map (told column) old.scores) code) ⊎ IsLaneIn c men shelf side lanes code
+  same_told code = elim (is.others code) [
+    | inl same ↦ inl (told_at column new.scores code (told_none column) ∙ ap (told column) same ∙ sym (told_at column old.scores code (told_none column)))
     | inr lane ↦ inr (subst (λ n. IsLaneIn n men shelf side lanes code) tell.class_is lane)
   ]
 
-  pub put_told : (digit : ℕ) → digit < kind_digits men.last.kind → Has lanes (digit + kind_less men.last.kind) → slice_index new.scores (code_of c (number_in c shelf side digit)) ≡ slice_index row (digit + kind_less men.last.kind)
-  put_told digit below has = subst (λ n. slice_index new.scores (code_of n (number_in n shelf side digit)) ≡ slice_index row (digit + kind_less men.last.kind)) tell.class_is (put digit below has)
+  put_told : (digit : ℕ) → digit < kind_digits men.last.kind → Has lanes (digit + kind_less men.last.kind) → slice_index new.scores (code_of c (number_in c shelf side digit)) ≡ slice_index row (digit + kind_less men.last.kind)
+  put_told digit below has = subst (λ n. slice_index new.scores (code_of n (number_in n shelf side digit)) ≡ slice_index row (digit + kind_less men.last.kind)) tell.class_is (is.put digit below has)
 
 module _ (At : ℕ → Type 0) (t : TableValue) (old_scores old_clocks scores clocks : CodeScores)
     (mate : (code : ℕ) → (slice_index (map value_told scores.scores) code ≡ slice_index (map value_told old_scores.scores) code) ⊎ At code)
@@ -167,7 +174,7 @@ module _ (At : ℕ → Type 0) (t : TableValue) (old_scores old_clocks scores cl
   values_there Zeroing has = has
   values_there Reach has = has
 
-  pub values_put_in : IsPutIn parts.Values At (table_told t old_scores (Some old_clocks)) (table_told t scores (Some clocks))
+  values_put_in : IsPutIn parts.Values At (table_told t old_scores (Some old_clocks)) (table_told t scores (Some clocks))
   values_put_in = record { class = refl; there = values_there; same = values_same; mate = λ is. cc; zeroing = λ is. cc; reach = λ is. refl }
 
 module _ (At : ℕ → Type 0) (t : TableValue) (old_scores scores : CodeScores)
@@ -182,11 +189,11 @@ module _ (At : ℕ → Type 0) (t : TableValue) (old_scores scores : CodeScores)
   near_there Zeroing has = has
   near_there Reach has = refl
 
-  pub near_put_in : IsPutIn parts.Reach At (table_told t old_scores None) (table_told t scores None)
+  near_put_in : IsPutIn parts.Reach At (table_told t old_scores None) (table_told t scores None)
   near_put_in = record { class = refl; there = near_there; same = near_same; mate = λ is. refl; zeroing = λ is. refl; reach = λ is. cc }
 
 -- what are put are told
-pub values_told_at : (t : TableValue) (scores clocks : CodeScores) (code score clock : ℕ) → TellColumn Mate t.class scores → TellColumn Zeroing t.class clocks → slice_index scores.scores code ≡ score → slice_index clocks.scores code ≡ clock
+values_told_at : (t : TableValue) (scores clocks : CodeScores) (code score clock : ℕ) → TellColumn Mate t.class scores → TellColumn Zeroing t.class clocks → slice_index scores.scores code ≡ score → slice_index clocks.scores code ≡ clock
     → score < 256 → clock < 256 → AreTold parts.Values score clock → IsToldAt parts.Values (table_told t scores (Some clocks)) code score clock
 values_told_at t scores clocks code score clock tell also is clock_is score_in clock_in told_both = (
   mate_score t scores clocks tell code ∙ is,
@@ -196,9 +203,68 @@ values_told_at t scores clocks code score clock tell also is clock_is score_in c
       (value_alike score clock score_in clock_in told_both.0 told_both.1 told_both.2)),
 )
 
-pub near_told_at : (t : TableValue) (scores : CodeScores) (code score clock : ℕ) → TellColumn Reach t.class scores → slice_index scores.scores code ≡ score
+near_told_at : (t : TableValue) (scores : CodeScores) (code score clock : ℕ) → TellColumn Reach t.class scores → slice_index scores.scores code ≡ score
     → score < 256 → AreTold parts.Reach score clock → IsToldAt parts.Reach (table_told t scores None) code score clock
 near_told_at t scores code score clock tell is score_in told_near =
     let entry : slice_index (map near_told scores.scores) code ≡ near_told score = told_at Reach scores.scores code refl ∙ ap near_told is in
     let known = near_known score score_in told_near in
     (near_score t scores scores tell code ∙ is, (λ none. known.0 (sym entry ∙ none)), subst (λ n. n < 128) (sym entry) known.1)
+
+-- ---- both
+
+module _ (men : ShelfMen) (shelf : ℕ) (side : Side) (lanes : SquareSet) (own first second : List ℕ) (t old : TableValue) (scores : CodeScores)
+    (fits : (length first ≡ 64) × Each1 (Fits w8) first) (also : (length second ≡ 64) × Each1 (Fits w8) second) (read : IsShelfRow scores.class (slice_index scores.scores) men shelf side own) where
+  -- what is put in the table with these clocks
+  abbrev PutsIn : Part → Option CodeScores → Inside → Type 0
+  PutsIn part o f = table_told t scores o ≡ old → AreFound t scores o → ((s : ℕ) → s < 64 → Has lanes s → (slice_index own s ≢ 0) × AreTold part (slice_index first s) (slice_index second s))
+      → (new : CodeScores) → IsRowPut men shelf side lanes first f.scores new → AreFound f.table new f.clocks × IsPut part men shelf side lanes first second old (table_told f.table new f.clocks) true
+
+  values_in : (clocks new_clocks : CodeScores) → IsRowPut men shelf side lanes second clocks new_clocks → PutsIn parts.Values (Some clocks) (record { table = t; scores = scores; clocks = Some new_clocks })
+  values_in clocks new_clocks put_clocks view are ok new put =
+      let kind = men.last.kind in
+      let less = kind_less kind in
+      let lane = λ (digit : ℕ) (below : digit < kind_digits kind). ok (digit + less) (square_in kind digit below) in
+      let first_in = λ (digit : ℕ) (below : digit < kind_digits kind). lane_in first kind digit fits.0 fits.1 below in
+      let second_in = λ (digit : ℕ) (below : digit < kind_digits kind). lane_in second kind digit also.0 also.1 below in
+      let first_tells = λ (digit : ℕ) (below : digit < kind_digits kind) (has : Has lanes (digit + less)). value_tells (slice_index first (digit + less)) (first_in digit below) (lane digit below has).1.0 in
+      let second_tells = λ (digit : ℕ) (below : digit < kind_digits kind) (has : Has lanes (digit + less)). value_tells (slice_index second (digit + less)) (second_in digit below) (lane digit below has).1.1 in
+      let tell = still_tell Mate t.class shelf men side lanes scores new first are.1 put first_tells in
+      let tell_clocks = still_tell Zeroing t.class shelf men side lanes clocks new_clocks second are.2 put_clocks second_tells in (
+        (are.0, tell, tell_clocks),
+        subst (λ (u : TableValue). IsPut parts.Values men shelf side lanes first second u (table_told t new (Some new_clocks)) true) view (record {
+          put = values_put_in (IsLaneIn t.class men shelf side lanes) t scores clocks new new_clocks (same_told Mate t.class shelf men side lanes scores new first are.1 put first_tells) (same_told Zeroing t.class shelf men side lanes clocks new_clocks second are.2 put_clocks second_tells);
+          kept = λ none. absurd (false≢true (sym none));
+          indexes = λ is digit below has none. (lane digit below has).0
+              (read.digits digit below ∙ ap (λ n. slice_index scores.scores (code_of n (number_in n shelf side digit))) are.1.class_is ∙ sym (mate_score t scores clocks are.1 (code_of t.class (number_in t.class shelf side digit))) ∙ none);
+          told = λ is digit below has. values_told_at t new new_clocks (code_of t.class (number_in t.class shelf side digit)) (slice_index first (digit + less)) (slice_index second (digit + less)) tell tell_clocks
+              (put_told Mate t.class shelf men side lanes scores new first are.1 put first_tells digit below has) (put_told Zeroing t.class shelf men side lanes clocks new_clocks second are.2 put_clocks second_tells digit below has)
+              (first_in digit below) (second_in digit below) (lane digit below has).1;
+        }),
+      )
+
+  near_in : PutsIn parts.Reach None (record { table = t; scores = scores; clocks = None })
+  near_in view are ok new put =
+      let kind = men.last.kind in
+      let less = kind_less kind in
+      let lane = λ (digit : ℕ) (below : digit < kind_digits kind). ok (digit + less) (square_in kind digit below) in
+      let first_in = λ (digit : ℕ) (below : digit < kind_digits kind). lane_in first kind digit fits.0 fits.1 below in
+      let tells = λ (digit : ℕ) (below : digit < kind_digits kind) (has : Has lanes (digit + less)). near_tells (slice_index first (digit + less)) (first_in digit below) (lane digit below has).1 in
+      let tell = still_tell Reach t.class shelf men side lanes scores new first are.1 put tells in (
+        (are.0, tell, are.2),
+        subst (λ (u : TableValue). IsPut parts.Reach men shelf side lanes first second u (table_told t new None) true) view (record {
+          put = near_put_in (IsLaneIn t.class men shelf side lanes) t scores new (same_told Reach t.class shelf men side lanes scores new first are.1 put tells);
+          kept = λ none. absurd (false≢true (sym none));
+          indexes = λ is digit below has none. (lane digit below has).0
+              (read.digits digit below ∙ ap (λ n. slice_index scores.scores (code_of n (number_in n shelf side digit))) are.1.class_is ∙ sym (near_score t scores scores are.1 (code_of t.class (number_in t.class shelf side digit))) ∙ none);
+          told = λ is digit below has. near_told_at t new (code_of t.class (number_in t.class shelf side digit)) (slice_index first (digit + less)) (slice_index second (digit + less)) tell
+              (put_told Reach t.class shelf men side lanes scores new first are.1 put tells digit below has) (first_in digit below) (lane digit below has).1;
+        }),
+      )
+
+  pub values_put : (part : Part) (o : Option CodeScores) (f : Inside) (clocks new_clocks : CodeScores) → part ≡ parts.Values → o ≡ Some clocks → f ≡ record { table = t; scores = scores; clocks = Some new_clocks } → IsRowPut men shelf side lanes second clocks new_clocks → PutsIn part o f
+  values_put part o f clocks new_clocks values some is put_clocks =
+      subst (λ p. PutsIn p o f) (sym values) (subst (λ o. PutsIn parts.Values o f) (sym some) (subst (PutsIn parts.Values (Some clocks)) (sym is) (values_in clocks new_clocks put_clocks)))
+
+  pub near_put : (part : Part) (o : Option CodeScores) (f : Inside) → part ≡ parts.Reach → o ≡ None → f ≡ record { table = t; scores = scores; clocks = o } → PutsIn part o f
+  near_put part o f reach none is =
+      subst (λ p. PutsIn p o f) (sym reach) (subst (PutsIn parts.Reach o) (sym is) (subst (λ o. PutsIn parts.Reach o (record { table = t; scores = scores; clocks = o })) (sym none) near_in))

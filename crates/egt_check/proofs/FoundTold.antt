@@ -1,12 +1,11 @@
 -- What scores tell of a table's entries.
-use Rattle.std.proofs.Common.{◌≡◌, ◌≢◌, ◌∙◌, ◌⊎◌, ℕ, ◌+◌, ◌*◌, ◌-◌, ◌%◌, ◌<◌, ◌≤◌, Bool, List, Option, Some, None, IsSome, get_or, map, slice_index, arith, refl, sym, ap, subst, inl, inr}
+use Rattle.std.proofs.Common.{◌≡◌, ◌≢◌, ◌∙◌, ℕ, ◌%◌, ◌<◌, Bool, List, Option, Some, None, IsSome, get_or, map, slice_index, refl, sym, ap, subst, inl, inr}
 use Rattle.std.proofs.lemmas.Bool.{cases_eq, false≢true}
 use Rattle.std.proofs.Math.ListN.{get_or-map}
 use Rattle.egt_board.specs.Pawn.{MayStand}
-use Rattle.egt_board.specs.declared.man.Kind.TheVariants.{P}
 use Rattle.egt_board.specs.declared.man.Man.{Man}
 use Rattle.egt_board.specs.declared.man.Side.{Side}
-use Rattle.egt_index.specs.ShelfCodes.{IsShelfOf, IsWithin, stand_with}
+use Rattle.egt_index.specs.ShelfCodes.{IsShelfOf, stand_with}
 use Rattle.egt_index.specs.Spelled.{IsListed}
 use Rattle.egt_index.specs.Stood.{list_of}
 use Rattle.egt_index.specs.TellsMen.{TellsMen}
@@ -19,7 +18,7 @@ use Rattle.egt_table.specs.declared.column.Column.TheVariants.{Mate, Zeroing, Re
 use Rattle.egt_blocks.specs.ShelfRow.{IsShelfRow}
 use Rattle.egt_blocks.proofs.ShelfRead.{row_read}
 use Rattle.egt_check.specs.Worth.{column_score, entry_score}
-use Rattle.egt_check.specs.Found.{IsToldEntry, IsToldFrom, TellColumn, TellsEntry, table_told, told, near_told, value_told}
+use Rattle.egt_check.specs.Found.{IsToldEntry, IsToldFrom, TellColumn, TellsEntry, table_told, told}
 use Rattle.egt_check.specs.ScoreRows.{CodeScores}
 
 -- an entry that is told

@@ -41,5 +41,6 @@ pub mod EqualTables
 pub mod ScoreRowsRead
 pub mod FoundTold
 pub mod FoundPut
+pub mod ToldRows
 pub mod ScoresDrawn
 pub mod UnlikeRows

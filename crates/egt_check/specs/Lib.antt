@@ -16,4 +16,5 @@ pub mod Parts
 pub mod ReachScores
 pub mod ScoreRows
 pub mod Found
+pub mod Put
 pub mod Own

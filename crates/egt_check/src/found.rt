@@ -1,37 +1,29 @@
 //! The entries of a class with two men beside the kings while they are found: their scores are kept as rows of bytes.
-ghost use Rattle.std.specs.Prelude.{◌≡◌, ◌≢◌, ◌<◌, ◌⊎◌, ◌+◌, ℕ, None, Some, IsSome, length, map, false, slice_index, true};
-ghost use Rattle.std.specs.Int.{bit_at};
-ghost use Rattle.egt_board.specs.SquareSet.{Has};
-ghost use Rattle.egt_board.specs.declared.man.Kind.TheVariants.{P};
+ghost use Rattle.std.specs.Prelude.{◌≡◌, ◌<◌, ℕ, None, Some, IsSome, map, slice_index};
 ghost use Rattle.egt_index.specs.Numbers.{code_of, places};
-ghost use Rattle.egt_index.specs.Scales.{kind_digits, kind_less};
 ghost use Rattle.egt_index.specs.ShelfCodes.{HasTwoBeside, IsShelf, IsShelfOf, IsWithin, number_in, stand_with};
-ghost use Rattle.egt_index.specs.Size.{size_of};
 ghost use Rattle.egt_index.specs.TellsMen.{TellsMen};
 ghost use Rattle.egt_lanes.specs.Raised.{IsRaised};
 ghost use Rattle.egt_table.specs.Table.{HasColumn, IsTable, entries_of};
 ghost use Rattle.egt_table.specs.declared.column.Column.{Column};
 ghost use Rattle.egt_table.specs.declared.column.Column.TheVariants as columns;
-ghost use Rattle.egt_check.specs.Given.{AreAlike};
-ghost use Rattle.egt_check.specs.Parts.{column_of};
 ghost use Rattle.egt_check.specs.Worth.{column_score};
-ghost use Rattle.egt_check.specs.declared.part.Part.TheVariants as parts;
-ghost use Rattle.egt_check.specs.Found.{IsPutIn, IsToldAt, IsToldEntry, IsToldFrom, TellColumn, table_told, told, value_told, near_told};
-ghost use Rattle.egt_check.specs.ScoreRows.{IsLaneIn, IsMaskOf};
+ghost use Rattle.egt_check.specs.Found.{IsToldEntry, IsToldFrom, TellColumn, table_told, told};
+ghost use Rattle.egt_check.specs.Put.{IsPut};
+ghost use Rattle.egt_check.specs.ScoreRows.{IsMaskOf};
 
 use crate::fitting::are_told;
-use crate::part::{Part, column_of};
+use crate::part::Part;
 use crate::row_judging::first_of;
 use crate::rows::row_of;
 use crate::score_rows::ScoreRows;
+use crate::told_rows::told_row;
 use egt_blocks::digits::{digits_of, first_square};
 use egt_board::{Side, SquareSet};
 use egt_class::Class;
 use egt_index::laws::{codes_tell_turned_men, numbers_stand_for_codes};
 use egt_index::{ShelfMen, code_of, last_digits, shelf_men, size};
 use egt_lanes::Row;
-use egt_lanes::score::zeroed;
-use egt_lanes::sets::lanes_of;
 use egt_table::{Column, Table};
 use std::marker::Model;
 use std::simd::prelude::*;
@@ -58,46 +50,6 @@ impl Model for Found {
     ghost invariant = { λ f. AreFound f.table f.scores f.clocks };
 }
 
-/// The entry of the mate column or the zeroing column that has the score.
-fn value_told(score: u8) -> u16
-    ensures { result ≡ value_told score }
-{
-    let number = u16::from(score);
-    if number == 0 {
-        0
-    } else if number == 128 {
-        1
-    } else if number < 128 {
-        2 + 2 * number
-    } else {
-        513 - 2 * number
-    }
-}
-
-/// The entry of the column of the nearest mates that has the score.
-fn near_told(score: u8) -> u16
-    ensures { result ≡ near_told score }
-{
-    let number = u16::from(score);
-    if number == 0 {
-        0
-    } else if number == 128 {
-        1
-    } else {
-        257 - number
-    }
-}
-
-/// The entry of the column that has the score.
-fn told(column: Column, score: u8) -> u16
-    ensures { result ≡ told column score }
-{
-    match column {
-        Column::Mate | Column::Zeroing => value_told(score),
-        Column::Reach => near_told(score),
-    }
-}
-
 /// Gives the shelf's codes with that side to move the entries that their scores tell.
 fn tell_side(
     table: &mut Table,
@@ -118,15 +70,12 @@ fn tell_side(
     let class = table.class();
     let _size = size(class);
     let row = scores.row(men, shelf, side);
+    let entries = told_row(column, row);
     let from = usize::from(first_square(men.last));
     let first = first_of(class, shelf, side);
     for digit in 0..u32::from(digits_of(men.last)) {
-        let score = row[from + digit as usize];
-        table.set(
-            column,
-            code_of(class, first + 2 * digit),
-            told(column, score),
-        );
+        let entry = entries[from + digit as usize];
+        table.set(column, code_of(class, first + 2 * digit), entry);
     }
 }
 
@@ -200,8 +149,8 @@ impl Found {
         self.table.class()
     }
 
-    /// The scores of the shelf's codes with that side to move, by the last man's square, and with a target where one was
-    /// passed.
+    /// The scores of the shelf's codes with that side to move, by the last man's square, and with a target where one
+    /// was passed.
     #[inline(always)]
     pub fn row(&self, column: Column, men: &ShelfMen, shelf: u32, side: Side, passed: bool) -> Row
         requires there { HasColumn column self.now }
@@ -225,75 +174,10 @@ impl Found {
         }
     }
 
-    /// Puts the entries with these scores in both columns of values.
-    #[inline(always)]
-    fn put_values(
-        &mut self,
-        men: &ShelfMen,
-        shelf: u32,
-        side: Side,
-        lanes: SquareSet,
-        mask: Row,
-        scores: Row,
-        clocks: Row,
-    ) -> bool
-        requires shelf { IsShelf self.old.class shelf men.now }
-        requires within { IsWithin self.old.class shelf }
-        requires mask { IsMaskOf lanes mask }
-        ensures put { IsPutIn parts.Values (IsLaneIn self.old.class men.now shelf side lanes) self.old self.new }
-        ensures kept { result ≡ false → self.new ≡ self.old }
-        ensures indexes { result ≡ true → (digit : ℕ) → digit < kind_digits men.now.last.kind → Has lanes (digit + kind_less men.now.last.kind) →
-            column_score self.old (column_of parts.Values) (code_of self.old.class (number_in self.old.class shelf side digit)) ≢ 0 }
-        ensures told { result ≡ true → (digit : ℕ) → digit < kind_digits men.now.last.kind → Has lanes (digit + kind_less men.now.last.kind) →
-            IsToldAt parts.Values self.new (code_of self.old.class (number_in self.old.class shelf side digit)) (slice_index scores (digit + kind_less men.now.last.kind)) (slice_index clocks (digit + kind_less men.now.last.kind)) }
-    {
-        let _class = self.table.class();
-        let own = self.scores.row(men, shelf, side);
-        if !are_told(Part::Values, own, lanes, mask, scores, clocks) {
-            return false;
-        }
-        let Some(rows) = &mut self.clocks else {
-            return false;
-        };
-        rows.put(men, shelf, side, lanes, mask, clocks);
-        self.scores.put(men, shelf, side, lanes, mask, scores);
-        true
-    }
-
-    /// Puts the entries with these scores in the column of the nearest mates. The contract alone reads the clocks.
-    #[inline(always)]
-    fn put_near(
-        &mut self,
-        men: &ShelfMen,
-        shelf: u32,
-        side: Side,
-        lanes: SquareSet,
-        mask: Row,
-        scores: Row,
-        clocks: Row,
-    ) -> bool
-        requires shelf { IsShelf self.old.class shelf men.now }
-        requires within { IsWithin self.old.class shelf }
-        requires mask { IsMaskOf lanes mask }
-        ensures put { IsPutIn parts.Reach (IsLaneIn self.old.class men.now shelf side lanes) self.old self.new }
-        ensures kept { result ≡ false → self.new ≡ self.old }
-        ensures indexes { result ≡ true → (digit : ℕ) → digit < kind_digits men.now.last.kind → Has lanes (digit + kind_less men.now.last.kind) →
-            column_score self.old (column_of parts.Reach) (code_of self.old.class (number_in self.old.class shelf side digit)) ≢ 0 }
-        ensures told { result ≡ true → (digit : ℕ) → digit < kind_digits men.now.last.kind → Has lanes (digit + kind_less men.now.last.kind) →
-            IsToldAt parts.Reach self.new (code_of self.old.class (number_in self.old.class shelf side digit)) (slice_index scores (digit + kind_less men.now.last.kind)) (slice_index clocks (digit + kind_less men.now.last.kind)) }
-    {
-        let _class = self.table.class();
-        let own = self.scores.row(men, shelf, side);
-        if self.clocks.is_some() || !are_told(Part::Reach, own, lanes, mask, scores, clocks) {
-            return false;
-        }
-        self.scores.put(men, shelf, side, lanes, mask, scores);
-        true
-    }
-
-    /// Puts the entries with these scores at the shelf's codes with that side to move and the last man on one of these squares,
-    /// where the mask is not 0; the second are of the zeroing column alone. False where no entries have them that tell one result, where a code of
-    /// these is no index, and where it is not this part whose entries are being found: then all stays as it is.
+    /// Puts the entries with these scores at the shelf's codes with that side to move and the last man on one of these
+    /// squares, where the mask is not 0; the second are of the zeroing column alone. False where no entries have them
+    /// that tell one result, where a code of these is no index, and where it is not this part whose entries are being
+    /// found: then all stays as it is.
     #[inline(always)]
     pub fn put(
         &mut self,
@@ -309,17 +193,20 @@ impl Found {
         requires shelf { IsShelf self.old.class shelf men.now }
         requires within { IsWithin self.old.class shelf }
         requires mask { IsMaskOf lanes mask }
-        ensures put { IsPutIn part (IsLaneIn self.old.class men.now shelf side lanes) self.old self.new }
-        ensures kept { result ≡ false → self.new ≡ self.old }
-        ensures indexes { result ≡ true → (digit : ℕ) → digit < kind_digits men.now.last.kind → Has lanes (digit + kind_less men.now.last.kind) →
-            column_score self.old (column_of part) (code_of self.old.class (number_in self.old.class shelf side digit)) ≢ 0 }
-        ensures told { result ≡ true → (digit : ℕ) → digit < kind_digits men.now.last.kind → Has lanes (digit + kind_less men.now.last.kind) →
-            IsToldAt part self.new (code_of self.old.class (number_in self.old.class shelf side digit)) (slice_index scores (digit + kind_less men.now.last.kind)) (slice_index clocks (digit + kind_less men.now.last.kind)) }
+        ensures { IsPut part men.now shelf side lanes scores clocks self.old self.new result }
     {
-        match part {
-            Part::Values => self.put_values(men, shelf, side, lanes, mask, scores, clocks),
-            Part::Reach => self.put_near(men, shelf, side, lanes, mask, scores, clocks),
+        let _class = self.table.class();
+        let own = self.scores.row(men, shelf, side);
+        if !are_told(part, own, lanes, mask, scores, clocks) {
+            return false;
         }
+        match (part, &mut self.clocks) {
+            (Part::Values, Some(rows)) => rows.put(men, shelf, side, lanes, mask, clocks),
+            (Part::Reach, None) => {}
+            _ => return false,
+        }
+        self.scores.put(men, shelf, side, lanes, mask, scores);
+        true
     }
 
     /// The table with the entries that are found.

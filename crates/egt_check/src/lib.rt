@@ -31,6 +31,7 @@ pub mod score_rows;
 pub mod successors;
 pub mod table_judging;
 pub mod table_scores;
+pub mod told_rows;
 pub mod voids;
 
 pub use checking::{check, first_lacking, first_missing};

@@ -22,8 +22,8 @@ use std::alloc::{AllocError, Global};
 use std::marker::Model;
 use std::simd::prelude::*;
 
-/// A score for each code of a class with two men beside the kings, in bytes: a row for each shelf and side to move, a lane
-/// for each square of the last man.
+/// A score for each code of a class with two men beside the kings, in bytes: a row for each shelf and side to move, a
+/// lane for each square of the last man.
 #[derive(Drop)]
 pub struct ScoreRows {
     class: Class,
@@ -71,6 +71,10 @@ fn squares_of(man: Man, digits: u64) -> SquareSet
 
 impl ScoreRows {
     /// A score of 0 for each code. `None` of a class that has not two men beside the kings.
+    ///
+    /// # Errors
+    ///
+    /// `AllocError` only where a growth was refused.
     pub fn none(alloc: Global, class: Class) -> Result<Option<ScoreRows>, AllocError>
         ensures class { IfOk result (λ some. IfSome some (λ rows. rows.class ≡ class)) }
         ensures none { IfOk result (λ some. IfSome some (λ rows. (code : ℕ) → slice_index rows.scores code ≡ 0)) }
@@ -111,8 +115,12 @@ impl ScoreRows {
         true
     }
 
-    /// The score of a draw for each code that is an index, and 0 for each void one. `None` of a class that has not two men
-    /// beside the kings.
+    /// The score of a draw for each code that is an index, and 0 for each void one. `None` of a class that has not two
+    /// men beside the kings.
+    ///
+    /// # Errors
+    ///
+    /// `AllocError` only where a growth was refused.
     pub fn drawn(alloc: Global, class: Class) -> Result<Option<ScoreRows>, AllocError>
         ensures class { IfOk result (λ some. IfSome some (λ rows. rows.class ≡ class)) }
         ensures void { IfOk result (λ some. IfSome some HasNoVoidScore) }
@@ -142,7 +150,8 @@ impl ScoreRows {
         self.class
     }
 
-    /// The scores of the shelf's codes with that side to move, by the last man's square. The contract alone reads the men.
+    /// The scores of the shelf's codes with that side to move, by the last man's square. The contract alone reads the
+    /// men.
     #[inline(always)]
     pub fn row(&self, men: &ShelfMen, shelf: u32, side: Side) -> Row
         requires shelf { IsShelf self.now.class shelf men.now }
@@ -154,8 +163,8 @@ impl ScoreRows {
         self.rows[row_place(self.shelves, shelf, side)]
     }
 
-    /// Puts these scores at the shelf's codes with that side to move and the last man on one of these squares, where the mask is
-    /// not 0. The contract alone reads the men and the squares.
+    /// Puts these scores at the shelf's codes with that side to move and the last man on one of these squares, where
+    /// the mask is not 0. The contract alone reads the men and the squares.
     #[inline(always)]
     pub fn put(
         &mut self,
@@ -183,6 +192,10 @@ impl ScoreRows {
     }
 
     /// The same scores once more.
+    ///
+    /// # Errors
+    ///
+    /// `AllocError` only where a growth was refused.
     pub fn copy(&self, alloc: Global) -> Result<ScoreRows, AllocError>
         ensures { IfOk result (λ rows. rows ≡ self.now) }
     {

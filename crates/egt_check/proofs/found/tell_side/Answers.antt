@@ -24,16 +24,17 @@ loop-digit-preserved c =
     c.code_of.ensures.is ∙ ap (λ n. code_of n (c.first_of-first.result + 2 * k)) c.class-class.ensures.class
     ∙ ap (code_of cl) (let first = c.first_of-first.ensures ∙ ap (λ n. number_in n shelf side 0) c.class-class.ensures.class in let e : c.first_of-first.result + 2 * k ≡ number_in cl shelf side k = omega (arith, first) in e) in
     let lane : c.from-from.result + k ≡ k + kind_less kind = (let from = c.from-from.ensures in let first = c.first_square.ensures in omega (arith, from, first)) in
-    let inside : c.from-from.result + k < length c.row-row.result = (let wide = c.loop-digit.auto.row.0 in let s_in = square_in kind k below in omega (arith, lane, wide, s_in)) in
-    let score : c.index-score.result.now ≡ slice_index scores c.code_of.result =
-    c.index-score.ensures ∙ get_or_default c.row-row.result (c.from-from.result + k) c.index-score.result.now 0 inside ∙ ap (slice_index c.row-row.result) lane
-    ∙ c.row-row.ensures.digits k below ∙ ap (λ n. slice_index scores (code_of n (number_in n shelf side k))) c.requires.class ∙ ap (slice_index scores) (sym code_is) in
-    let entry = c.told.ensures ∙ ap (told column) score in
+    let s_in : k + kind_less kind < 64 = square_in kind k below in
+    let inside : c.from-from.result + k < length c.told_row-entries.result = (let wide = c.loop-digit.auto.entries.0 in omega (arith, lane, wide, s_in)) in
+    let entry : c.index-entry.result.now ≡ told column (slice_index scores c.code_of.result) =
+    c.index-entry.ensures ∙ get_or_default c.told_row-entries.result (c.from-from.result + k) c.index-entry.result.now 0 inside ∙ ap (slice_index c.told_row-entries.result) lane
+    ∙ c.told_row-entries.ensures (k + kind_less kind) s_in
+    ∙ ap (told column) (c.row-row.ensures.digits k below ∙ ap (λ n. slice_index scores (code_of n (number_in n shelf side k))) c.requires.class ∙ ap (slice_index scores) (sym code_is)) in
     let put = c.set.ensures in
     let from = c.loop-digit.invariant.from in
     record {
-      from = told_more column scores start c.loop-digit.table c.set.new.self c.code_of.result c.told.result from entry put.class put.there put.columns put.reach put.here put.others;
+      from = told_more column scores start c.loop-digit.table c.set.new.self c.code_of.result c.index-entry.result.now from entry put.class put.there put.columns put.reach put.here put.others;
       told = below_more _ _
-          (λ j less. told_still column scores start c.loop-digit.table c.set.new.self c.code_of.result c.told.result from entry put.class put.there put.columns put.reach put.here put.others _ (c.loop-digit.invariant.told j less))
-          (subst (IsToldEntry column scores c.set.new.self) code_is (told_here column scores start c.loop-digit.table c.set.new.self c.code_of.result c.told.result from entry put.class put.there put.columns put.reach put.here put.others));
+          (λ j less. told_still column scores start c.loop-digit.table c.set.new.self c.code_of.result c.index-entry.result.now from entry put.class put.there put.columns put.reach put.here put.others _ (c.loop-digit.invariant.told j less))
+          (subst (IsToldEntry column scores c.set.new.self) code_is (told_here column scores start c.loop-digit.table c.set.new.self c.code_of.result c.index-entry.result.now from entry put.class put.there put.columns put.reach put.here put.others));
     }

@@ -1,10 +1,8 @@
-use Rattle.std.proofs.Common.{◌≡◌, ◌∙◌, ◌<◌, ℕ, List, Option, None, Some, ap, refl, sym, subst, slice_index}
-use Rattle.egt_board.specs.declared.man.Side.{Side}
-use Rattle.egt_index.specs.ShelfCodes.{IsShelfOf, IsWithin, stand_with}
+use Rattle.std.proofs.Common.{◌≡◌, ◌∙◌, ◌<◌, ℕ, List, None, Some, ap, sym, subst, slice_index}
+use Rattle.egt_index.specs.ShelfCodes.{IsShelfOf, stand_with}
 use Rattle.egt_index.specs.TellsMen.{TellsMen}
-use Rattle.egt_index.specs.declared.shelf_codes.ShelfMen.{ShelfMen}
 use Rattle.egt_lanes.specs.Raised.{IsRaised}
-use Rattle.egt_table.specs.Table.{HasColumn, TableValue}
+use Rattle.egt_table.specs.Table.{TableValue}
 use Rattle.egt_table.specs.declared.column.Column.{Column}
 use Rattle.egt_table.specs.declared.column.Column.TheVariants as columns
 use Rattle.egt_check.specs.Worth.{column_score}

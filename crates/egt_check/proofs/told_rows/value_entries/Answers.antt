@@ -1,0 +1,9 @@
+use Rattle.std.proofs.Common.{◌≡◌, get_or, subst, arith}
+use Rattle.egt_check.specs.Found.{value_told}
+use Rattle.egt_check.proofs.ToldRows.{value_entries, value_entries_at}
+use Rattle.egt_check.proofs.told_rows.value_entries.Goals as goal
+
+pub returns : goal.returns
+returns c s s_in =
+    let long = c.fits-row.0 in
+    subst (λ n. get_or (value_entries n c.args.row) s 0 ≡ value_told (get_or c.args.row s 0)) long (value_entries_at c.args.row s (omega arith) c.fits-row.1)
