@@ -9,6 +9,7 @@ use Rattle.egt_class.specs.Children.{children_of}
 use Rattle.egt_class.specs.Membership.{IsOf}
 use Rattle.egt_index.specs.Index.{IsIndex}
 use Rattle.egt_moves.specs.Arena.{Value, Win, Loss, Draw}
+use Rattle.egt_moves.specs.Chess.{Zeroes}
 use Rattle.egt_moves.specs.Legal.{Leads}
 use Rattle.egt_moves.specs.Moves.{played}
 use Rattle.egt_moves.specs.declared.chess_move.Move.{Move}
@@ -28,6 +29,7 @@ use Rattle.egt_sweep.specs.declared.objective.Objective.TheVariants as objective
 use Rattle.egt_sweep.specs.Laws.{Laws}
 use Rattle.egt_sweep.specs.Nodes.{index_in, plies_left, exit_of, shown_in, shown_below, or_else, goes_on, exit_by}
 use Rattle.egt_sweep.proofs.Linked.{index_is, goes_is}
+use Rattle.egt_sweep.proofs.Staying.{quiet_goes_on}
 
 -- the exit of the value that an entry shows
 draw_shown : (x : ℕ) (v : Value) → Shows x v → x ≡ 1 → v ≡ Draw
@@ -97,6 +99,9 @@ module _ (laws : Laws) (tables : Tables) (metric : Metric) (c : ℕ) (p q : Setu
   -- one that goes on has none
   pub on_no_exit : GoesOn metric c p m q → exit_by tables metric c p m (played p m) ≡ None
   on_no_exit on = exit_is true ((goes_is laws metric c p q m q_ok).1 on)
+
+  pub quiet_no_exit : c < 36 → (flipped : Bool) × IsOf c flipped p → ¬ Zeroes p m → exit_by tables metric c p m (played p m) ≡ None
+  quiet_no_exit c_in of quiet = on_no_exit (quiet_goes_on laws c metric p q m c_in ok q_ok of leads quiet)
 
   goes_false : ¬ GoesOn metric c p m q → (b : Bool) → goes_on metric c p m q ≡ b → b ≡ false
   goes_false off true e = absurd (off ((goes_is laws metric c p q m q_ok).0 e))

@@ -13,6 +13,9 @@ use Rattle.egt_moves.specs.Exchange.{Captures}
 use Rattle.egt_moves.specs.Legal.{Leads}
 use Rattle.egt_moves.specs.Promotion.{FitsPromotion, promotes, is_pawn}
 use Rattle.egt_moves.specs.declared.chess_move.Move.{Move}
+use Rattle.egt_entries.specs.declared.metric.Metric.{Metric}
+use Rattle.egt_entries.specs.declared.metric.Metric.TheVariants.{Mate, Zeroing}
+use Rattle.egt_sweep.specs.Edges.{GoesOn}
 use Rattle.egt_sweep.specs.Laws.{Laws}
 
 -- a test of what does not hold
@@ -59,3 +62,8 @@ module _ (laws : Laws) (c : ℕ) where
       no_capture : ¬ Captures p m
       no_capture (inl held) = quiet (inl held)
       no_capture (inr passing) = quiet (inr passing.0)
+
+  -- so it goes on in each game
+  pub quiet_goes_on : (metric : Metric) (p q : Setup) (m : Move) → c < 36 → IsAdmissible p → IsAdmissible q → (flipped : Bool) × IsOf c flipped p → Leads p m q → ¬ Zeroes p m → GoesOn metric c p m q
+  quiet_goes_on Mate p q m c_in ok q_ok of leads quiet = let stays = quiet_stays p q m ok of leads quiet in (stays_in_class c stays.0 q c_in c_in q_ok stays.1).0 refl
+  quiet_goes_on Zeroing p q m c_in ok q_ok of leads quiet = quiet

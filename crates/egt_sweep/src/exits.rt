@@ -24,7 +24,7 @@ use egt_check::{Library, Metric};
 use egt_class::{Class, of};
 use egt_graph::Exit;
 use egt_index::index;
-use egt_moves::{Move, legal_moves, play_legal};
+use egt_moves::{Move, legal_moves, play_legal, zeroing};
 use egt_table::Column;
 
 /// The plies of an exit: in the game of zeroing moves none are left.
@@ -138,6 +138,10 @@ fn add_exit(
     laws();
     let _side = position.side();
     let _number = class.number();
+    // A move that does not zero goes on in each game.
+    if !zeroing(position, *chess_move) {
+        return;
+    }
     let next = play_legal(position, *chess_move);
     let metric = objective.metric();
     if goes_on(metric, class, position, chess_move, &next) {

@@ -91,13 +91,13 @@ fn a_knight_and_a_pawn(rt: HostRuntime) -> Result<(), Fail> {
 
 /// What two pawns of one side rest on, and what a pawn on each side rests on.
 const ONE_SIDE: [&str; 20] = [
-    "KK", "KQK", "KRK", "KBK", "KNK", "KPK", "KQQK", "KQRK", "KQBK", "KQNK", "KRRK", "KRBK", "KRNK",
-    "KBBK", "KBNK", "KNNK", "KQPK", "KRPK", "KBPK", "KNPK",
+    "KK", "KQK", "KRK", "KBK", "KNK", "KPK", "KQQK", "KQRK", "KQBK", "KQNK", "KRRK", "KRBK",
+    "KRNK", "KBBK", "KBNK", "KNNK", "KQPK", "KRPK", "KBPK", "KNPK",
 ];
 
 const BOTH_SIDES: [&str; 20] = [
-    "KK", "KQK", "KRK", "KBK", "KNK", "KPK", "KQKQ", "KQKR", "KQKB", "KQKN", "KRKR", "KRKB", "KRKN",
-    "KBKB", "KBKN", "KNKN", "KQKP", "KRKP", "KBKP", "KNKP",
+    "KK", "KQK", "KRK", "KBK", "KNK", "KPK", "KQKQ", "KQKR", "KQKB", "KQKN", "KRKR", "KRKB",
+    "KRKN", "KBKB", "KBKN", "KNKN", "KQKP", "KRKP", "KBKP", "KNKP",
 ];
 
 // Two pawns mate in 32 moves at most, a pawn against a pawn in 33.

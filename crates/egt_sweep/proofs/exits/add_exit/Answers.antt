@@ -6,7 +6,7 @@ use Rattle.egt_entries.specs.declared.metric.Metric.{Metric}
 use Rattle.egt_sweep.specs.Edges.{GoesOn}
 use Rattle.egt_sweep.specs.Objective.{metric_of, known}
 use Rattle.egt_sweep.proofs.Collecting.{untrue}
-use Rattle.egt_sweep.proofs.OutOfClass.{known_there, off_exit, on_no_exit}
+use Rattle.egt_sweep.proofs.OutOfClass.{known_there, off_exit, on_no_exit, quiet_no_exit}
 use Rattle.egt_sweep.proofs.exits.add_exit.Goals as goal
 
 pub returns-then-goes_on-clause-items : goal.returns-then-goes_on-clause-items
@@ -17,6 +17,17 @@ returns-then-goes_on-clause-items c =
     let objective = c.args.objective.now in
     let on = subst (λ (metric : Metric). GoesOn metric c.args.class p m q) c.metric-metric.ensures (c.goes_on.ensures.on.0 c.if-goes_on.true) in
     let none = on_no_exit c.laws.ensures (known (table_at c.args.library.now) c.args.class objective) (metric_of objective) c.args.class p q m c.side-side.ensures.admissible c.play_legal-next.ensures on in
+    sym (append-nil c.args.list.now.items) ∙ sym (ap (λ o. c.args.list.now.items ++ option_to_list o) none)
+
+pub returns-then-not-zeroing-clause-items : goal.returns-then-not-zeroing-clause-items
+returns-then-not-zeroing-clause-items c =
+    let p = c.args.position.now in
+    let m = c.args.chess_move.now in
+    let legal = c.requires.legal in
+    let objective = c.args.objective.now in
+    let quiet = untrue c.zeroing.result c.if-not-zeroing.true c.zeroing.ensures in
+    let none = quiet_no_exit c.laws.ensures (known (table_at c.args.library.now) c.args.class objective) (metric_of objective) c.args.class p legal.0 m c.side-side.ensures.admissible legal.1
+    (subst (λ (n : ℕ). n < 36) c.number-number.ensures.value c.number-number.ensures.below) c.requires.of quiet in
     sym (append-nil c.args.list.now.items) ∙ sym (ap (λ o. c.args.list.now.items ++ option_to_list o) none)
 
 pub exit_at-exit-requires-clause-there : goal.exit_at-exit-requires-clause-there
