@@ -1,26 +1,11 @@
 -- Blocks of scores after a pawn's moves.
-use Rattle.std.proofs.Common.{◌≡◌, ◌≢◌, ℕ, ◌-◌, ◌<◌, ◌↔◌, Bool, true, false, cond, eqb, min, List, Option, Some, None, arith, refl, sym, ap, ◌∙◌, subst}
-use Rattle.std.specs.Int.{bit_at}
-use Rattle.std.specs.Prelude.{slice_index}
-use Rattle.std.proofs.lemmas.Nat.Bits.{bit_at_ones}
-use Rattle.egt_board.specs.AttackLines.{Reaches, Rides-free}
-use Rattle.egt_board.specs.Man.{other_side}
-use Rattle.egt_board.specs.Pawn.{Advances, farthest_advance, forward, last_rank, pawn_of}
-use Rattle.egt_board.specs.Square.{rank_of}
-use Rattle.egt_board.specs.declared.man.Kind.{Kind}
-use Rattle.egt_board.specs.declared.man.Man.{Man}
-use Rattle.egt_board.specs.declared.man.Side.{Side}
-use Rattle.egt_index.specs.TurnedMen.{IsSomeTurnedCode}
-use Rattle.egt_index.specs.declared.shelf_codes.ShelfMen.{ShelfMen}
-use Rattle.egt_lanes.proofs.Advancing.{kept_or_none}
-use Rattle.egt_lanes.proofs.Raising.{raised_among}
-use Rattle.egt_lanes.specs.Blocks.{at}
-use Rattle.egt_lanes.specs.Raised.{IsRaised}
-use Rattle.egt_moves.specs.Promotion.{FitsPromotion, IsOfficer, arriving, promotes}
-use Rattle.egt_steps.specs.PawnMoves.{AreAdvancedCodes, ArePromotedCodes, officer_of, stand_after}
-use Rattle.egt_steps.specs.QuietStands.{IsClear}
-use Rattle.egt_steps.specs.Takings.{IsPastKings, left_of, stand_left}
-use Rattle.egt_blocks.specs.Scored.{IsRead}
+use Rattle.egt_blocks.specs.Prelude.{◌≡◌, ◌≢◌, ℕ, ◌-◌, ◌<◌, ◌↔◌, Bool, true, false, cond, eqb, min, List, Option, Some}
+use Rattle.egt_blocks.specs.Prelude.{None, arith, refl, sym, ap, ◌∙◌, subst, bit_at, slice_index, bit_at_ones, Reaches}
+use Rattle.egt_blocks.specs.Prelude.{Rides-free, other_side, Advances, farthest_advance, forward, last_rank, pawn_of}
+use Rattle.egt_blocks.specs.Prelude.{rank_of, Kind, Man, Side, IsSomeTurnedCode, ShelfMen, kept_or_none, raised_among}
+use Rattle.egt_blocks.specs.Prelude.{at, IsRaised, FitsPromotion, IsOfficer, arriving, promotes, AreAdvancedCodes}
+use Rattle.egt_blocks.specs.Prelude.{ArePromotedCodes, officer_of, stand_after, IsClear, IsPastKings, left_of}
+use Rattle.egt_blocks.specs.Prelude.{stand_left, IsRead}
 use Rattle.egt_blocks.proofs.BlockRaising.{raised_alike}
 use Rattle.egt_blocks.proofs.QuietRaising.{left_without, raised_through}
 

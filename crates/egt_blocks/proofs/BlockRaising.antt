@@ -1,33 +1,13 @@
 -- Blocks raised turn by turn.
-use Rattle.std.proofs.Common.{◌≡◌, ◌≢◌, ℕ, ◌/◌, ◌%◌, ◌<◌, ◌⊎◌, ◌↔◌, max, not, cond, ltb, eqb, IsTrue, Bool, true, false, List, [], ◌∷◌, Option, Some, None, IfSome, arith, refl, sym, ap, ◌∙◌, inl, inr, subst}
-use Rattle.std.proofs.lemmas.Bool.{cases_eq, cases_lt, false≢true, ltb-true}
-use Rattle.std.proofs.lemmas.Nat.Bits.{bit_at_ones}
-use Rattle.std.specs.Int.{bit_at}
-use Rattle.egt_board.specs.Man.{other_side}
-use Rattle.egt_board.specs.SquareSet.{Has}
-use Rattle.egt_board.specs.Turned.{turned_square}
-use Rattle.egt_class.specs.Below.{all_below, passes_below}
-use Rattle.egt_board.specs.declared.man.Man.{Man}
-use Rattle.egt_board.specs.declared.man.Side.{Side}
-use Rattle.egt_board.specs.declared.man.Side.TheVariants.{White, Black}
-use Rattle.egt_board.specs.declared.square_set.SquareSet.{SquareSet}
-use Rattle.egt_class.specs.Material.{has_equal_sides, material_of}
-use Rattle.egt_index.specs.Code.{king_square, men_at}
-use Rattle.egt_index.specs.Digits.{AreDigits}
-use Rattle.egt_index.specs.Home.{AreHome, IsTurnWith}
-use Rattle.egt_index.specs.Size.{has_pawns, king_base, men_bases}
-use Rattle.egt_index.specs.Stood.{list_of}
-use Rattle.egt_index.specs.TurnedMen.{IsSomeTurnedCode, IsSomeTurnedCodeWith, swapped, turned_by}
-use Rattle.egt_index.specs.declared.shelf_codes.ShelfMen.{ShelfMen}
-use Rattle.egt_index.specs.declared.stand.Stand.{Stand}
-use Rattle.egt_lanes.specs.Blocks.{at}
-use Rattle.egt_lanes.specs.Raised.{IsRaised}
-use Rattle.egt_table.specs.declared.column.Column.{Column}
-use Rattle.egt_steps.specs.Stands.{IsBesideKing, stand_on, with_king}
-use Rattle.egt_blocks.specs.Blocks.{AreKingCodes, IsCodeAfter, IsHomeCode, IsRaisedHome, men_across, settled_at}
-use Rattle.egt_blocks.specs.Kept.{AreKept}
-use Rattle.egt_blocks.specs.Scored.{IsReadWith}
-use Rattle.egt_blocks.specs.declared.kept_blocks.BlockKey.{BlockKey}
+use Rattle.egt_blocks.specs.Prelude.{◌≡◌, ◌≢◌, ℕ, ◌/◌, ◌%◌, ◌<◌, ◌⊎◌, ◌↔◌, max, not, cond, ltb, eqb, IsTrue, Bool, true}
+use Rattle.egt_blocks.specs.Prelude.{false, List, [], ◌∷◌, Option, Some, None, IfSome, arith, refl, sym, ap, ◌∙◌, inl}
+use Rattle.egt_blocks.specs.Prelude.{inr, subst, cases_eq, cases_lt, false≢true, ltb-true, bit_at_ones, bit_at}
+use Rattle.egt_blocks.specs.Prelude.{other_side, Has, turned_square, all_below, passes_below, Man, Side, White, Black}
+use Rattle.egt_blocks.specs.Prelude.{SquareSet, has_equal_sides, material_of, king_square, men_at, AreDigits, AreHome}
+use Rattle.egt_blocks.specs.Prelude.{IsTurnWith, has_pawns, king_base, men_bases, list_of, IsSomeTurnedCode}
+use Rattle.egt_blocks.specs.Prelude.{IsSomeTurnedCodeWith, swapped, turned_by, ShelfMen, Stand, at, IsRaised, Column}
+use Rattle.egt_blocks.specs.Prelude.{IsBesideKing, stand_on, with_king, AreKingCodes, IsCodeAfter, IsHomeCode}
+use Rattle.egt_blocks.specs.Prelude.{IsRaisedHome, men_across, settled_at, AreKept, IsReadWith, BlockKey}
 
 -- all squares are of the set of all
 pub all_squares : (s : ℕ) → s < 64 → bit_at 18446744073709551615 s ≡ 1

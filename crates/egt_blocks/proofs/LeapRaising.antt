@@ -1,33 +1,14 @@
 -- Blocks of scores after a pawn's advances, by whether they leave a target.
-use Rattle.std.proofs.Common.{◌≡◌, ◌≢◌, ℕ, ◌+◌, ◌-◌, ◌*◌, ◌/◌, ◌<◌, ◌↔◌, Bool, true, false, cond, eqb, min, List, None, arith, sym, ap, ◌∙◌, subst, inl, inr}
-use Rattle.std.specs.Int.{bit_at}
-use Rattle.std.specs.Prelude.{slice_index}
-use Rattle.std.proofs.lemmas.Bool.{cases_eq, ne_eqb}
-use Rattle.std.proofs.lemmas.Bool.Decides.{eqb_tells}
-use Rattle.std.proofs.lemmas.Nat.Bits.{bit_at-lt, bit_at_ones}
-use Rattle.egt_board.specs.Man.{other_side}
-use Rattle.egt_board.specs.Pawn.{Advances, IsBeside, last_rank, pawn_of}
-use Rattle.egt_board.specs.Square.{rank_of}
-use Rattle.egt_board.specs.declared.man.Man.{Man}
-use Rattle.egt_board.specs.declared.man.Side.{Side}
-use Rattle.egt_board.specs.declared.man.Side.TheVariants.{White, Black}
-use Rattle.egt_index.specs.TurnedMen.{IsSomeTurnedCodeWith}
-use Rattle.egt_index.specs.declared.shelf_codes.ShelfMen.{ShelfMen}
-use Rattle.egt_lanes.proofs.Advancing.{kept_or_none, one_or_two_squares}
-use Rattle.egt_lanes.proofs.Raising.{raised_among}
-use Rattle.egt_lanes.specs.Advances.{AdvancesBy}
-use Rattle.egt_lanes.specs.Blocks.{at}
-use Rattle.egt_lanes.specs.Raised.{IsRaised}
-use Rattle.egt_moves.specs.Promotion.{FitsPromotion, promotes}
-use Rattle.egt_steps.specs.InPassing.{AreLeapCodes, AreStepCodes, AreTwoRanksApart, LeavesTarget}
-use Rattle.egt_blocks.specs.Leaps.{IsBesideWhere, leap_rank}
-use Rattle.egt_steps.specs.PawnMoves.{AreAdvancedCodes, IsAdvance, stand_after}
-use Rattle.egt_steps.specs.QuietStands.{IsClear}
-use Rattle.egt_blocks.specs.Scored.{IsReadWith}
+use Rattle.egt_blocks.specs.Prelude.{◌≡◌, ◌≢◌, ℕ, ◌+◌, ◌-◌, ◌*◌, ◌/◌, ◌<◌, ◌↔◌, Bool, true, false, cond, eqb, min, List}
+use Rattle.egt_blocks.specs.Prelude.{None, arith, sym, ap, ◌∙◌, subst, inl, inr, bit_at, slice_index, cases_eq, ne_eqb}
+use Rattle.egt_blocks.specs.Prelude.{eqb_tells, bit_at-lt, bit_at_ones, other_side, Advances, IsBeside, last_rank}
+use Rattle.egt_blocks.specs.Prelude.{pawn_of, rank_of, Man, Side, White, Black, IsSomeTurnedCodeWith, ShelfMen}
+use Rattle.egt_blocks.specs.Prelude.{kept_or_none, one_or_two_squares, raised_among, AdvancesBy, at, IsRaised}
+use Rattle.egt_blocks.specs.Prelude.{FitsPromotion, promotes, AreLeapCodes, AreStepCodes, AreTwoRanksApart}
+use Rattle.egt_blocks.specs.Prelude.{LeavesTarget, IsBesideWhere, leap_rank, AreAdvancedCodes, IsAdvance, stand_after}
+use Rattle.egt_blocks.specs.Prelude.{IsClear, IsReadWith, one_off_home, unpromoted}
 use Rattle.egt_blocks.proofs.AdvanceRaising.{advances_free}
 use Rattle.egt_blocks.proofs.BlockRaising.{raised_alike, raised_both}
-use Rattle.egt_steps.proofs.Leaping.{one_off_home}
-use Rattle.egt_steps.proofs.LeftTargets.{unpromoted}
 use Rattle.egt_blocks.proofs.QuietRaising.{raised_through}
 
 -- the squares that a set lacks

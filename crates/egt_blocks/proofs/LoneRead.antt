@@ -1,16 +1,8 @@
 -- What one man beside the kings is worth, by the codes of turns.
-use Rattle.std.proofs.Common.{◌≡◌, ℕ, ◌<◌, ◌&&◌, Bool, true, false, not, eqb, length, List, ◌∷◌, refl, sym, ap, ◌∙◌, inl, inr, subst}
-use Rattle.std.proofs.lemmas.Bool.{false≢true}
-use Rattle.egt_board.specs.declared.man.Man.{Man}
-use Rattle.egt_board.specs.declared.man.Side.{Side}
-use Rattle.egt_class.specs.Below.{all_below, passes_below}
-use Rattle.egt_class.specs.Material.{has_equal_sides, material_of, materials}
-use Rattle.egt_index.specs.LoneCodes.{IsLoneMan, lone_stand}
-use Rattle.egt_index.specs.Size.{men_beside}
-use Rattle.egt_index.specs.TurnedMen.{IsSomeTurnedCode}
-use Rattle.egt_index.specs.declared.stand.Stand.{Stand}
-use Rattle.egt_blocks.specs.Blocks.{IsCodeAfter, IsHomeCode, IsRaisedHome}
-use Rattle.egt_blocks.specs.Scored.{IsRead}
+use Rattle.egt_blocks.specs.Prelude.{◌≡◌, ℕ, ◌<◌, ◌&&◌, Bool, true, false, not, eqb, length, List, ◌∷◌, refl, sym, ap}
+use Rattle.egt_blocks.specs.Prelude.{◌∙◌, inl, inr, subst, false≢true, Man, Side, all_below, passes_below}
+use Rattle.egt_blocks.specs.Prelude.{has_equal_sides, material_of, materials, IsLoneMan, lone_stand, men_beside}
+use Rattle.egt_blocks.specs.Prelude.{IsSomeTurnedCode, Stand, IsCodeAfter, IsHomeCode, IsRaisedHome, IsRead}
 use Rattle.egt_blocks.proofs.BlockRaising.{raised_alike}
 
 -- one man beside the kings is of one side

@@ -1,36 +1,13 @@
 -- Blocks of scores after a capture in passing.
-use Rattle.std.proofs.Common.{◌≡◌, ℕ, ◌+◌, ◌/◌, ◌%◌, ◌<◌, ◌||◌, Bool, true, false, not, ltb, eqb, List, [], ◌∷◌, if◌then◌else◌, length, get_or, get_or-set_other, arith, refl, sym, ap, ◌∙◌, inl, inr, subst}
-use Rattle.std.specs.Prelude.{slice_index}
-use Rattle.std.specs.List.{list_any}
-use Rattle.std.proofs.lemmas.Bool.{cases_eq, cases_lt, false≢true, le-ltb, lt-ltb}
-use Rattle.std.proofs.lemmas.Grind.{get_or-set_at}
-use Rattle.std.proofs.Math.ListN.{set, length-set}
-use Rattle.egt_board.specs.AttackLines.{Reaches, Reaches-on_board}
-use Rattle.egt_board.specs.Man.{other_side}
-use Rattle.egt_board.specs.Pawn.{MayStand, ahead, pawn_of}
-use Rattle.egt_board.specs.Square.{rank_of}
-use Rattle.egt_board.specs.Turned.{turned_man, turned_square}
-use Rattle.egt_board.specs.declared.man.Kind.TheVariants.{P}
-use Rattle.egt_board.specs.declared.man.Man.{Man}
-use Rattle.egt_board.specs.declared.man.Side.{Side}
-use Rattle.egt_class.specs.Below.{all_below, passes_below}
-use Rattle.egt_class.specs.Material.{material_of, materials}
-use Rattle.egt_index.specs.Home.{symmetries}
-use Rattle.egt_index.specs.LoneCodes.{IsLoneMan, lone_stand}
-use Rattle.egt_index.specs.Size.{has_pawns, men_beside}
-use Rattle.egt_index.specs.Spelled.{IsListed}
-use Rattle.egt_index.specs.TellsMen.{TellsMen}
-use Rattle.egt_index.specs.Stood.{list_of}
-use Rattle.egt_index.specs.TurnedMen.{IsSomeTurnedCode}
-use Rattle.egt_index.specs.declared.shelf_codes.ShelfMen.{ShelfMen}
-use Rattle.egt_index.specs.declared.stand.Stand.{Stand}
-use Rattle.egt_lanes.specs.Blocks.{at}
-use Rattle.egt_lanes.specs.Raised.{IsRaised}
-use Rattle.egt_moves.specs.Promotion.{is_pawn}
-use Rattle.egt_steps.specs.InPassing.{ArePassingCodes}
-use Rattle.egt_blocks.specs.PassedRows.{IsAtPassed, IsPastPawns}
-use Rattle.egt_steps.specs.Takings.{IsPastKings, left_of, stand_left}
-use Rattle.egt_blocks.specs.Scored.{IsRead}
+use Rattle.egt_blocks.specs.Prelude.{◌≡◌, ℕ, ◌+◌, ◌/◌, ◌%◌, ◌<◌, ◌||◌, Bool, true, false, not, ltb, eqb, List, [], ◌∷◌}
+use Rattle.egt_blocks.specs.Prelude.{if◌then◌else◌, length, get_or, get_or-set_other, arith, refl, sym, ap, ◌∙◌, inl}
+use Rattle.egt_blocks.specs.Prelude.{inr, subst, slice_index, list_any, cases_eq, cases_lt, false≢true, le-ltb, lt-ltb}
+use Rattle.egt_blocks.specs.Prelude.{get_or-set_at, set, length-set, Reaches, Reaches-on_board, other_side, MayStand}
+use Rattle.egt_blocks.specs.Prelude.{ahead, pawn_of, rank_of, turned_man, turned_square, P, Man, Side, all_below}
+use Rattle.egt_blocks.specs.Prelude.{passes_below, material_of, materials, symmetries, IsLoneMan, lone_stand, has_pawns}
+use Rattle.egt_blocks.specs.Prelude.{men_beside, IsListed, TellsMen, list_of, IsSomeTurnedCode, ShelfMen, Stand, at}
+use Rattle.egt_blocks.specs.Prelude.{IsRaised, is_pawn, ArePassingCodes, IsAtPassed, IsPastPawns, IsPastKings, left_of}
+use Rattle.egt_blocks.specs.Prelude.{stand_left, IsRead}
 use Rattle.egt_blocks.proofs.BlockRaising.{raised_alike, raised_by_none}
 use Rattle.egt_blocks.proofs.LoneRead.{some_home}
 use Rattle.egt_blocks.proofs.QuietRaising.{raised_through}

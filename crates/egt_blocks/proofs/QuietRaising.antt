@@ -1,24 +1,9 @@
 -- Blocks raised to the scores after quiet steps.
-use Rattle.std.proofs.Common.{◌≡◌, ◌≢◌, ℕ, ◌<◌, ◌⊎◌, ◌↔◌, List, arith, refl, sym, ap, ◌∙◌, inl, inr, subst, false}
-use Rattle.std.specs.Int.{bit_at}
-use Rattle.std.proofs.lemmas.Bool.{cases_eq}
-use Rattle.egt_board.specs.AttackLines.{Reaches, Reaches-free, Reaches-on_board}
-use Rattle.egt_board.specs.Man.{other_side}
-use Rattle.egt_board.specs.declared.man.Kind.{Kind}
-use Rattle.egt_board.specs.declared.man.Kind.TheVariants.{Q, R, B, N, P, K}
-use Rattle.egt_board.specs.declared.man.Man.{Man}
-use Rattle.egt_board.specs.declared.man.Side.{Side}
-use Rattle.egt_index.specs.TurnedMen.{IsSomeTurnedCode}
-use Rattle.egt_index.specs.declared.shelf_codes.ShelfMen.{ShelfMen}
-use Rattle.egt_index.specs.declared.stand.Stand.{Stand}
-use Rattle.egt_lanes.specs.Pieces.{IsPiece}
-use Rattle.egt_lanes.specs.Blocks.{IsOpen, at}
-use Rattle.egt_lanes.specs.Raised.{IsRaised}
-use Rattle.egt_steps.specs.Stands.{IsBesideKing, stand_on, with_king}
-use Rattle.egt_blocks.specs.Blocks.{AreKingCodes}
-use Rattle.egt_steps.specs.QuietStands.{AreQuietCodes, IsClear}
-use Rattle.egt_blocks.specs.QuietSteps.{IsFirstStep, IsLastStep}
-use Rattle.egt_blocks.specs.Scored.{IsRead}
+use Rattle.egt_blocks.specs.Prelude.{◌≡◌, ◌≢◌, ℕ, ◌<◌, ◌⊎◌, ◌↔◌, List, arith, refl, sym, ap, ◌∙◌, inl, inr, subst}
+use Rattle.egt_blocks.specs.Prelude.{false, bit_at, cases_eq, Reaches, Reaches-free, Reaches-on_board, other_side, Kind}
+use Rattle.egt_blocks.specs.Prelude.{Q, R, B, N, P, K, Man, Side, IsSomeTurnedCode, ShelfMen, Stand, IsPiece, IsOpen}
+use Rattle.egt_blocks.specs.Prelude.{at, IsRaised, IsBesideKing, stand_on, with_king, AreKingCodes, AreQuietCodes}
+use Rattle.egt_blocks.specs.Prelude.{IsClear, IsFirstStep, IsLastStep, IsRead}
 use Rattle.egt_blocks.proofs.BlockRaising.{raised_alike, raised_both}
 
 pub no_pawn : (kind : Kind) → IsPiece kind → kind ≢ P

@@ -1,32 +1,12 @@
 -- What a row of a shelf tells, by the last man's square.
-use Rattle.std.proofs.Common.{◌≡◌, ℕ, ◌+◌, ◌-◌, ◌*◌, ◌/◌, ◌%◌, ◌<◌, ◌≤◌, ◌⊎◌, if◌then◌else◌, Bool, true, false, List, [], ◌∷◌, take, drop, arith, refl, sym, ap, ◌∙◌, inl, inr, subst}
-use Rattle.std.specs.Prelude.{slice_index}
-use Rattle.std.proofs.lemmas.Bool.{cases_lt, false≢true}
-use Rattle.std.proofs.lemmas.List.{get_or-drop, get_or-take}
-use Rattle.egt_board.specs.Images.{side_number}
-use Rattle.egt_board.specs.Pawn.{MayStand}
-use Rattle.egt_board.specs.declared.man.Kind.{Kind}
-use Rattle.egt_board.specs.declared.man.Kind.TheVariants.{Q, R, B, N, P, K}
-use Rattle.egt_board.specs.declared.man.Man.{Man}
-use Rattle.egt_board.specs.declared.man.Side.{Side}
-use Rattle.egt_board.specs.declared.man.Side.TheVariants.{White, Black}
-use Rattle.egt_class.specs.Material.{Material, material_of}
-use Rattle.egt_index.specs.Digits.{number_from, product}
-use Rattle.egt_index.specs.Numbers.{code_of, half_of, places}
-use Rattle.egt_index.specs.Scales.{digits_at, kind_digits, kind_less}
-use Rattle.egt_index.specs.Shelf.{last_of}
-use Rattle.egt_index.specs.ShelfCodes.{IsShelfOf, IsWithin, number_in, stand_with}
-use Rattle.egt_index.specs.Size.{bases, has_target, men_beside, size_of}
-use Rattle.egt_index.specs.Spelled.{IsListed}
-use Rattle.egt_index.specs.TellsMen.{TellsMen}
-use Rattle.egt_index.specs.Stood.{list_of}
-use Rattle.egt_index.specs.declared.shelf_codes.ShelfMen.{ShelfMen}
-use Rattle.egt_index.specs.declared.stand.Stand.{Stand}
-use Rattle.egt_index.proofs.Halves.{code_high, code_low, half_targets}
-use Rattle.egt_index.proofs.OnePosition.{one_pawn_each}
-use Rattle.egt_lanes.specs.Raised.{IsRaised}
-use Rattle.egt_moves.specs.Promotion.{is_pawn}
-use Rattle.egt_blocks.specs.ShelfRow.{IsShelfRow}
+use Rattle.egt_blocks.specs.Prelude.{◌≡◌, ℕ, ◌+◌, ◌-◌, ◌*◌, ◌/◌, ◌%◌, ◌<◌, ◌≤◌, ◌⊎◌, if◌then◌else◌, Bool, true, false}
+use Rattle.egt_blocks.specs.Prelude.{List, [], ◌∷◌, take, drop, arith, refl, sym, ap, ◌∙◌, inl, inr, subst, slice_index}
+use Rattle.egt_blocks.specs.Prelude.{cases_lt, false≢true, get_or-drop, get_or-take, side_number, MayStand, Kind, Q, R}
+use Rattle.egt_blocks.specs.Prelude.{B, N, P, K, Man, Side, White, Black, Material, material_of, number_from, product}
+use Rattle.egt_blocks.specs.Prelude.{code_of, half_of, places, digits_at, kind_digits, kind_less, last_of, IsShelfOf}
+use Rattle.egt_blocks.specs.Prelude.{IsWithin, number_in, stand_with, bases, has_target, men_beside, size_of, IsListed}
+use Rattle.egt_blocks.specs.Prelude.{TellsMen, list_of, ShelfMen, Stand, code_high, code_low, half_targets}
+use Rattle.egt_blocks.specs.Prelude.{one_pawn_each, IsRaised, is_pawn, IsShelfRow}
 
 -- an entry of a piece of a list
 pub piece_at : (xs : List ℕ) (first len k : ℕ) → k < len → slice_index (take (first + len - first) (drop first xs)) k ≡ slice_index xs (first + k)

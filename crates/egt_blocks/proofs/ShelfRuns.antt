@@ -1,30 +1,12 @@
 -- Shelves that follow one another have the first man on the squares of digits that do.
-use Rattle.std.proofs.Common.{◌≡◌, ◌≢◌, ◌≤◌, ℕ, ◌+◌, ◌-◌, ◌*◌, ◌<◌, Bool, true, false, if◌then◌else◌, List, [], ◌∷◌, map, arith, refl, sym, ap, ◌∙◌, inl, inr, subst}
-use Rattle.std.proofs.lemmas.Bool.{cases_lt}
-use Rattle.egt_board.specs.Attack.{king_of}
-use Rattle.egt_board.specs.Images.{side_number}
-use Rattle.egt_board.specs.Pawn.{MayStand}
-use Rattle.egt_board.specs.Square.{rank_of}
-use Rattle.egt_board.specs.declared.man.Kind.{Kind}
-use Rattle.egt_board.specs.declared.man.Kind.TheVariants.{Q, R, B, N, P, K}
-use Rattle.egt_board.specs.declared.man.Man.{Man}
-use Rattle.egt_board.specs.declared.man.Side.{Side}
-use Rattle.egt_board.specs.declared.man.Side.TheVariants.{White, Black}
-use Rattle.egt_class.specs.Material.{Material, material_of}
-use Rattle.egt_index.specs.Code.{placed, square_by_digit, square_of}
-use Rattle.egt_index.specs.Digits.{AreDigits, number_from, number_of}
-use Rattle.egt_index.specs.Numbers.{code_of, half_of, places}
-use Rattle.egt_index.specs.Scales.{kind_digits, kind_less}
-use Rattle.egt_index.specs.ShelfCodes.{IsShelfOf, IsWithin, number_in, stand_with}
-use Rattle.egt_index.specs.Size.{base_by, base_of, has_pawns, has_target, men_bases}
-use Rattle.egt_index.specs.Spelled.{SpellsMen}
-use Rattle.egt_index.specs.TellsMen.{TellsMen}
-use Rattle.egt_index.specs.Stood.{list_of}
-use Rattle.egt_index.specs.declared.shelf_codes.ShelfMen.{ShelfMen}
-use Rattle.egt_index.proofs.Halves.{code_high, code_low, code_plain, of_targets}
-use Rattle.egt_index.proofs.OnePosition.{a_pawn_each, one_pawn_each}
-use Rattle.egt_steps.specs.Stands.{men_on}
-use Rattle.egt_blocks.specs.Blocks.{AreShelvesOf}
+use Rattle.egt_blocks.specs.Prelude.{◌≡◌, ◌≢◌, ◌≤◌, ℕ, ◌+◌, ◌-◌, ◌*◌, ◌<◌, Bool, true, false, if◌then◌else◌, List, []}
+use Rattle.egt_blocks.specs.Prelude.{◌∷◌, map, arith, refl, sym, ap, ◌∙◌, inl, inr, subst, cases_lt, king_of}
+use Rattle.egt_blocks.specs.Prelude.{side_number, MayStand, rank_of, Kind, Q, R, B, N, P, K, Man, Side, White, Black}
+use Rattle.egt_blocks.specs.Prelude.{Material, material_of, placed, square_by_digit, square_of, AreDigits, number_from}
+use Rattle.egt_blocks.specs.Prelude.{number_of, code_of, half_of, places, kind_digits, kind_less, IsShelfOf, IsWithin}
+use Rattle.egt_blocks.specs.Prelude.{number_in, stand_with, base_by, base_of, has_pawns, has_target, men_bases}
+use Rattle.egt_blocks.specs.Prelude.{SpellsMen, TellsMen, list_of, ShelfMen, code_high, code_low, code_plain}
+use Rattle.egt_blocks.specs.Prelude.{of_targets, a_pawn_each, one_pawn_each, men_on, AreShelvesOf}
 use Rattle.egt_blocks.proofs.ShelfRead.{bit_few, bit_of, half_is, places_is, side_few}
 
 -- ---- digits of men but the white king

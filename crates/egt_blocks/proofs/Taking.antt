@@ -1,25 +1,10 @@
 -- Blocks of scores after the last man beside the kings was taken.
-use Rattle.std.proofs.Common.{◌≡◌, ◌≢◌, ℕ, ◌<◌, ◌↔◌, Bool, cond, eqb, max, List, [], length, get_or, get_or-set_other, arith, refl, sym, ap, ◌∙◌, inl, inr, subst}
-use Rattle.std.specs.Int.{bit_at}
-use Rattle.std.specs.Prelude.{slice_index}
-use Rattle.std.proofs.lemmas.Bool.{cases_eq, ne_eqb}
-use Rattle.std.proofs.lemmas.Grind.{get_or-set_at}
-use Rattle.std.proofs.Math.ListN.{set, length-set}
-use Rattle.egt_board.specs.AttackLines.{Reaches, Reaches-free}
-use Rattle.egt_board.specs.Man.{other_side}
-use Rattle.egt_board.specs.SquareSet.{Has}
-use Rattle.egt_board.specs.declared.man.Man.{Man}
-use Rattle.egt_board.specs.declared.man.Side.{Side}
-use Rattle.egt_board.specs.declared.square_set.SquareSet.{SquareSet}
-use Rattle.egt_index.specs.TurnedMen.{IsSomeTurnedCode}
-use Rattle.egt_index.specs.declared.shelf_codes.ShelfMen.{ShelfMen}
-use Rattle.egt_lanes.proofs.Raising.{raised_by_one, raised_is}
-use Rattle.egt_lanes.specs.Blocks.{at}
-use Rattle.egt_lanes.specs.Raised.{IsRaised}
-use Rattle.egt_steps.specs.Stands.{IsBesideKing, with_king}
-use Rattle.egt_blocks.specs.Taken.{AreLeftCodes}
-use Rattle.egt_steps.specs.Takings.{IsPastKings, Left, left_of, stand_left}
-use Rattle.egt_blocks.specs.Scored.{IsRead}
+use Rattle.egt_blocks.specs.Prelude.{◌≡◌, ◌≢◌, ℕ, ◌<◌, ◌↔◌, Bool, cond, eqb, max, List, [], length, get_or}
+use Rattle.egt_blocks.specs.Prelude.{get_or-set_other, arith, refl, sym, ap, ◌∙◌, inl, inr, subst, bit_at, slice_index}
+use Rattle.egt_blocks.specs.Prelude.{cases_eq, ne_eqb, get_or-set_at, set, length-set, Reaches, Reaches-free}
+use Rattle.egt_blocks.specs.Prelude.{other_side, Has, Man, Side, SquareSet, IsSomeTurnedCode, ShelfMen, raised_by_one}
+use Rattle.egt_blocks.specs.Prelude.{raised_is, at, IsRaised, IsBesideKing, with_king, AreLeftCodes, IsPastKings, Left}
+use Rattle.egt_blocks.specs.Prelude.{left_of, stand_left, IsRead}
 use Rattle.egt_blocks.proofs.BlockRaising.{GoneKing, raised_alike, raised_both, raised_by_none, same_beside}
 use Rattle.egt_blocks.proofs.QuietRaising.{raised_through}
 

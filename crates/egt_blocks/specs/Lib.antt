@@ -6,3 +6,4 @@ pub mod Taken
 pub mod Leaps
 pub mod PassedRows
 pub mod ShelfRow
+pub mod Prelude

@@ -1,22 +1,10 @@
 //! The scores of the positions after the last man beside the kings, a pawn, advances or is promoted where he takes the first.
-ghost use Rattle.std.specs.Prelude.{◌≡◌, ◌↔◌, ◌<◌, ◌==◌, ℕ, true, false, IfSome, IsTrue};
-ghost use Rattle.egt_board.specs.Man.{other_side};
-ghost use Rattle.egt_board.specs.Pawn.{Advances, last_rank, pawn_of};
-ghost use Rattle.egt_board.specs.Square.{rank_of};
-ghost use Rattle.egt_board.specs.SquareSet.{Has};
-ghost use Rattle.egt_board.specs.Turned.{turned_man};
-ghost use Rattle.egt_index.specs.LoneCodes.{IsLoneMan};
-ghost use Rattle.egt_index.specs.ShelfCodes.{AreMenOf};
-ghost use Rattle.egt_lanes.specs.Advances.{AdvancesBy};
-ghost use Rattle.egt_lanes.specs.Blocks.{at};
-ghost use Rattle.egt_lanes.specs.Raised.{IsRaised};
-ghost use Rattle.egt_moves.specs.Promotion.{FitsPromotion, IsOfficer, arriving};
-ghost use Rattle.egt_steps.specs.InPassing.{AreLeapCodes, AreStepCodes};
-ghost use Rattle.egt_blocks.specs.Leaps.{AreStill, IsBesideWhere, leap_rank};
-ghost use Rattle.egt_steps.specs.PawnMoves.{AreAdvancedCodes, ArePromotedCodes, men_after, men_two, officer_of, stand_after};
-ghost use Rattle.egt_steps.specs.QuietStands.{IsClear};
-ghost use Rattle.egt_steps.specs.Takings.{IsPastKings};
-ghost use Rattle.egt_blocks.specs.Scored.{IsReadWith, ScoresNoVoids};
+ghost use Rattle.egt_blocks.specs.Prelude.{◌≡◌, ◌↔◌, ◌<◌, ◌==◌, ℕ, true, false, IfSome, IsTrue, other_side, Advances};
+ghost use Rattle.egt_blocks.specs.Prelude.{last_rank, pawn_of, rank_of, Has, turned_man, IsLoneMan, AreMenOf};
+ghost use Rattle.egt_blocks.specs.Prelude.{AdvancesBy, at, IsRaised, FitsPromotion, IsOfficer, arriving, AreLeapCodes};
+ghost use Rattle.egt_blocks.specs.Prelude.{AreStepCodes, AreStill, IsBesideWhere, leap_rank, AreAdvancedCodes};
+ghost use Rattle.egt_blocks.specs.Prelude.{ArePromotedCodes, men_after, men_two, officer_of, stand_after, IsClear};
+ghost use Rattle.egt_blocks.specs.Prelude.{IsPastKings, IsReadWith, ScoresNoVoids};
 
 use crate::blocks::{nothing, read_block};
 use crate::men::{kings_of, men_swapped};

@@ -1,20 +1,11 @@
 //! The scores of the positions of a class with two men beside the kings, whose kings stand on two squares: a row for each square of the
 //! first man, a lane for each of the last. Each code has some turn of these men; codes that are not least score nothing.
 //! So the codes after a turn are not read where the kings tell that all of them are void.
-ghost use Rattle.std.specs.Prelude.{◌≡◌, ◌/◌, ◌%◌, ◌<◌, ◌↔◌, ◌==◌, ◌+◌, ℕ, Bool, false, true, not, IfSome, IsTrue, slice_index};
-ghost use Rattle.egt_board.specs.SquareSet.{Has};
-ghost use Rattle.egt_board.specs.Turned.{turned_side, turned_square};
-ghost use Rattle.egt_board.specs.declared.man.Side.{Side};
-ghost use Rattle.egt_class.specs.Material.{has_equal_sides, material_of};
-ghost use Rattle.egt_index.specs.Home.{symmetries};
-ghost use Rattle.egt_index.specs.Index.{IsVoid};
-ghost use Rattle.egt_index.specs.ShelfCodes.{AreMenOf};
-ghost use Rattle.egt_index.specs.Size.{has_pawns};
-ghost use Rattle.egt_index.specs.TurnedMen.{IsTurnedCodeWith};
-ghost use Rattle.egt_lanes.specs.Blocks.{at};
-ghost use Rattle.egt_steps.specs.Stands.{stand_on};
-ghost use Rattle.egt_blocks.specs.Blocks.{AreShelvesOf, IsRaisedAfter, IsRaisedHome, men_across, settled_at, turned_from};
-ghost use Rattle.egt_blocks.specs.Scored.{IsReadWith, ScoresNoVoids};
+ghost use Rattle.egt_blocks.specs.Prelude.{◌≡◌, ◌/◌, ◌%◌, ◌<◌, ◌↔◌, ◌==◌, ◌+◌, ℕ, Bool, false, true, not, IfSome};
+ghost use Rattle.egt_blocks.specs.Prelude.{IsTrue, slice_index, Has, turned_side, turned_square, Side, has_equal_sides};
+ghost use Rattle.egt_blocks.specs.Prelude.{material_of, symmetries, IsVoid, AreMenOf, has_pawns, IsTurnedCodeWith, at};
+ghost use Rattle.egt_blocks.specs.Prelude.{stand_on, AreShelvesOf, IsRaisedAfter, IsRaisedHome, men_across, settled_at};
+ghost use Rattle.egt_blocks.specs.Prelude.{turned_from, IsReadWith, ScoresNoVoids};
 
 use crate::digits::{digits_of, first_square};
 use crate::men::{are_equal, men_across, men_on, side_after, turned_from};

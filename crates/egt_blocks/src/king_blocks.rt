@@ -1,14 +1,6 @@
 //! The scores of the positions after each step of a king.
-ghost use Rattle.std.specs.Prelude.{◌≡◌, ◌↔◌, ◌<◌, ℕ, true};
-ghost use Rattle.egt_board.specs.Man.{other_side};
-ghost use Rattle.egt_board.specs.SquareSet.{Has};
-ghost use Rattle.egt_index.specs.ShelfCodes.{AreMenOf};
-ghost use Rattle.egt_lanes.specs.Blocks.{at};
-ghost use Rattle.egt_lanes.specs.Raised.{IsRaised};
-ghost use Rattle.egt_steps.specs.Stands.{IsBesideKing, king_of_men, with_king};
-ghost use Rattle.egt_blocks.specs.Blocks.{AreKingCodes};
-ghost use Rattle.egt_blocks.specs.Kept.{AreKept};
-ghost use Rattle.egt_blocks.specs.Scored.{ScoresNoVoids};
+ghost use Rattle.egt_blocks.specs.Prelude.{◌≡◌, ◌↔◌, ◌<◌, ℕ, true, other_side, Has, AreMenOf, at, IsRaised};
+ghost use Rattle.egt_blocks.specs.Prelude.{IsBesideKing, king_of_men, with_king, AreKingCodes, AreKept, ScoresNoVoids};
 
 use crate::blocks::nothing;
 use crate::kept_blocks::{BlockKey, raise_kept};

@@ -1,10 +1,6 @@
 //! The two men beside the kings of a class, on their squares.
-ghost use Rattle.std.specs.Prelude.{◌≡◌, ◌≢◌, ◌/◌, ◌<◌, ◌↔◌, ◌==◌, ℕ, IsTrue};
-ghost use Rattle.std.specs.Int.{bit_at};
-ghost use Rattle.egt_board.specs.Turned.{turned_side};
-ghost use Rattle.egt_steps.specs.Stands.{king_of_men, men_on, with_king};
-ghost use Rattle.egt_blocks.specs.Blocks.{men_across, turned_from};
-ghost use Rattle.egt_blocks.specs.Taken.{men_swapped};
+ghost use Rattle.egt_blocks.specs.Prelude.{◌≡◌, ◌≢◌, ◌/◌, ◌<◌, ◌↔◌, ◌==◌, ℕ, IsTrue, bit_at, turned_side, king_of_men};
+ghost use Rattle.egt_blocks.specs.Prelude.{men_on, with_king, men_across, turned_from, men_swapped};
 
 use egt_board::{Side, Square, SquareSet};
 use egt_index::ShelfMen;

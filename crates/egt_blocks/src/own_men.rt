@@ -1,10 +1,6 @@
 //! Men by their side and kind, and where they may stand.
-ghost use Rattle.std.specs.Prelude.{◌≡◌, ◌↔◌, ◌⊎◌, IsTrue, false, true};
-ghost use Rattle.egt_board.specs.declared.man.Kind.TheVariants.{K, P};
-ghost use Rattle.egt_lanes.specs.Pieces.{IsPiece};
-ghost use Rattle.egt_board.specs.Pawn.{MayStand, pawn_of};
-ghost use Rattle.egt_board.specs.Turned.{turned_man};
-ghost use Rattle.egt_moves.specs.Promotion.{is_pawn};
+ghost use Rattle.egt_blocks.specs.Prelude.{◌≡◌, ◌↔◌, ◌⊎◌, IsTrue, false, true, K, P, IsPiece, MayStand, pawn_of};
+ghost use Rattle.egt_blocks.specs.Prelude.{turned_man, is_pawn};
 
 use egt_board::{Kind, Man, Mirror, Side, Square};
 

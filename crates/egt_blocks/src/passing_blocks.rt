@@ -1,12 +1,6 @@
 //! The scores of the positions after the last man beside the kings, a pawn, took the first in passing.
-ghost use Rattle.std.specs.Prelude.{◌≡◌, ◌<◌, ℕ, true, IfSome, IfNone, slice_index};
-ghost use Rattle.egt_board.specs.Pawn.{ahead};
-ghost use Rattle.egt_board.specs.Turned.{turned_man};
-ghost use Rattle.egt_index.specs.LoneCodes.{IsLoneMan};
-ghost use Rattle.egt_lanes.specs.Blocks.{at};
-ghost use Rattle.egt_lanes.specs.Raised.{IsRaised};
-ghost use Rattle.egt_steps.specs.InPassing.{ArePassingCodes};
-ghost use Rattle.egt_blocks.specs.PassedRows.{IsAtPassed, IsPastPawns};
+ghost use Rattle.egt_blocks.specs.Prelude.{◌≡◌, ◌<◌, ℕ, true, IfSome, IfNone, slice_index, ahead, turned_man};
+ghost use Rattle.egt_blocks.specs.Prelude.{IsLoneMan, at, IsRaised, ArePassingCodes, IsAtPassed, IsPastPawns};
 
 use crate::blocks::nothing;
 use crate::men::men_swapped;

@@ -1,18 +1,7 @@
 //! The scores of the positions after each quiet step of a side, of its king or of a piece, in classes with two men beside the kings.
-ghost use Rattle.std.specs.Prelude.{◌≡◌, ◌≢◌, ◌↔◌, ◌<◌, ℕ, false, true};
-ghost use Rattle.std.specs.Int.{bit_at};
-ghost use Rattle.egt_board.specs.AttackLines.{Reaches};
-ghost use Rattle.egt_board.specs.Man.{other_side};
-ghost use Rattle.egt_board.specs.SquareSet.{Has};
-ghost use Rattle.egt_board.specs.declared.man.Kind.TheVariants.{K};
-ghost use Rattle.egt_index.specs.ShelfCodes.{AreMenOf};
-ghost use Rattle.egt_lanes.specs.Blocks.{at};
-ghost use Rattle.egt_lanes.specs.Pieces.{IsPiece};
-ghost use Rattle.egt_lanes.specs.Raised.{IsRaised};
-ghost use Rattle.egt_blocks.specs.Kept.{AreKept};
-ghost use Rattle.egt_steps.specs.QuietStands.{AreQuietCodes, IsClear};
-ghost use Rattle.egt_blocks.specs.QuietSteps.{IsFirstStep, IsLastStep};
-ghost use Rattle.egt_blocks.specs.Scored.{ScoresNoVoids};
+ghost use Rattle.egt_blocks.specs.Prelude.{◌≡◌, ◌≢◌, ◌↔◌, ◌<◌, ℕ, false, true, bit_at, Reaches, other_side, Has, K};
+ghost use Rattle.egt_blocks.specs.Prelude.{AreMenOf, at, IsPiece, IsRaised, AreKept, AreQuietCodes, IsClear};
+ghost use Rattle.egt_blocks.specs.Prelude.{IsFirstStep, IsLastStep, ScoresNoVoids};
 
 use crate::blocks::nothing;
 use crate::kept_blocks::{BlockKey, raise_kept};

@@ -1,10 +1,6 @@
 //! What the codes of a class are worth, told by rows: a number for each square of one man, the others standing still.
-ghost use Rattle.std.specs.Prelude.{◌≡◌, ◌<◌, ℕ, false, slice_index};
-ghost use Rattle.egt_index.specs.LoneCodes.{IsLoneRow, lone_stand};
-ghost use Rattle.egt_index.specs.ShelfCodes.{IsShelfOf, IsWithin, stand_with};
-ghost use Rattle.egt_index.specs.TellsMen.{TellsMen};
-ghost use Rattle.egt_lanes.specs.Raised.{IsRaised};
-ghost use Rattle.egt_table.specs.declared.column.Column.{Column};
+ghost use Rattle.egt_blocks.specs.Prelude.{◌≡◌, ◌<◌, ℕ, false, slice_index, IsLoneRow, lone_stand, IsShelfOf, IsWithin};
+ghost use Rattle.egt_blocks.specs.Prelude.{stand_with, TellsMen, IsRaised, Column};
 
 use egt_board::{Man, Side, Square};
 use egt_class::Class;

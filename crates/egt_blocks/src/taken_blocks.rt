@@ -1,16 +1,7 @@
 //! The scores of the positions after the last man beside the kings was taken.
-ghost use Rattle.std.specs.Prelude.{◌≡◌, ◌<◌, ℕ, true, slice_index};
-ghost use Rattle.egt_board.specs.AttackLines.{Reaches};
-ghost use Rattle.egt_board.specs.Man.{other_side};
-ghost use Rattle.egt_board.specs.Turned.{turned_man};
-ghost use Rattle.egt_index.specs.LoneCodes.{IsLoneMan};
-ghost use Rattle.egt_index.specs.TurnedMen.{IsSomeTurnedCode};
-ghost use Rattle.egt_lanes.specs.Blocks.{at};
-ghost use Rattle.egt_lanes.specs.Raised.{IsRaised};
-ghost use Rattle.egt_steps.specs.Stands.{IsBesideKing, with_king};
-ghost use Rattle.egt_blocks.specs.Taken.{AreLeftCodes};
-ghost use Rattle.egt_steps.specs.Takings.{IsPastKings, left_of, stand_left};
-ghost use Rattle.egt_blocks.specs.Scored.{IsRead};
+ghost use Rattle.egt_blocks.specs.Prelude.{◌≡◌, ◌<◌, ℕ, true, slice_index, Reaches, other_side, turned_man, IsLoneMan};
+ghost use Rattle.egt_blocks.specs.Prelude.{IsSomeTurnedCode, at, IsRaised, IsBesideKing, with_king, AreLeftCodes};
+ghost use Rattle.egt_blocks.specs.Prelude.{IsPastKings, left_of, stand_left, IsRead};
 
 use crate::blocks::nothing;
 use crate::king_blocks::beside_king;

@@ -1,19 +1,10 @@
 -- Attacks by the men of a board's slots.
-use Rattle.std.proofs.Common.{◌≡◌, ◌≢◌, ◌↔◌, ◌⊎◌, ℕ, List, [], ◌∷◌, Some, None, refl, sym, ap, ◌∙◌, subst, inl, inr}
-use Rattle.std.specs.Int.{bit_at}
-use Rattle.std.specs.Ordering.{nat_cmp}
+use Rattle.egt_board.specs.Prelude.{◌≡◌, ◌≢◌, ◌↔◌, ◌⊎◌, ℕ, List, [], ◌∷◌, Some, None, refl, sym, ap, ◌∙◌, subst, inl}
+use Rattle.egt_board.specs.Prelude.{inr, bit_at, nat_cmp, cases_eq, Side, Man, Placement, Stands, IsFree}
+use Rattle.egt_board.specs.Prelude.{get-remove_same, get-remove_other, Reaches, Reaches-free, Slot, listed, placed}
+use Rattle.egt_board.specs.Prelude.{InOrder, AreKept, slots_of, Inside, find-below, first_half, second_half, IsAttacked}
+use Rattle.egt_board.specs.Prelude.{AttacksFrom, IsSeenAs}
 use Rattle.std.specs.FinMap as map
-use Rattle.std.proofs.lemmas.Bool.{cases_eq}
-use Rattle.egt_board.specs.declared.man.Side.{Side}
-use Rattle.egt_board.specs.declared.man.Man.{Man}
-use Rattle.egt_board.specs.Placement.{Placement, Stands, IsFree, get-remove_same, get-remove_other}
-use Rattle.egt_board.specs.AttackLines.{Reaches, Reaches-free}
-use Rattle.egt_board.specs.Board.{Slot, listed, placed, InOrder, AreKept}
-use Rattle.egt_board.specs.Slots.{slots_of}
-use Rattle.egt_board.specs.declared.board.Board.TheInside.{Inside}
-use Rattle.egt_board.specs.Position.{find-below, first_half, second_half}
-use Rattle.egt_board.specs.Attack.{IsAttacked, AttacksFrom}
-use Rattle.egt_board.specs.Safety.{IsSeenAs}
 use Rattle.egt_board.proofs.Placed.{find-here, find-later}
 use Rattle.egt_board.proofs.Slots.{shown, listed-shown}
 

@@ -1,16 +1,9 @@
 -- The squares along steps on the bare board, computed.
-use Rattle.std.proofs.Common.{◌≡◌, ◌≢◌, ◌↔◌, ℕ, zero, suc, ◌+◌, ◌-◌, ◌*◌, ◌^◌, ◌<◌, Bool, true, false, ltb, List, [], ◌∷◌, Option, Some, None, arith, zero-add, refl, sym, subst, inl, inr}
-use Rattle.std.specs.Int.{bit_at}
-use Rattle.std.specs.Int.RustNames.{bit_or}
-use Rattle.std.proofs.lemmas.Bool.{ltb-true, ltb-false}
-use Rattle.std.proofs.lemmas.Nat.Bits.{bit_at_or, bit_at-zero, bit_at-lt, bit_at-pow_same, bit_at-pow_other}
-use Rattle.egt_board.specs.declared.step.Way.{Way}
-use Rattle.egt_board.specs.declared.step.Way.TheVariants.{Up, Down, Still}
-use Rattle.egt_board.specs.declared.step.Step.{Step}
-use Rattle.egt_board.specs.Square.{file_of, rank_of}
-use Rattle.egt_board.specs.Coordinate.{Further}
-use Rattle.egt_board.specs.Step.{Away}
-use Rattle.egt_board.specs.AttackLines.{Rides, OneOf}
+use Rattle.egt_board.specs.Prelude.{◌≡◌, ◌≢◌, ◌↔◌, ℕ, zero, suc, ◌+◌, ◌-◌, ◌*◌, ◌^◌, ◌<◌, Bool, true, false, ltb, List}
+use Rattle.egt_board.specs.Prelude.{[], ◌∷◌, Option, Some, None, arith, zero-add, refl, sym, subst, inl, inr, bit_at}
+use Rattle.egt_board.specs.Prelude.{bit_or, ltb-true, ltb-false, bit_at_or, bit_at-zero, bit_at-lt, bit_at-pow_same}
+use Rattle.egt_board.specs.Prelude.{bit_at-pow_other, Way, Up, Down, Still, Step, file_of, rank_of, Further, Away}
+use Rattle.egt_board.specs.Prelude.{Rides, OneOf}
 use Rattle.egt_board.proofs.Rides.{AreReached, Rode, Rode-none, Rode-more, reach_edge}
 use Rattle.egt_board.proofs.Steps.{bit_of_either}
 

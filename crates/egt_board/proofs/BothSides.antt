@@ -1,14 +1,8 @@
 -- The men of the one side are those that are not the other's.
-use Rattle.std.proofs.Common.{◌≡◌, ◌↔◌, ◌⊎◌, ℕ, ◌-◌, Some, None, Option, min, arith, refl, sym, ap, ◌∙◌, inl, inr}
-use Rattle.std.specs.Int.{bit_at}
+use Rattle.egt_board.specs.Prelude.{◌≡◌, ◌↔◌, ◌⊎◌, ℕ, ◌-◌, Some, None, Option, min, arith, refl, sym, ap, ◌∙◌, inl, inr}
+use Rattle.egt_board.specs.Prelude.{bit_at, cases_eq, bit_at-lt, Side, White, Black, Man, other_side, Placement, Stands}
+use Rattle.egt_board.specs.Prelude.{IsFree, IsHeld, one_man}
 use Rattle.std.specs.FinMap as map
-use Rattle.std.proofs.lemmas.Bool.{cases_eq}
-use Rattle.std.proofs.lemmas.Nat.Bits.{bit_at-lt}
-use Rattle.egt_board.specs.declared.man.Side.{Side}
-use Rattle.egt_board.specs.declared.man.Side.TheVariants.{White, Black}
-use Rattle.egt_board.specs.declared.man.Man.{Man}
-use Rattle.egt_board.specs.Man.{other_side}
-use Rattle.egt_board.specs.Placement.{Placement, Stands, IsFree, IsHeld, one_man}
 
 -- a man is of the one side or of the other, and not of both
 side_or_other : (a b : Side) → (a ≡ b) ⊎ (a ≡ other_side b)

@@ -1,20 +1,9 @@
 -- The tables of attacks, each entry computed anew.
-use Rattle.std.proofs.Common.{◌≡◌, ◌↔◌, ℕ, zero, suc, ◌+◌, ◌-◌, ◌*◌, ◌^◌, ◌<◌, ◌/◌, ◌%◌, Bool, true, false, eqb, List, [], ◌∷◌, length, get_or, arith, refl, zero-add, sym, ap, ◌∙◌, subst, inl, inr}
-use Rattle.std.specs.Int.{bit_at}
-use Rattle.std.specs.Int.Bits.{bit_and, bit_xor}
-use Rattle.std.proofs.lemmas.Bool.{cases_eq, eqb-true, false≢true}
-use Rattle.std.proofs.lemmas.Nat.Bits.{bit_at-zero}
-use Rattle.egt_board.specs.declared.man.Side.{Side}
-use Rattle.egt_board.specs.declared.man.Side.TheVariants.{White, Black}
-use Rattle.egt_board.specs.declared.man.Kind.{Kind}
-use Rattle.egt_board.specs.declared.man.Kind.TheVariants.{Q, R, B, N, P, K}
-use Rattle.egt_board.specs.declared.man.Man.{Man}
-use Rattle.egt_board.specs.Lookup.{row_by, below, beyond, line_of}
-use Rattle.egt_board.specs.declared.step.Step.{Step}
-use Rattle.egt_board.specs.declared.tables.TheConstants.{LONE}
-use Rattle.egt_board.specs.Step.{Away}
-use Rattle.egt_board.specs.AttackLines.{Reaches, farthest, steps_of}
-use Rattle.egt_board.specs.Between.{IsBetween}
+use Rattle.egt_board.specs.Prelude.{◌≡◌, ◌↔◌, ℕ, zero, suc, ◌+◌, ◌-◌, ◌*◌, ◌^◌, ◌<◌, ◌/◌, ◌%◌, Bool, true, false, eqb}
+use Rattle.egt_board.specs.Prelude.{List, [], ◌∷◌, length, get_or, arith, refl, zero-add, sym, ap, ◌∙◌, subst, inl, inr}
+use Rattle.egt_board.specs.Prelude.{bit_at, bit_and, bit_xor, cases_eq, eqb-true, false≢true, bit_at-zero, Side, White}
+use Rattle.egt_board.specs.Prelude.{Black, Kind, Q, R, B, N, P, K, Man, row_by, below, beyond, line_of, Step, LONE}
+use Rattle.egt_board.specs.Prelude.{Away, Reaches, farthest, steps_of, IsBetween}
 use Rattle.egt_board.proofs.Bits.{bit_at-within}
 use Rattle.egt_board.proofs.Towards.{within_board, toward, distance, are_aligned, joined, on_line, Away-sum, Away-rest}
 use Rattle.egt_board.proofs.Beams.{further_on, joint, next_square, beam, beams, beam-reached, beams-reached}

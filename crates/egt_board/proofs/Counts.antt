@@ -1,20 +1,9 @@
 -- How many men a side has at most.
-use Rattle.std.proofs.Common.{Option, None, ◌≡◌, ◌≢◌, ℕ, zero, suc, ◌+◌, ◌<◌, ◌≤◌, ◌↔◌, List, [], ◌∷◌, length, Some, cond, eqb, arith, refl, sym, ap, ◌∙◌, inl, inr, subst, ◌⊎◌}
-use Rattle.std.specs.Int.{bit_at}
-use Rattle.std.specs.Option.{is_some}
+use Rattle.egt_board.specs.Prelude.{Option, None, ◌≡◌, ◌≢◌, ℕ, zero, suc, ◌+◌, ◌<◌, ◌≤◌, ◌↔◌, List, [], ◌∷◌, length}
+use Rattle.egt_board.specs.Prelude.{Some, cond, eqb, arith, refl, sym, ap, ◌∙◌, inl, inr, subst, ◌⊎◌, bit_at, is_some}
+use Rattle.egt_board.specs.Prelude.{cases_eq, false≢true, eqb_tells, bit_at-lt, Side, White, Black, Man, SquareSet}
+use Rattle.egt_board.specs.Prelude.{other_side, Placement, IsHeld, king_of, IsKingOn, total, size_of}
 use Rattle.std.specs.FinMap as placement
-use Rattle.std.proofs.lemmas.Bool.{cases_eq, false≢true}
-use Rattle.std.proofs.lemmas.Bool.Decides.{eqb_tells}
-use Rattle.std.proofs.lemmas.Nat.Bits.{bit_at-lt}
-use Rattle.egt_board.specs.declared.man.Side.{Side}
-use Rattle.egt_board.specs.declared.man.Side.TheVariants.{White, Black}
-use Rattle.egt_board.specs.declared.man.Man.{Man}
-use Rattle.egt_board.specs.declared.square_set.SquareSet.{SquareSet}
-use Rattle.egt_board.specs.Man.{other_side}
-use Rattle.egt_board.specs.Placement.{Placement, IsHeld}
-use Rattle.egt_board.specs.Attack.{king_of}
-use Rattle.egt_board.specs.Setup.{IsKingOn}
-use Rattle.egt_board.specs.SquareSet.{total, size_of}
 use Rattle.egt_board.proofs.Placed.{find-later}
 use Rattle.egt_board.proofs.Gather.{IsKey}
 use Rattle.egt_board.proofs.Sides.{sides_differ}

@@ -1,23 +1,10 @@
 -- A man attacks the squares from which it is attacked: of a pawn the enemy's attacks his.
-use Rattle.std.proofs.Common.{◌≡◌, ◌↔◌, ℕ, ◌+◌, ◌-◌, ◌*◌, ◌<◌, ◌++◌, arith, refl, sym, ap, ◌∙◌, inl, inr, subst}
+use Rattle.egt_board.specs.Prelude.{◌≡◌, ◌↔◌, ℕ, ◌+◌, ◌-◌, ◌*◌, ◌<◌, ◌++◌, arith, refl, sym, ap, ◌∙◌, inl, inr, subst}
+use Rattle.egt_board.specs.Prelude.{add-mul, cases_eq, Side, White, Black, Kind, Q, R, B, N, P, K, Man, Way, Up, Down}
+use Rattle.egt_board.specs.Prelude.{Still, Step, Further, OneOf, Rides, Reaches, straight_steps, diagonal_steps}
+use Rattle.egt_board.specs.Prelude.{knight_steps, pawn_steps, steps_of, farthest, other_side, pawn_of, facing}
+use Rattle.egt_board.specs.Prelude.{Placement, IsFree, get-insert_same, get-insert_other, file_of, rank_of, Away}
 use Rattle.std.specs.FinMap as map
-use Rattle.std.proofs.Math.Nat.{add-mul}
-use Rattle.std.proofs.lemmas.Bool.{cases_eq}
-use Rattle.egt_board.specs.declared.man.Side.{Side}
-use Rattle.egt_board.specs.declared.man.Side.TheVariants.{White, Black}
-use Rattle.egt_board.specs.declared.man.Kind.{Kind}
-use Rattle.egt_board.specs.declared.man.Kind.TheVariants.{Q, R, B, N, P, K}
-use Rattle.egt_board.specs.declared.man.Man.{Man}
-use Rattle.egt_board.specs.declared.step.Way.{Way}
-use Rattle.egt_board.specs.declared.step.Way.TheVariants.{Up, Down, Still}
-use Rattle.egt_board.specs.declared.step.Step.{Step}
-use Rattle.egt_board.specs.Coordinate.{Further}
-use Rattle.egt_board.specs.AttackLines.{OneOf, Rides, Reaches, straight_steps, diagonal_steps, knight_steps, pawn_steps, steps_of, farthest}
-use Rattle.egt_board.specs.Man.{other_side}
-use Rattle.egt_board.specs.Pawn.{pawn_of, facing}
-use Rattle.egt_board.specs.Placement.{Placement, IsFree, get-insert_same, get-insert_other}
-use Rattle.egt_board.specs.Square.{file_of, rank_of}
-use Rattle.egt_board.specs.Step.{Away}
 use Rattle.egt_board.proofs.Sides.{side_twice}
 
 abbrev opposite : Way → Way

@@ -1,11 +1,7 @@
 -- A man sought among the slots of a board.
-use Rattle.std.proofs.Common.{◌≡◌, ◌⊎◌, ℕ, List, [], ◌∷◌, Some, None, sym, ap, ◌∙◌, inl, inr}
-use Rattle.std.specs.Ordering.{nat_cmp}
+use Rattle.egt_board.specs.Prelude.{◌≡◌, ◌⊎◌, ℕ, List, [], ◌∷◌, Some, None, sym, ap, ◌∙◌, inl, inr, nat_cmp, cases_eq}
+use Rattle.egt_board.specs.Prelude.{Man, Slot, listed, InOrder, find-below, first_half, second_half}
 use Rattle.std.specs.FinMap as map
-use Rattle.std.proofs.lemmas.Bool.{cases_eq}
-use Rattle.egt_board.specs.declared.man.Man.{Man}
-use Rattle.egt_board.specs.Board.{Slot, listed, InOrder}
-use Rattle.egt_board.specs.Position.{find-below, first_half, second_half}
 use Rattle.egt_board.proofs.Placed.{find-here, find-later}
 
 -- one of the slots has the man on the square

@@ -1,18 +1,11 @@
 -- The men of a placement, gathered from the set of their squares.
-use Rattle.std.proofs.Common.{◌≡◌, ◌≢◌, ℕ, zero, suc, ◌+◌, ◌<◌, ◌≤◌, ◌↔◌, List, [], ◌∷◌, ◌++◌, ◌⊎◌, ◌&&◌, map, length, take, drop, get_or, Option, Some, None, Bool, true, false, cond, ltb, eqb, add-one, arith, refl, sym, ap, ◌∙◌, inl, inr, subst}
-use Rattle.std.specs.Prelude.{T}
-use Rattle.std.specs.Int.{bit_at}
-use Rattle.std.specs.Option.{is_some}
-use Rattle.std.specs.Ordering.{nat_cmp, is_lt}
-use Rattle.std.specs.declared.cmp.Ordering.TheVariants.{Less, Equal, Greater}
+use Rattle.egt_board.specs.Prelude.{◌≡◌, ◌≢◌, ℕ, zero, suc, ◌+◌, ◌<◌, ◌≤◌, ◌↔◌, List, [], ◌∷◌, ◌++◌, ◌⊎◌, ◌&&◌, map}
+use Rattle.egt_board.specs.Prelude.{length, take, drop, get_or, Option, Some, None, Bool, true, false, cond, ltb, eqb}
+use Rattle.egt_board.specs.Prelude.{add-one, arith, refl, sym, ap, ◌∙◌, inl, inr, subst, T, bit_at, is_some, nat_cmp}
+use Rattle.egt_board.specs.Prelude.{is_lt, Less, Equal, Greater, below_all, cases_eq, cases_lt, cases_order, false≢true}
+use Rattle.egt_board.specs.Prelude.{ltb-true, take_more, take_all, drop_all, map-append, length-append, length-drop}
+use Rattle.egt_board.specs.Prelude.{drop-cons, Man, Placement, Stands, IsFree, man_entry}
 use Rattle.std.specs.FinMap as placement
-use Rattle.std.specs.FinMap.Entries.{below_all}
-use Rattle.std.proofs.lemmas.Bool.{cases_eq, cases_lt, cases_order, false≢true, ltb-true}
-use Rattle.std.proofs.lemmas.List.{take_more, take_all, drop_all, map-append, length-append, length-drop}
-use Rattle.std.proofs.Math.Seq.{drop-cons}
-use Rattle.egt_board.specs.declared.man.Man.{Man}
-use Rattle.egt_board.specs.Placement.{Placement, Stands, IsFree}
-use Rattle.egt_board.specs.Listed.{man_entry}
 use Rattle.egt_board.proofs.Bits.{not_both}
 use Rattle.egt_board.proofs.Placed.{find-here, find-later}
 

@@ -1,12 +1,6 @@
 -- How far squares are from one another.
-use Rattle.std.proofs.Common.{◌≡◌, ℕ, ◌+◌, ◌-◌, ◌*◌, ◌<◌, ◌≤◌, arith, refl, sym, ◌∙◌, subst}
-use Rattle.std.proofs.Math.Nat.{mul-le-mul_right}
-use Rattle.egt_board.specs.declared.step.Way.{Way}
-use Rattle.egt_board.specs.declared.step.Way.TheVariants.{Up, Down, Still}
-use Rattle.egt_board.specs.declared.step.Step.{Step}
-use Rattle.egt_board.specs.Square.{file_of, rank_of}
-use Rattle.egt_board.specs.Coordinate.{Further}
-use Rattle.egt_board.specs.Step.{Away}
+use Rattle.egt_board.specs.Prelude.{◌≡◌, ℕ, ◌+◌, ◌-◌, ◌*◌, ◌<◌, ◌≤◌, arith, refl, sym, ◌∙◌, subst, mul-le-mul_right}
+use Rattle.egt_board.specs.Prelude.{Way, Up, Down, Still, Step, file_of, rank_of, Further, Away}
 
 -- a coordinate as many times 0 further is the same
 Further-zero : (w : Way) (by a : ℕ) → Further w (0 * by) a a

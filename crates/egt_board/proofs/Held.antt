@@ -1,16 +1,9 @@
 -- Whose men stand on the squares of a set.
-use Rattle.std.proofs.Common.{◌≡◌, ℕ, ◌<◌, ◌↔◌, true, false, cond, eqb, List, [], ◌∷◌, Option, Some, None, arith, refl, sym, ap, ◌∙◌, max, inl, inr}
-use Rattle.std.specs.Ordering.{nat_cmp}
-use Rattle.std.specs.Cmp.{unsigned_tied}
+use Rattle.egt_board.specs.Prelude.{◌≡◌, ℕ, ◌<◌, ◌↔◌, true, false, cond, eqb, List, [], ◌∷◌, Option, Some, None, arith}
+use Rattle.egt_board.specs.Prelude.{refl, sym, ap, ◌∙◌, max, inl, inr, nat_cmp, unsigned_tied, cases_eq, eqb_tells}
+use Rattle.egt_board.specs.Prelude.{Side, White, Black, Man, Placement, Stands, IsFree, IsHeld, Slot, listed, marks}
+use Rattle.egt_board.specs.Prelude.{takes, is_side, InOrder, AreOnBoard, AreKept, find-below, first_half, second_half}
 use Rattle.std.specs.FinMap as map
-use Rattle.std.proofs.lemmas.Bool.{cases_eq}
-use Rattle.std.proofs.lemmas.Bool.Decides.{eqb_tells}
-use Rattle.egt_board.specs.declared.man.Side.{Side}
-use Rattle.egt_board.specs.declared.man.Side.TheVariants.{White, Black}
-use Rattle.egt_board.specs.declared.man.Man.{Man}
-use Rattle.egt_board.specs.Placement.{Placement, Stands, IsFree, IsHeld}
-use Rattle.egt_board.specs.Board.{Slot, listed, marks, takes, is_side, InOrder, AreOnBoard, AreKept}
-use Rattle.egt_board.specs.Position.{find-below, first_half, second_half}
 use Rattle.egt_board.proofs.Placed.{find-later}
 use Rattle.egt_board.proofs.Slots.{AreShown, listed-shown}
 

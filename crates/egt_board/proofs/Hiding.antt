@@ -1,20 +1,10 @@
 -- What a man on a line hides: a square is attacked along it exactly where no square between is taken.
-use Rattle.std.proofs.Common.{◌≡◌, ◌≢◌, ◌↔◌, ℕ, ◌-◌, ◌<◌, Bool, true, false, List, [], ◌∷◌, ◌++◌, min, arith, refl, sym, ap, ◌∙◌, subst, inl, inr, ◌+◌, ◌⊎◌}
-use Rattle.std.specs.Int.{bit_at}
-use Rattle.std.proofs.lemmas.Bool.{cases_eq, false≢true}
-use Rattle.std.proofs.lemmas.Nat.Bits.{bit_at-lt, bit_at-zero}
-use Rattle.egt_board.specs.declared.man.Side.{Side}
-use Rattle.egt_board.specs.declared.man.Side.TheVariants.{White, Black}
-use Rattle.egt_board.specs.declared.man.Kind.{Kind}
-use Rattle.egt_board.specs.declared.man.Kind.TheVariants.{Q, R, B, N, P, K}
-use Rattle.egt_board.specs.declared.man.Man.{Man}
-use Rattle.egt_board.specs.declared.step.Way.TheVariants.{Up, Down, Still}
-use Rattle.egt_board.specs.declared.step.Step.{Step}
-use Rattle.egt_board.specs.Square.{file_of, rank_of}
-use Rattle.egt_board.specs.Step.{Away}
-use Rattle.egt_board.specs.AttackLines.{Rides, OneOf, Reaches, Rides-free, Reaches-free, steps_of, farthest, is_slider, straight_steps, diagonal_steps, knight_steps, pawn_steps}
-use Rattle.egt_board.specs.Safety.{Stops}
-use Rattle.egt_board.specs.Between.{IsRoyal, IsBetween}
+use Rattle.egt_board.specs.Prelude.{◌≡◌, ◌≢◌, ◌↔◌, ℕ, ◌-◌, ◌<◌, Bool, true, false, List, [], ◌∷◌, ◌++◌, min, arith}
+use Rattle.egt_board.specs.Prelude.{refl, sym, ap, ◌∙◌, subst, inl, inr, ◌+◌, ◌⊎◌, bit_at, cases_eq, false≢true}
+use Rattle.egt_board.specs.Prelude.{bit_at-lt, bit_at-zero, Side, White, Black, Kind, Q, R, B, N, P, K, Man, Up, Down}
+use Rattle.egt_board.specs.Prelude.{Still, Step, file_of, rank_of, Away, Rides, OneOf, Reaches, Rides-free}
+use Rattle.egt_board.specs.Prelude.{Reaches-free, steps_of, farthest, is_slider, straight_steps, diagonal_steps}
+use Rattle.egt_board.specs.Prelude.{knight_steps, pawn_steps, Stops, IsRoyal, IsBetween}
 use Rattle.egt_board.proofs.Bits.{not_both}
 use Rattle.egt_board.proofs.Towards.{apart, gap_of, joined}
 

@@ -1,26 +1,15 @@
 -- What the images of a position keep, and the way back from each.
-use Rattle.std.proofs.Common.{◌≡◌, ℕ, zero, suc, ◌<◌, ◌↔◌, ◌⊎◌, ◌/◌, ◌%◌, ◌==◌, Bool, true, false, Option, Some, None, arith, refl, sym, ap, ◌∙◌, subst, inl, inr}
-use Rattle.std.specs.Option.{option_map}
+use Rattle.egt_board.specs.Prelude.{◌≡◌, ℕ, zero, suc, ◌<◌, ◌↔◌, ◌⊎◌, ◌/◌, ◌%◌, ◌==◌, Bool, true, false, Option, Some}
+use Rattle.egt_board.specs.Prelude.{None, arith, refl, sym, ap, ◌∙◌, subst, inl, inr, option_map, eqb-true, Mirror}
+use Rattle.egt_board.specs.Prelude.{Files, Ranks, Diagonal, Colours, Side, White, Black, Man, other_side, Placement}
+use Rattle.egt_board.specs.Prelude.{HasNoPawn, Setup, IsAdmissible, FitsTarget, IsSettled, IsMirrored, square_by}
+use Rattle.egt_board.specs.Prelude.{side_by, man_by, Allows, square_by-within, square_by-twice, ShowsMen, OnBoard}
+use Rattle.egt_board.specs.Prelude.{man_by-twice, no_pawn_by, target_between, square_if, square_of, IsKeepingSides}
+use Rattle.egt_board.specs.Prelude.{KeepsPlay, IsCarried, IsImage, IsTurnOf, Comes, AreImages, Reflects, count_of}
+use Rattle.egt_board.specs.Prelude.{SameMen, ExchangedMen, men_by, setup_by, setup_if}
 use Rattle.std.specs.FinMap as map
-use Rattle.std.proofs.lemmas.Bool.{eqb-true}
-use Rattle.egt_board.specs.declared.mirror.Mirror.{Mirror}
-use Rattle.egt_board.specs.declared.mirror.Mirror.TheVariants.{Files, Ranks, Diagonal, Colours}
-use Rattle.egt_board.specs.declared.man.Side.{Side}
-use Rattle.egt_board.specs.declared.man.Side.TheVariants.{White, Black}
-use Rattle.egt_board.specs.declared.man.Man.{Man}
-use Rattle.egt_board.specs.Man.{other_side}
-use Rattle.egt_board.specs.Placement.{Placement}
-use Rattle.egt_board.specs.Pawn.{HasNoPawn}
-use Rattle.egt_board.specs.Setup.{Setup, IsAdmissible}
-use Rattle.egt_board.specs.Target.{FitsTarget}
-use Rattle.egt_board.specs.Settled.{IsSettled}
-use Rattle.egt_board.specs.Mirror.{IsMirrored, square_by, side_by, man_by, Allows}
-use Rattle.egt_board.specs.MirrorLaws.{square_by-within, square_by-twice, ShowsMen, OnBoard, man_by-twice, no_pawn_by, target_between}
-use Rattle.egt_board.specs.Symmetry.{square_if, square_of, IsKeepingSides, KeepsPlay, IsCarried, IsImage}
-use Rattle.egt_board.specs.Images.{IsTurnOf, Comes, AreImages, Reflects, count_of, SameMen, ExchangedMen}
 use Rattle.egt_board.proofs.Turning.{admissible_by}
 use Rattle.egt_board.proofs.Settling.{ready_by}
-use Rattle.egt_board.specs.Turned.{men_by, setup_by, setup_if}
 use Rattle.egt_board.proofs.Reflected.{men_by-shows, men_by-on_board, men_by-few, same_on_board, setup_by-is, setup_by-only, setup_by-back}
 use Rattle.egt_board.proofs.Tallies.{count_by}
 

@@ -1,9 +1,5 @@
 -- The search for the one king of a side.
-use Rattle.std.proofs.Common.{◌≡◌, ℕ, Option, Some, None, ◌⊎◌}
-use Rattle.std.specs.Int.{bit_at}
-use Rattle.egt_board.specs.declared.man.Side.{Side}
-use Rattle.egt_board.specs.Placement.{Placement, Stands}
-use Rattle.egt_board.specs.Attack.{king_of}
+use Rattle.egt_board.specs.Prelude.{◌≡◌, ℕ, Option, Some, None, ◌⊎◌, bit_at, Side, Placement, Stands, king_of}
 
 -- the king that was found stands there
 abbrev pub FoundKing : Placement → Side → Option ℕ → Type 0

@@ -1,23 +1,11 @@
 -- The men of a board beside its kings, chosen among the slots.
-use Rattle.std.proofs.Common.{◌≡◌, ◌≢◌, ◌⊎◌, ℕ, zero, suc, ◌<◌, Bool, true, false, cond, List, [], ◌∷◌, Option, Some, None, IfSome, arith, refl, sym, ap, ◌∙◌, subst, inl, inr}
-use Rattle.std.specs.Prelude.{T}
-use Rattle.std.specs.Option.{option_map}
-use Rattle.std.specs.Ordering.{nat_cmp}
+use Rattle.egt_board.specs.Prelude.{◌≡◌, ◌≢◌, ◌⊎◌, ℕ, zero, suc, ◌<◌, Bool, true, false, cond, List, [], ◌∷◌, Option}
+use Rattle.egt_board.specs.Prelude.{Some, None, IfSome, arith, refl, sym, ap, ◌∙◌, subst, inl, inr, T, option_map}
+use Rattle.egt_board.specs.Prelude.{nat_cmp, below_all, false≢true, Kind, Q, R, B, N, P, K, Man, Side, White, Black}
+use Rattle.egt_board.specs.Prelude.{king_of, holds_king, without_king, AreBeside, Slot, listed, padded, placed, InOrder}
+use Rattle.egt_board.specs.Prelude.{AreKept, side_number, Placement, Stands, is_king_kind, first_half, second_half}
+use Rattle.egt_board.specs.Prelude.{HasKings}
 use Rattle.std.specs.FinMap as map
-use Rattle.std.specs.FinMap.Entries.{below_all}
-use Rattle.std.proofs.lemmas.Bool.{false≢true}
-use Rattle.egt_board.specs.declared.man.Kind.{Kind}
-use Rattle.egt_board.specs.declared.man.Kind.TheVariants.{Q, R, B, N, P, K}
-use Rattle.egt_board.specs.declared.man.Man.{Man}
-use Rattle.egt_board.specs.declared.man.Side.{Side}
-use Rattle.egt_board.specs.declared.man.Side.TheVariants.{White, Black}
-use Rattle.egt_board.specs.Attack.{king_of}
-use Rattle.egt_board.specs.NonKings.{holds_king, without_king, AreBeside}
-use Rattle.egt_board.specs.Board.{Slot, listed, padded, placed, InOrder, AreKept}
-use Rattle.egt_board.specs.Images.{side_number}
-use Rattle.egt_board.specs.Placement.{Placement, Stands}
-use Rattle.egt_board.specs.Position.{is_king_kind, first_half, second_half}
-use Rattle.egt_board.specs.Setup.{HasKings}
 use Rattle.egt_board.proofs.Finding.{AnyHolds, holds_found, found_holds}
 use Rattle.egt_board.proofs.Slots.{shown, listed-shown, less_by}
 

@@ -1,24 +1,12 @@
 -- How many of each man stand on a board.
-use Rattle.std.proofs.Common.{◌≡◌, ◌≢◌, ℕ, zero, suc, ◌+◌, ◌*◌, ◌<◌, ◌⊎◌, ◌&&◌, List, [], ◌∷◌, map, Option, Some, None, Bool, true, false, cond, ltb, eqb, arith, add-zero, refl, ap, ◌∙◌, inl, inr}
-use Rattle.std.specs.Prelude.{T, count_by}
-use Rattle.std.specs.Ordering.{nat_cmp, is_lt}
-use Rattle.std.specs.declared.cmp.Ordering.TheVariants.{Less, Equal, Greater}
+use Rattle.egt_board.specs.Prelude.{◌≡◌, ◌≢◌, ℕ, zero, suc, ◌+◌, ◌*◌, ◌<◌, ◌⊎◌, ◌&&◌, List, [], ◌∷◌, map, Option, Some}
+use Rattle.egt_board.specs.Prelude.{None, Bool, true, false, cond, ltb, eqb, arith, add-zero, refl, ap, ◌∙◌, inl, inr}
+use Rattle.egt_board.specs.Prelude.{T, count_by, nat_cmp, is_lt, Less, Equal, Greater, below_all, cases_eq, ltb-true}
+use Rattle.egt_board.specs.Prelude.{sum_by-cons, eqb_tells, Side, White, Black, Kind, Q, R, B, N, P, K, Man, Placement}
+use Rattle.egt_board.specs.Prelude.{Stands, tied, untied, get-insert_same, get-insert_other, get-remove_same}
+use Rattle.egt_board.specs.Prelude.{get-remove_other, king_of, IsKingOn, total, kind_number, side_number, man_number}
+use Rattle.egt_board.specs.Prelude.{stands_here, count_of, is_man}
 use Rattle.std.specs.FinMap as placement
-use Rattle.std.specs.FinMap.Entries.{below_all}
-use Rattle.std.proofs.lemmas.Bool.{cases_eq, ltb-true}
-use Rattle.std.proofs.lemmas.List.Sums.{sum_by-cons}
-use Rattle.std.proofs.lemmas.Bool.Decides.{eqb_tells}
-use Rattle.egt_board.specs.declared.man.Side.{Side}
-use Rattle.egt_board.specs.declared.man.Side.TheVariants.{White, Black}
-use Rattle.egt_board.specs.declared.man.Kind.{Kind}
-use Rattle.egt_board.specs.declared.man.Kind.TheVariants.{Q, R, B, N, P, K}
-use Rattle.egt_board.specs.declared.man.Man.{Man}
-use Rattle.egt_board.specs.Placement.{Placement, Stands, tied, untied, get-insert_same, get-insert_other, get-remove_same, get-remove_other}
-use Rattle.egt_board.specs.Attack.{king_of}
-use Rattle.egt_board.specs.Setup.{IsKingOn}
-use Rattle.egt_board.specs.SquareSet.{total}
-use Rattle.egt_board.specs.Images.{kind_number, side_number, man_number, stands_here, count_of}
-use Rattle.egt_board.specs.Counting.{is_man}
 
 same_below : (f g : ℕ → ℕ) (n : ℕ) → ((t : ℕ) → t < n → f t ≡ g t) → total f n ≡ total g n
 same_below f g zero same = refl

@@ -1,12 +1,8 @@
 -- The search for a pawn on the first rank or the last.
-use Rattle.std.proofs.Common.{◌≡◌, ◌≢◌, ℕ, ◌<◌, ◌⊎◌, ◌↔◌, arith, Option, Some, None, true, sym, ap, ◌∙◌, inl, inr, refl, subst}
-use Rattle.std.specs.Int.{bit_at}
-use Rattle.std.specs.Option.{is_some}
+use Rattle.egt_board.specs.Prelude.{◌≡◌, ◌≢◌, ℕ, ◌<◌, ◌⊎◌, ◌↔◌, arith, Option, Some, None, true, sym, ap, ◌∙◌, inl, inr}
+use Rattle.egt_board.specs.Prelude.{refl, subst, bit_at, is_some, cases_eq, Man, Placement, Stands, IsFree, IsBeside}
+use Rattle.egt_board.specs.Prelude.{MayStand}
 use Rattle.std.specs.FinMap as map
-use Rattle.std.proofs.lemmas.Bool.{cases_eq}
-use Rattle.egt_board.specs.declared.man.Man.{Man}
-use Rattle.egt_board.specs.Placement.{Placement, Stands, IsFree}
-use Rattle.egt_board.specs.Pawn.{IsBeside, MayStand}
 use Rattle.egt_board.proofs.Bits.{not_both}
 
 -- the pawns that are not left stand neither on the first rank nor on the last, and each square left holds a man

@@ -1,9 +1,6 @@
 -- Entries of a placement, found by their squares.
-use Rattle.std.proofs.Common.{◌≡◌, ◌≢◌, ℕ, List, ◌∷◌, Some, cond, ap}
-use Rattle.std.specs.Ordering.{nat_cmp}
+use Rattle.egt_board.specs.Prelude.{◌≡◌, ◌≢◌, ℕ, List, ◌∷◌, Some, cond, ap, nat_cmp, Man, tied, untied}
 use Rattle.std.specs.FinMap as map
-use Rattle.egt_board.specs.declared.man.Man.{Man}
-use Rattle.egt_board.specs.Placement.{tied, untied}
 
 pub find-here : (q k : ℕ) (man : Man) (es : List (ℕ × Man)) → q ≡ k → map.find nat_cmp q ((k, man) ∷ es) ≡ Some man
 find-here q k man es e = ap (λ b. cond b (Some man) (map.find nat_cmp q es)) (tied q k e)

@@ -1,13 +1,7 @@
 -- What makes a setup admissible, and what each refusal says.
-use Rattle.std.specs.Option.{is_some}
-use Rattle.std.proofs.lemmas.Bool.{false≢true}
-use Rattle.std.proofs.Common.{true, false, ◌≡◌, ℕ, Option, Some, None, sym, subst, ◌⊎◌, inl, inr, refl}
-use Rattle.egt_board.specs.declared.man.Side.{Side}
-use Rattle.egt_board.specs.declared.man.Side.TheVariants.{White, Black}
-use Rattle.egt_board.specs.Man.{other_side}
-use Rattle.egt_board.specs.Placement.{Placement}
-use Rattle.egt_board.specs.Setup.{IsKingOn}
-use Rattle.egt_board.specs.Target.{IsTarget, FitsTarget}
+use Rattle.egt_board.specs.Prelude.{is_some, false≢true, true, false, ◌≡◌, ℕ, Option, Some, None, sym, subst, ◌⊎◌, inl}
+use Rattle.egt_board.specs.Prelude.{inr, refl, Side, White, Black, other_side, Placement, IsKingOn, IsTarget}
+use Rattle.egt_board.specs.Prelude.{FitsTarget}
 
 -- the king that waits, chosen by the side to move
 pub waiting_king : (men : Placement) (side : Side) (white black s : ℕ) → IsKingOn men White white → IsKingOn men Black black → ((side ≡ White) × (s ≡ black)) ⊎ ((side ≡ Black) × (s ≡ white)) → IsKingOn men (other_side side) s

@@ -1,12 +1,7 @@
 -- What a position settles to, and what its images settle to.
-use Rattle.std.proofs.Common.{◌≡◌, ℕ, Bool, true, false, if◌then◌else◌, refl, sym, ap, ◌∙◌, subst, inl, inr}
-use Rattle.egt_board.specs.Decided.{Decided, tells}
-use Rattle.egt_board.specs.DecidedSetup.{decided_settled, settled_form}
-use Rattle.egt_board.specs.Images.{AreImages}
-use Rattle.egt_board.specs.Setup.{Setup, IsAdmissible}
-use Rattle.egt_board.specs.Settled.{IsSettled, SettlesTo, untargeted}
-use Rattle.egt_board.specs.Symmetry.{KeepsPlay}
-use Rattle.egt_board.specs.Turned.{IsTurnedBy}
+use Rattle.egt_board.specs.Prelude.{◌≡◌, ℕ, Bool, true, false, if◌then◌else◌, refl, sym, ap, ◌∙◌, subst, inl, inr}
+use Rattle.egt_board.specs.Prelude.{Decided, tells, decided_settled, settled_form, AreImages, Setup, IsAdmissible}
+use Rattle.egt_board.specs.Prelude.{IsSettled, SettlesTo, untargeted, KeepsPlay, IsTurnedBy}
 use Rattle.egt_board.proofs.Turns.{turned_kept, turned_is_image, images_turned}
 
 settles_as_told : (p : Setup) (d : Decided (IsSettled p)) → SettlesTo p (if tells d then p else untargeted p)

@@ -1,15 +1,8 @@
 -- Settled positions.
-use Rattle.std.proofs.Common.{ℕ, ◌<◌, Option, Some, None, IfSome, arith, refl, subst, inl, inr}
-use Rattle.std.specs.Option.{option_map}
-use Rattle.egt_board.specs.declared.mirror.Mirror.{Mirror}
-use Rattle.egt_board.specs.declared.mirror.Mirror.TheVariants.{Files, Ranks, Diagonal, Colours}
-use Rattle.egt_board.specs.declared.man.Side.{Side}
-use Rattle.egt_board.specs.Man.{other_side}
-use Rattle.egt_board.specs.Placement.{Placement}
-use Rattle.egt_board.specs.Pawn.{pawn_of, ahead, IsBeside, HasPawnBeside}
-use Rattle.egt_board.specs.Target.{FitsTarget}
-use Rattle.egt_board.specs.Mirror.{square_by, side_by, Allows}
-use Rattle.egt_board.specs.MirrorLaws.{ahead_by, target_between, ShowsMen, OnBoard}
+use Rattle.egt_board.specs.Prelude.{ℕ, ◌<◌, Option, Some, None, IfSome, arith, refl, subst, inl, inr, option_map}
+use Rattle.egt_board.specs.Prelude.{Mirror, Files, Ranks, Diagonal, Colours, Side, other_side, Placement, pawn_of}
+use Rattle.egt_board.specs.Prelude.{ahead, IsBeside, HasPawnBeside, FitsTarget, square_by, side_by, Allows, ahead_by}
+use Rattle.egt_board.specs.Prelude.{target_between, ShowsMen, OnBoard}
 use Rattle.egt_board.proofs.Turning.{ahead_within, stands_by}
 
 beside_files : (s t : ℕ) → IsBeside s t → IsBeside (square_by Files s) (square_by Files t)

@@ -1,27 +1,12 @@
 -- What a side attacks, and where a newcomer keeps it from attacking a square.
-use Rattle.std.proofs.Common.{◌≡◌, ◌≢◌, ◌↔◌, ◌⊎◌, ℕ, ◌+◌, ◌*◌, ◌<◌, List, [], ◌∷◌, Some, None, max, min, arith, refl, sym, ap, ◌∙◌, subst, inl, inr}
-use Rattle.std.specs.Int.{bit_at}
-use Rattle.std.specs.Ordering.{nat_cmp}
+use Rattle.egt_board.specs.Prelude.{◌≡◌, ◌≢◌, ◌↔◌, ◌⊎◌, ℕ, ◌+◌, ◌*◌, ◌<◌, List, [], ◌∷◌, Some, None, max, min, arith}
+use Rattle.egt_board.specs.Prelude.{refl, sym, ap, ◌∙◌, subst, inl, inr, bit_at, nat_cmp, cases_eq, Inside, Side, White}
+use Rattle.egt_board.specs.Prelude.{Black, Kind, Q, R, B, N, P, K, Man, Way, Up, Down, Still, Step, Further, file_of}
+use Rattle.egt_board.specs.Prelude.{rank_of, Placement, Stands, IsFree, get-insert_same, get-insert_other, Rides, OneOf}
+use Rattle.egt_board.specs.Prelude.{Reaches, Reaches-free, steps_of, farthest, Slot, listed, placed, InOrder, AreKept}
+use Rattle.egt_board.specs.Prelude.{slots_of, find-below, first_half, second_half, IsAttacked, IsKeptFrom, IsSeenAs}
+use Rattle.egt_board.specs.Prelude.{Stops, StopsSlot}
 use Rattle.std.specs.FinMap as map
-use Rattle.std.proofs.lemmas.Bool.{cases_eq}
-use Rattle.egt_board.specs.declared.board.Board.TheInside.{Inside}
-use Rattle.egt_board.specs.declared.man.Side.{Side}
-use Rattle.egt_board.specs.declared.man.Side.TheVariants.{White, Black}
-use Rattle.egt_board.specs.declared.man.Kind.{Kind}
-use Rattle.egt_board.specs.declared.man.Kind.TheVariants.{Q, R, B, N, P, K}
-use Rattle.egt_board.specs.declared.man.Man.{Man}
-use Rattle.egt_board.specs.declared.step.Way.{Way}
-use Rattle.egt_board.specs.declared.step.Way.TheVariants.{Up, Down, Still}
-use Rattle.egt_board.specs.declared.step.Step.{Step}
-use Rattle.egt_board.specs.Coordinate.{Further}
-use Rattle.egt_board.specs.Square.{file_of, rank_of}
-use Rattle.egt_board.specs.Placement.{Placement, Stands, IsFree, get-insert_same, get-insert_other}
-use Rattle.egt_board.specs.AttackLines.{Rides, OneOf, Reaches, Reaches-free, steps_of, farthest}
-use Rattle.egt_board.specs.Board.{Slot, listed, placed, InOrder, AreKept}
-use Rattle.egt_board.specs.Slots.{slots_of}
-use Rattle.egt_board.specs.Position.{find-below, first_half, second_half}
-use Rattle.egt_board.specs.Attack.{IsAttacked}
-use Rattle.egt_board.specs.Safety.{IsKeptFrom, IsSeenAs, Stops, StopsSlot}
 use Rattle.egt_board.proofs.Placed.{find-here, find-later}
 use Rattle.egt_board.proofs.Slots.{shown, listed-shown}
 use Rattle.egt_board.proofs.Hiding.{Reaches-target}

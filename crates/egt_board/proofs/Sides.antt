@@ -1,8 +1,5 @@
 -- The two sides.
-use Rattle.std.proofs.Common.{◌≡◌, ◌⊎◌, refl, inl, inr}
-use Rattle.egt_board.specs.declared.man.Side.{Side}
-use Rattle.egt_board.specs.declared.man.Side.TheVariants.{White, Black}
-use Rattle.egt_board.specs.Man.{other_side}
+use Rattle.egt_board.specs.Prelude.{◌≡◌, ◌⊎◌, refl, inl, inr, Side, White, Black, other_side}
 
 pub side_twice : (side : Side) → other_side (other_side side) ≡ side
 side_twice White = refl

@@ -1,25 +1,11 @@
 -- How many squares a set has.
-use Rattle.std.proofs.Common.{◌≡◌, ◌≢◌, ℕ, zero, suc, ◌+◌, ◌<◌, ◌≤◌, ◌⊎◌, max, Bool, true, false, cond, ◌&&◌, ◌||◌, not, eqb, leb, List, [], ◌∷◌, ◌++◌, ◌*◌, arith, refl, ap, ◌∙◌, inl, inr, subst}
-use Rattle.std.specs.Int.{bit_at}
-use Rattle.std.proofs.lemmas.Bool.{cases_eq, eq-eqb, leb-true, le-leb, false≢true, and_parts, and_from}
-use Rattle.std.proofs.lemmas.Nat.Bits.{bit_at-lt}
-use Rattle.egt_board.specs.declared.man.Side.{Side}
-use Rattle.egt_board.specs.declared.man.Side.TheVariants.{White, Black}
-use Rattle.egt_board.specs.declared.man.Kind.{Kind}
-use Rattle.egt_board.specs.declared.man.Kind.TheVariants.{Q, R, B, N, P, K}
-use Rattle.egt_board.specs.declared.man.Man.{Man}
-use Rattle.egt_board.specs.declared.step.Step.{Step}
-use Rattle.egt_board.specs.declared.square_set.SquareSet.{SquareSet}
-use Rattle.std.specs.List.{list_all}
-use Rattle.std.proofs.lemmas.Bool.Decides.{eqb_tells}
-use Rattle.egt_board.specs.declared.step.Way.{Way}
-use Rattle.egt_board.specs.declared.step.Way.TheVariants.{Up, Down, Still}
-use Rattle.egt_board.specs.Coordinate.{Further}
-use Rattle.egt_board.specs.Step.{Away}
-use Rattle.egt_board.specs.Square.{file_of, rank_of}
-use Rattle.egt_board.specs.SquareSet.{total, size_of, most_reached}
-use Rattle.egt_board.specs.AttackLines.{Rides, OneOf, Reaches, farthest, steps_of, straight_steps, diagonal_steps, knight_steps, pawn_steps}
-use Rattle.egt_board.specs.Pawn.{Advances}
+use Rattle.egt_board.specs.Prelude.{◌≡◌, ◌≢◌, ℕ, zero, suc, ◌+◌, ◌<◌, ◌≤◌, ◌⊎◌, max, Bool, true, false, cond, ◌&&◌}
+use Rattle.egt_board.specs.Prelude.{◌||◌, not, eqb, leb, List, [], ◌∷◌, ◌++◌, ◌*◌, arith, refl, ap, ◌∙◌, inl, inr}
+use Rattle.egt_board.specs.Prelude.{subst, bit_at, cases_eq, eq-eqb, leb-true, le-leb, false≢true, and_parts, and_from}
+use Rattle.egt_board.specs.Prelude.{bit_at-lt, Side, White, Black, Kind, Q, R, B, N, P, K, Man, Step, SquareSet}
+use Rattle.egt_board.specs.Prelude.{list_all, eqb_tells, Way, Up, Down, Still, Further, Away, file_of, rank_of, total}
+use Rattle.egt_board.specs.Prelude.{size_of, most_reached, Rides, OneOf, Reaches, farthest, steps_of, straight_steps}
+use Rattle.egt_board.specs.Prelude.{diagonal_steps, knight_steps, pawn_steps, Advances}
 
 pub total-le : (f g : ℕ → ℕ) (n : ℕ) → ((t : ℕ) → t < n → f t ≤ g t) → total f n ≤ total g n
 total-le f g zero le = omega arith

@@ -1,24 +1,13 @@
 -- The slots of a board: what stands on a square, and the slots with a man more or less.
-use Rattle.std.proofs.Common.{◌≡◌, ◌≢◌, ℕ, zero, suc, ◌+◌, ◌<◌, ◌≤◌, Bool, true, false, cond, eqb, ltb, not, ◌&&◌, ◌||◌, List, [], ◌∷◌, length, Option, Some, None, arith, refl, sym, ap, ◌∙◌, inl, inr, subst}
-use Rattle.std.specs.Prelude.{T}
-use Rattle.std.specs.Option.{is_some, option_or}
-use Rattle.std.specs.Ordering.{nat_cmp, is_lt, is_eq, eq_by_cmp}
-use Rattle.std.specs.declared.cmp.Ordering.{Ordering}
-use Rattle.std.specs.declared.cmp.Ordering.TheVariants.{Less, Equal, Greater}
-use Rattle.std.specs.Cmp.{nat_cmp_total, unsigned_tied, alike_right}
+use Rattle.egt_board.specs.Prelude.{◌≡◌, ◌≢◌, ℕ, zero, suc, ◌+◌, ◌<◌, ◌≤◌, Bool, true, false, cond, eqb, ltb, not, ◌&&◌}
+use Rattle.egt_board.specs.Prelude.{◌||◌, List, [], ◌∷◌, length, Option, Some, None, arith, refl, sym, ap, ◌∙◌, inl}
+use Rattle.egt_board.specs.Prelude.{inr, subst, T, is_some, option_or, nat_cmp, is_lt, is_eq, eq_by_cmp, Ordering, Less}
+use Rattle.egt_board.specs.Prelude.{Equal, Greater, nat_cmp_total, unsigned_tied, alike_right, below_all, by_order}
+use Rattle.egt_board.specs.Prelude.{where_key, is_sorted-where_key, find-where_key, ltb-true, ltb-false, lt-ltb, le-ltb}
+use Rattle.egt_board.specs.Prelude.{eq-eqb, false≢true, eqb_tells, Man, Placement, same_men, White, Black, king_of}
+use Rattle.egt_board.specs.Prelude.{corners, Inside, slots_of, Slot, listed, padded, placed, InOrder, AreOnBoard}
+use Rattle.egt_board.specs.Prelude.{AreKept, man_on, place, lesser, greater, first_half, second_half}
 use Rattle.std.specs.FinMap as map
-use Rattle.std.specs.FinMap.Entries.{below_all, by_order, where_key, is_sorted-where_key, find-where_key}
-use Rattle.std.proofs.lemmas.Bool.{ltb-true, ltb-false, lt-ltb, le-ltb, eq-eqb, false≢true}
-use Rattle.std.proofs.lemmas.Bool.Decides.{eqb_tells}
-use Rattle.egt_board.specs.declared.man.Man.{Man}
-use Rattle.egt_board.specs.Placement.{Placement, same_men}
-use Rattle.egt_board.specs.declared.man.Side.TheVariants.{White, Black}
-use Rattle.egt_board.specs.Attack.{king_of}
-use Rattle.egt_board.specs.Corners.{corners}
-use Rattle.egt_board.specs.declared.board.Board.TheInside.{Inside}
-use Rattle.egt_board.specs.Slots.{slots_of}
-use Rattle.egt_board.specs.Board.{Slot, listed, padded, placed, InOrder, AreOnBoard, AreKept, man_on, place, lesser, greater}
-use Rattle.egt_board.specs.Position.{first_half, second_half}
 use Rattle.egt_board.proofs.Placed.{find-here, find-later}
 
 -- these slots show these men, with as many of them empty as there are fewer men than slots

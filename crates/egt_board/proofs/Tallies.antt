@@ -1,23 +1,10 @@
 -- How many of each man stand on the board of a setup in a mirror.
-use Rattle.std.proofs.Common.{◌≡◌, ℕ, ◌+◌, ◌*◌, ◌<◌, Bool, cond, eqb, arith, Option, Some, None, refl, sym, ap, ◌∙◌, inl, inr}
-use Rattle.std.specs.Option.{option_map}
+use Rattle.egt_board.specs.Prelude.{◌≡◌, ℕ, ◌+◌, ◌*◌, ◌<◌, Bool, cond, eqb, arith, Option, Some, None, refl, sym, ap}
+use Rattle.egt_board.specs.Prelude.{◌∙◌, inl, inr, option_map, eq-eqb, eqb_tells, Mirror, Files, Ranks, Diagonal}
+use Rattle.egt_board.specs.Prelude.{Colours, Side, White, Black, Kind, Q, R, B, N, P, K, Man, other_side, Placement}
+use Rattle.egt_board.specs.Prelude.{total, square_by, man_by, kind_number, side_number, stands_here, count_of, men_by}
 use Rattle.std.specs.FinMap as map
-use Rattle.std.proofs.lemmas.Bool.{eq-eqb}
-use Rattle.std.proofs.lemmas.Bool.Decides.{eqb_tells}
-use Rattle.egt_board.specs.declared.mirror.Mirror.{Mirror}
-use Rattle.egt_board.specs.declared.mirror.Mirror.TheVariants.{Files, Ranks, Diagonal, Colours}
-use Rattle.egt_board.specs.declared.man.Side.{Side}
-use Rattle.egt_board.specs.declared.man.Side.TheVariants.{White, Black}
-use Rattle.egt_board.specs.declared.man.Kind.{Kind}
-use Rattle.egt_board.specs.declared.man.Kind.TheVariants.{Q, R, B, N, P, K}
-use Rattle.egt_board.specs.declared.man.Man.{Man}
-use Rattle.egt_board.specs.Man.{other_side}
-use Rattle.egt_board.specs.Placement.{Placement}
-use Rattle.egt_board.specs.SquareSet.{total}
-use Rattle.egt_board.specs.Mirror.{square_by, man_by}
-use Rattle.egt_board.specs.Images.{kind_number, side_number, stands_here, count_of}
 use Rattle.egt_board.proofs.Sizes.{total-same}
-use Rattle.egt_board.specs.Turned.{men_by}
 use Rattle.egt_board.proofs.Reflected.{men_by-shows}
 
 -- a total over the board may be taken in a mirror

@@ -1,10 +1,5 @@
 -- Kings attack each other or neither does.
-use Rattle.std.proofs.Common.{ℕ, ◌<◌, arith, sym, subst, inl, inr}
-use Rattle.egt_board.specs.declared.man.Side.{Side}
-use Rattle.egt_board.specs.declared.step.Step.{Step}
-use Rattle.egt_board.specs.Attack.{king_of}
-use Rattle.egt_board.specs.AttackLines.{Rides, Reaches}
-use Rattle.egt_board.specs.Step.{Away}
+use Rattle.egt_board.specs.Prelude.{ℕ, ◌<◌, arith, sym, subst, inl, inr, Side, Step, king_of, Rides, Reaches, Away}
 
 -- a king goes one step
 once : (F : ℕ → Type 0) (s t : ℕ) (d : Step) → Rides F 1 s t d → Away d 1 s t

@@ -1,16 +1,9 @@
 -- A turn as mirrors, one after another.
-use Rattle.std.proofs.Common.{◌≡◌, ℕ, ◌/◌, ◌%◌, ◌==◌, Bool, true, false, Option, Some, None, arith, refl, sym, subst, inl, inr}
-use Rattle.std.specs.Option.{option_map}
-use Rattle.std.proofs.lemmas.Bool.{eqb-true}
-use Rattle.egt_board.specs.declared.mirror.Mirror.{Mirror}
-use Rattle.egt_board.specs.declared.mirror.Mirror.TheVariants.{Files, Ranks, Diagonal, Colours}
-use Rattle.egt_board.specs.Pawn.{HasNoPawn}
-use Rattle.egt_board.specs.Setup.{Setup, IsAdmissible}
-use Rattle.egt_board.specs.Mirror.{Allows}
-use Rattle.egt_board.specs.MirrorLaws.{OnBoard, no_pawn_by}
-use Rattle.egt_board.specs.Mirrored.{AreMirroredIf, ComesByMirrors}
-use Rattle.egt_board.specs.Symmetry.{square_if, IsKeepingSides, KeepsPlay, IsCarried, IsImage}
-use Rattle.egt_board.specs.Turned.{IsTurnedBy, setup_if, turned_by}
+use Rattle.egt_board.specs.Prelude.{◌≡◌, ℕ, ◌/◌, ◌%◌, ◌==◌, Bool, true, false, Option, Some, None, arith, refl, sym}
+use Rattle.egt_board.specs.Prelude.{subst, inl, inr, option_map, eqb-true, Mirror, Files, Ranks, Diagonal, Colours}
+use Rattle.egt_board.specs.Prelude.{HasNoPawn, Setup, IsAdmissible, Allows, OnBoard, no_pawn_by, AreMirroredIf}
+use Rattle.egt_board.specs.Prelude.{ComesByMirrors, square_if, IsKeepingSides, KeepsPlay, IsCarried, IsImage}
+use Rattle.egt_board.specs.Prelude.{IsTurnedBy, setup_if, turned_by}
 use Rattle.egt_board.proofs.Reflected.{setup_by-is}
 use Rattle.egt_board.proofs.Images.{setup_by-kept, carried_of, carried_on, square_if-within}
 use Rattle.egt_board.proofs.Turns.{turned_made}

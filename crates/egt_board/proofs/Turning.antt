@@ -1,30 +1,16 @@
 -- A position in a mirror.
-use Rattle.std.proofs.Common.{◌≡◌, ◌≢◌, ℕ, ◌+◌, ◌<◌, ◌≤◌, ◌↔◌, Bool, true, false, cond, Option, Some, None, arith, refl, sym, ap, ◌∙◌, subst, inl, inr}
-use Rattle.std.specs.Int.{bit_at}
-use Rattle.std.specs.Option.{option_map, is_some}
-use Rattle.std.specs.Ordering.{nat_cmp}
-use Rattle.std.specs.Cmp.{nat_cmp_total}
+use Rattle.egt_board.specs.Prelude.{◌≡◌, ◌≢◌, ℕ, ◌+◌, ◌<◌, ◌≤◌, ◌↔◌, Bool, true, false, cond, Option, Some, None, arith}
+use Rattle.egt_board.specs.Prelude.{refl, sym, ap, ◌∙◌, subst, inl, inr, bit_at, option_map, is_some, nat_cmp}
+use Rattle.egt_board.specs.Prelude.{nat_cmp_total, cases_eq, Mirror, Files, Ranks, Diagonal, Colours, Side, White}
+use Rattle.egt_board.specs.Prelude.{Black, Kind, P, K, Man, SquareSet, other_side, Placement, Stands, IsFree}
+use Rattle.egt_board.specs.Prelude.{get-insert_same, get-insert_other, Has, size_of, king_of, IsAttacked, Setup}
+use Rattle.egt_board.specs.Prelude.{IsAdmissible, IsKingOn, HasKings, square_by, side_by, man_by, Allows, rank_of}
+use Rattle.egt_board.specs.Prelude.{pawn_of, ahead, PawnsFit, target_rank, IsTarget, FitsTarget, ahead_by}
+use Rattle.egt_board.specs.Prelude.{target_between, Suits, suits_of, square_by-within, square_by-twice, ShowsMen}
+use Rattle.egt_board.specs.Prelude.{OnBoard, stands_back, attacked_back, side_by-turned, side_by-turned_twice}
+use Rattle.egt_board.specs.Prelude.{man_by-twice}
 use Rattle.std.specs.FinMap as map
-use Rattle.std.proofs.lemmas.Bool.{cases_eq}
-use Rattle.egt_board.specs.declared.mirror.Mirror.{Mirror}
-use Rattle.egt_board.specs.declared.mirror.Mirror.TheVariants.{Files, Ranks, Diagonal, Colours}
-use Rattle.egt_board.specs.declared.man.Side.{Side}
-use Rattle.egt_board.specs.declared.man.Side.TheVariants.{White, Black}
-use Rattle.egt_board.specs.declared.man.Kind.{Kind}
-use Rattle.egt_board.specs.declared.man.Kind.TheVariants.{P, K}
-use Rattle.egt_board.specs.declared.man.Man.{Man}
-use Rattle.egt_board.specs.declared.square_set.SquareSet.{SquareSet}
-use Rattle.egt_board.specs.Man.{other_side}
-use Rattle.egt_board.specs.Placement.{Placement, Stands, IsFree, get-insert_same, get-insert_other}
-use Rattle.egt_board.specs.SquareSet.{Has, size_of}
-use Rattle.egt_board.specs.Attack.{king_of, IsAttacked}
-use Rattle.egt_board.specs.Setup.{Setup, IsAdmissible, IsKingOn, HasKings}
-use Rattle.egt_board.specs.Mirror.{square_by, side_by, man_by, Allows}
-use Rattle.egt_board.specs.Square.{rank_of}
-use Rattle.egt_board.specs.Pawn.{pawn_of, ahead, PawnsFit}
-use Rattle.egt_board.specs.Target.{target_rank, IsTarget, FitsTarget}
 use Rattle.egt_board.proofs.Bits.{not_both}
-use Rattle.egt_board.specs.MirrorLaws.{ahead_by, target_between, Suits, suits_of, square_by-within, square_by-twice, ShowsMen, OnBoard, stands_back, attacked_back, side_by-turned, side_by-turned_twice, man_by-twice}
 
 -- the men on squares that are no longer left stand in the mirror
 pub record Turns (m : Mirror) (men board : Placement) (rest : SquareSet) : Type 0 where

@@ -34,3 +34,4 @@ pub mod Counting
 pub mod Corners
 pub mod NonKings
 pub mod AllMen
+pub mod Prelude

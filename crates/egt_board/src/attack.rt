@@ -1,13 +1,7 @@
 //! What the men on a board attack: FIDE Laws of Chess 2023, articles 3.1.3 and 3.9.
-ghost use Rattle.std.specs.Prelude.{◌≡◌, ℕ, ◌≤◌, ◌↔◌, IsTrue};
+ghost use Rattle.egt_board.specs.Prelude.{◌≡◌, ℕ, ◌≤◌, ◌↔◌, IsTrue, bit_at, IsAttacked, IsInCheck, AttacksFrom};
+ghost use Rattle.egt_board.specs.Prelude.{IsOccupied, Reaches, IsFree, IsKingOn, Has, size_of, most_reached};
 ghost use Rattle.std.specs.FinMap as map;
-ghost use Rattle.std.specs.Int.{bit_at};
-ghost use Rattle.egt_board.specs.Attack.{IsAttacked, IsInCheck, AttacksFrom};
-ghost use Rattle.egt_board.specs.Occupancy.{IsOccupied};
-ghost use Rattle.egt_board.specs.AttackLines.{Reaches};
-ghost use Rattle.egt_board.specs.Placement.{IsFree};
-ghost use Rattle.egt_board.specs.Setup.{IsKingOn};
-ghost use Rattle.egt_board.specs.SquareSet.{Has, size_of, most_reached};
 
 use crate::attack_lines;
 use crate::board::{Board, Slot};

@@ -1,10 +1,6 @@
 //! What a man attacks past the men on the board: FIDE Laws of Chess 2023, articles 3.2 to 3.8.
-ghost use Rattle.std.specs.Prelude.{◌≡◌, ℕ, ◌<◌, ◌≤◌, ◌↔◌, IsTrue};
-ghost use Rattle.std.specs.Int.{bit_at};
-ghost use Rattle.egt_board.specs.Between.{IsBetween};
-ghost use Rattle.egt_board.specs.AttackLines.{Reaches, Rides};
-ghost use Rattle.egt_board.specs.Safety.{Stops};
-ghost use Rattle.egt_board.specs.SquareSet.{Has, size_of, most_reached};
+ghost use Rattle.egt_board.specs.Prelude.{◌≡◌, ℕ, ◌<◌, ◌≤◌, ◌↔◌, IsTrue, bit_at, IsBetween, Reaches, Rides, Stops, Has};
+ghost use Rattle.egt_board.specs.Prelude.{size_of, most_reached};
 
 use crate::lookup::{behind, between, lone_reach};
 use crate::man::Man;

@@ -1,13 +1,7 @@
 //! How many of each man stand on a board. These functions do nothing: a caller calls one to know what it ensures.
-ghost use Rattle.std.specs.Prelude.{◌≡◌, ◌+◌, ◌<◌, ℕ, Some, count_by};
+ghost use Rattle.egt_board.specs.Prelude.{◌≡◌, ◌+◌, ◌<◌, ℕ, Some, count_by, Side, Man, Placement, Stands, king_of};
+ghost use Rattle.egt_board.specs.Prelude.{IsKingOn, count_of, stands_here, is_man};
 ghost use Rattle.std.specs.FinMap as placement;
-ghost use Rattle.egt_board.specs.declared.man.Side.{Side};
-ghost use Rattle.egt_board.specs.declared.man.Man.{Man};
-ghost use Rattle.egt_board.specs.Placement.{Placement, Stands};
-ghost use Rattle.egt_board.specs.Attack.{king_of};
-ghost use Rattle.egt_board.specs.Setup.{IsKingOn};
-ghost use Rattle.egt_board.specs.Images.{count_of, stands_here};
-ghost use Rattle.egt_board.specs.Counting.{is_man};
 
 /// The men on the board's squares are those of its list.
 pub fn listed_men_are_counted()

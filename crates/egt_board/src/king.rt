@@ -1,6 +1,5 @@
 //! Where the kings stand.
-ghost use Rattle.std.specs.Prelude.{◌≡◌, ℕ, IfSome, IfNone};
-ghost use Rattle.egt_board.specs.Setup.{IsKingOn};
+ghost use Rattle.egt_board.specs.Prelude.{◌≡◌, ℕ, IfSome, IfNone, IsKingOn};
 
 use crate::board::Board;
 use crate::man::{Kind, Man, Side};

@@ -1,14 +1,8 @@
 //! What holds of positions and their images. These functions do nothing: a caller calls one to know what it
 //! ensures.
-ghost use Rattle.std.specs.Prelude.{◌≡◌, ◌<◌, ◌↔◌, ◌⊎◌, ℕ, Bool};
-ghost use Rattle.egt_board.specs.Setup.{Setup, IsAdmissible};
-ghost use Rattle.egt_board.specs.Settled.{IsSettled, SettlesTo};
-ghost use Rattle.egt_board.specs.Images.{AreImages, Reflects, SameMen, ExchangedMen};
-ghost use Rattle.egt_board.specs.DecidedTurns.{IsTurn};
-ghost use Rattle.egt_board.specs.Mirrored.{ComesByMirrors};
-ghost use Rattle.egt_board.specs.DecidedSetup.{settled_form};
-ghost use Rattle.egt_board.specs.Symmetry.{KeepsPlay};
-ghost use Rattle.egt_board.specs.Turned.{IsTurnedBy, IsSetBy, turned_by};
+ghost use Rattle.egt_board.specs.Prelude.{◌≡◌, ◌<◌, ◌↔◌, ◌⊎◌, ℕ, Bool, Setup, IsAdmissible, IsSettled, SettlesTo};
+ghost use Rattle.egt_board.specs.Prelude.{AreImages, Reflects, SameMen, ExchangedMen, IsTurn, ComesByMirrors};
+ghost use Rattle.egt_board.specs.Prelude.{settled_form, KeepsPlay, IsTurnedBy, IsSetBy, turned_by};
 
 /// To be an image of one another is an equivalence of positions.
 pub fn images_form_classes()

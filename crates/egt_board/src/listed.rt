@@ -1,7 +1,5 @@
 //! A board from a list of men.
-ghost use Rattle.std.specs.Prelude.{◌≡◌, ℕ, ◌<◌, ◌↔◌, IsSome, IfSome};
-ghost use Rattle.egt_board.specs.Listed.{men_of, FitsBoard};
-ghost use Rattle.egt_board.specs.Placement.{Stands};
+ghost use Rattle.egt_board.specs.Prelude.{◌≡◌, ℕ, ◌<◌, ◌↔◌, IsSome, IfSome, men_of, FitsBoard, Stands};
 
 use crate::board::Board;
 use crate::man::Man;

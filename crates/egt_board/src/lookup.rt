@@ -1,10 +1,6 @@
 //! What men attack on the bare board, by a table, and the squares between squares.
-ghost use Rattle.std.specs.Prelude.{◌≡◌, ℕ, ◌+◌, ◌*◌, ◌<◌, ◌↔◌, slice_index};
-ghost use Rattle.std.specs.Int.{bit_at};
-ghost use Rattle.egt_board.specs.Between.{IsBetween};
-ghost use Rattle.egt_board.specs.AttackLines.{Reaches};
-ghost use Rattle.egt_board.specs.Lookup.{row_by, below, beyond, line_of};
-ghost use Rattle.egt_board.specs.SquareSet.{Has};
+ghost use Rattle.egt_board.specs.Prelude.{◌≡◌, ℕ, ◌+◌, ◌*◌, ◌<◌, ◌↔◌, slice_index, bit_at, IsBetween, Reaches, row_by};
+ghost use Rattle.egt_board.specs.Prelude.{below, beyond, line_of, Has};
 
 use crate::man::{Kind, Man, Side};
 use crate::square::Square;

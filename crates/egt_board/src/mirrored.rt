@@ -1,10 +1,7 @@
 //! Positions in a mirror.
-ghost use Rattle.std.specs.Prelude.{◌≡◌, ℕ, ◌<◌, ◌≤◌};
+ghost use Rattle.egt_board.specs.Prelude.{◌≡◌, ℕ, ◌<◌, ◌≤◌, option_map, IsMirrored, Allows, square_by, man_by, Stands};
+ghost use Rattle.egt_board.specs.Prelude.{Man};
 ghost use Rattle.std.specs.FinMap as map;
-ghost use Rattle.std.specs.Option.{option_map};
-ghost use Rattle.egt_board.specs.Mirror.{IsMirrored, Allows, square_by, man_by};
-ghost use Rattle.egt_board.specs.Placement.{Stands};
-ghost use Rattle.egt_board.specs.declared.man.Man.{Man};
 
 use crate::board::Board;
 use crate::mirror::Mirror;

@@ -1,8 +1,6 @@
 //! The men of a board beside the kings.
-ghost use Rattle.std.specs.Prelude.{◌≡◌, ◌≢◌, ℕ, IfSome, IfNone, if◌then◌else◌};
-ghost use Rattle.std.specs.Option.{option_map};
-ghost use Rattle.egt_board.specs.NonKings.{AreBeside, holds_king, without_king};
-ghost use Rattle.egt_board.specs.Setup.{HasKings};
+ghost use Rattle.egt_board.specs.Prelude.{◌≡◌, ◌≢◌, ℕ, IfSome, IfNone, if◌then◌else◌, option_map, AreBeside};
+ghost use Rattle.egt_board.specs.Prelude.{holds_king, without_king, HasKings};
 
 use crate::board::{Board, Slot};
 use crate::man::{Kind, Man};

@@ -1,8 +1,5 @@
 //! The squares of either side's men.
-ghost use Rattle.std.specs.Prelude.{◌≡◌, ◌≤◌, ℕ};
-ghost use Rattle.egt_board.specs.Occupancy.{IsOccupancy, IsOccupied};
-ghost use Rattle.egt_board.specs.Setup.{Setup, IsAdmissible};
-ghost use Rattle.egt_board.specs.SquareSet.{size_of};
+ghost use Rattle.egt_board.specs.Prelude.{◌≡◌, ◌≤◌, ℕ, IsOccupancy, IsOccupied, Setup, IsAdmissible, size_of};
 
 use crate::position::Position;
 use crate::square_set::SquareSet;

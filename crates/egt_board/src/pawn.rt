@@ -1,9 +1,7 @@
 //! How pawns stand and advance: FIDE Laws of Chess 2023, article 3.7.
-ghost use Rattle.std.specs.Prelude.{◌≡◌, ℕ, ◌<◌, ◌≤◌, ◌↔◌, IsTrue};
-ghost use Rattle.egt_board.specs.Pawn.{pawn_of, facing, forward, ahead, home_rank, last_rank, farthest_advance, Advances, IsBeside, MayStand, PawnsFit, HasPawnBeside};
-ghost use Rattle.egt_board.specs.Placement.{IsFree};
-ghost use Rattle.egt_board.specs.Square.{rank_of};
-ghost use Rattle.egt_board.specs.SquareSet.{Has, size_of};
+ghost use Rattle.egt_board.specs.Prelude.{◌≡◌, ℕ, ◌<◌, ◌≤◌, ◌↔◌, IsTrue, pawn_of, facing, forward, ahead, home_rank};
+ghost use Rattle.egt_board.specs.Prelude.{last_rank, farthest_advance, Advances, IsBeside, MayStand, PawnsFit};
+ghost use Rattle.egt_board.specs.Prelude.{HasPawnBeside, IsFree, rank_of, Has, size_of};
 
 use crate::attack_lines;
 use crate::board::Board;

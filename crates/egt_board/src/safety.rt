@@ -1,16 +1,9 @@
 //! Which squares a side attacks, and where a man shields another from attacks: FIDE Laws of Chess 2023, articles
 //! 3.1.3 and 3.9.
-ghost use Rattle.std.specs.Prelude.{◌≡◌, ◌≢◌, ℕ, ◌<◌, ◌↔◌};
+ghost use Rattle.egt_board.specs.Prelude.{◌≡◌, ◌≢◌, ℕ, ◌<◌, ◌↔◌, bit_at, IsAttacked, AttacksFrom, king_of, IsOccupied};
+ghost use Rattle.egt_board.specs.Prelude.{Reaches, Placement, Stands, IsFree, IsKeptFrom, IsSeenAs, StopsSlot, Has};
+ghost use Rattle.egt_board.specs.Prelude.{Man, Side};
 ghost use Rattle.std.specs.FinMap as map;
-ghost use Rattle.std.specs.Int.{bit_at};
-ghost use Rattle.egt_board.specs.Attack.{IsAttacked, AttacksFrom, king_of};
-ghost use Rattle.egt_board.specs.Occupancy.{IsOccupied};
-ghost use Rattle.egt_board.specs.AttackLines.{Reaches};
-ghost use Rattle.egt_board.specs.Placement.{Placement, Stands, IsFree};
-ghost use Rattle.egt_board.specs.Safety.{IsKeptFrom, IsSeenAs, StopsSlot};
-ghost use Rattle.egt_board.specs.SquareSet.{Has};
-ghost use Rattle.egt_board.specs.declared.man.Man.{Man};
-ghost use Rattle.egt_board.specs.declared.man.Side.{Side};
 
 use crate::attack_lines;
 use crate::board::{Board, Slot};

@@ -1,6 +1,5 @@
 //! Steps from square to square: so many files and so many ranks further.
-ghost use Rattle.std.specs.Prelude.{◌≡◌, ℕ, ◌<◌, ◌≤◌, IfSome, IfNone};
-ghost use Rattle.egt_board.specs.Coordinate.{Further};
+ghost use Rattle.egt_board.specs.Prelude.{◌≡◌, ℕ, ◌<◌, ◌≤◌, IfSome, IfNone, Further};
 
 use crate::square::Square;
 

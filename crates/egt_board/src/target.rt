@@ -1,6 +1,5 @@
 //! En passant targets: FIDE Laws of Chess 2023, article 3.7.3.
-ghost use Rattle.std.specs.Prelude.{◌≡◌, ◌↔◌, IsTrue};
-ghost use Rattle.egt_board.specs.Target.{target_rank, IsTarget};
+ghost use Rattle.egt_board.specs.Prelude.{◌≡◌, ◌↔◌, IsTrue, target_rank, IsTarget};
 
 use crate::board::Board;
 use crate::man::Side;

@@ -1,5 +1,5 @@
 -- What is left of an open handle while its owner is lent. Assumes `Logic`.
-use Rattle.std.proofs.Common.{◌≡◌, ℕ, List, [], ◌∷◌, refl, sym}
+use Rattle.egt_c.specs.Prelude.{◌≡◌, ℕ, List, [], ◌∷◌, refl, sym, ghosts, with_library, owned, heap, EgtbLibrary}
 use mathlib.Core.Bool.{Bool, true}
 use seplogic.Ra.Ura.{Ura}
 use base.Fraction.{full_share}
@@ -11,10 +11,6 @@ use types.Logic.{Logic, sem}
 use types.Kit.{‵, ◌$◌, ◌∵◌, !, qed, done, move, use1, fsplit, fjoin, fpack, rewrite}
 use denote.Memory.{mem, cell_at, part_at, part_of, lone}
 use denote.RawPtr.{Ptr, block_ptr, ptr_val}
-use Rattle.std.specs.contracts.impls.GlobalAllocator.TheImpl.{ghosts}
-use Rattle.egt_c.specs.Lent.{with_library}
-use Rattle.egt_c.specs.Owned.{owned, heap}
-use Rattle.egt_c.specs.declared.handle.EgtbLibrary.{EgtbLibrary}
 use Rattle.egt_c.proofs.Values.{both}
 use Rattle.egt_c.proofs.Opened.{R, Handle, handle_in}
 

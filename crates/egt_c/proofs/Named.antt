@@ -1,8 +1,6 @@
 -- Men that are named one after another.
-use Rattle.std.proofs.Common.{◌≡◌, ℕ, zero, suc, ◌<◌, List, [], ◌∷◌, ◌++◌, length, take, get_or, Option, Some, None, IfSome, refl, sym, ap, ◌∙◌, subst, arith}
-use Rattle.egt_board.specs.declared.man.Man.{Man}
-use Rattle.egt_c.specs.declared.men.EgtbMan.{EgtbMan}
-use Rattle.egt_c.specs.Men.{man_of, men_of, joined}
+use Rattle.egt_c.specs.Prelude.{◌≡◌, ℕ, zero, suc, ◌<◌, List, [], ◌∷◌, ◌++◌, length, take, get_or, Option, Some, None}
+use Rattle.egt_c.specs.Prelude.{IfSome, refl, sym, ap, ◌∙◌, subst, arith, Man, EgtbMan, man_of, men_of, joined}
 
 abbrev unwrapped : Option (List (Man × ℕ)) → List (Man × ℕ)
 unwrapped None = []

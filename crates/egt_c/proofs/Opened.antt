@@ -1,7 +1,7 @@
 -- The machine values of a handle. Assumes `Logic`.
 --     handle_out, handle_in     a handle is what it owns
 --     either                    it is closed, or owns a box
-use Rattle.std.proofs.Common.{◌≡◌, ℕ, List, [], ◌∷◌, ◌++◌, refl, subst, lit<}
+use Rattle.egt_c.specs.Prelude.{◌≡◌, ℕ, List, [], ◌∷◌, ◌++◌, refl, subst, lit<, Al, Good, ghosts, shared_row, owned}
 use mathlib.Core.Bool.{Bool, true, false}
 use seplogic.Ra.Ura.{Ura}
 use lib.Dec.{T}
@@ -19,14 +19,9 @@ use denote.Steps.{nothing}
 use denote.Param.{layout}
 use denote.Struct.Struct.{within}
 use denote.Struct.Owning.{shape}
-use Rattle.std.proofs.alloc.Calls.{Al}
-use Rattle.std.proofs.cell.Inside.{Good}
 use Rattle.std.specs.contracts.alloc.Global as heap
 use Rattle.std.proofs.alloc.Global.TheLaws as heap_laws
-use Rattle.std.specs.contracts.impls.GlobalAllocator.TheImpl.{ghosts}
-use Rattle.egt_c.specs.Shared.{shared_row}
 use Rattle.egt_c.specs.contracts.handle.EgtbLibrary as handle
-use Rattle.egt_c.specs.Owned.{owned}
 use Rattle.egt_c.proofs.Values.{both, Loose}
 
 abbrev pub R : RattleType

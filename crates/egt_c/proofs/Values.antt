@@ -1,6 +1,7 @@
 -- The machine values of a `Loose`. Assumes `Logic`.
 --     loose_out, loose_in     it is the box that it owns and its handle of the heap
-use Rattle.std.proofs.Common.{◌≡◌, ℕ, List, [], ◌∷◌, ◌++◌, refl, subst}
+use Rattle.egt_c.specs.Prelude.{◌≡◌, ℕ, List, [], ◌∷◌, ◌++◌, refl, subst, Ghosts, Al, handle_tells, Good, box_owns}
+use Rattle.egt_c.specs.Prelude.{and_tt}
 use mathlib.Core.Bool.{true, ◌&&◌}
 use lib.Dec.{T}
 use seplogic.Ra.Ura.{Ura}
@@ -19,11 +20,6 @@ use denote.Param.{layout}
 use denote.Param.Laws.{Laws}
 use denote.Struct.Struct.{within}
 use denote.Struct.Owning.{shape}
-use Rattle.std.specs.declared.alloc.Allocator.{Ghosts}
-use Rattle.std.proofs.alloc.Calls.{Al, handle_tells}
-use Rattle.std.proofs.cell.Inside.{Good}
-use Rattle.std.specs.Box.Ownership.{box_owns}
-use Rattle.std.proofs.ResultValues.{and_tt}
 use Rattle.egt_c.specs.contracts.loose.Loose as loose
 
 abbrev pub both : Val → Val → Val

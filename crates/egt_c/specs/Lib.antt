@@ -10,3 +10,4 @@ pub mod RootMoves
 pub mod Men
 pub mod Names
 pub mod Calls
+pub mod Prelude

@@ -1,8 +1,5 @@
 //! Classes by number.
-ghost use Rattle.std.specs.Prelude.{◌≡◌, ◌≢◌, ◌<◌, ◌≤◌, ◌↔◌, ℕ, take, IsTrue};
-ghost use Rattle.egt_class.specs.Children.{children_of};
-ghost use Rattle.egt_class.specs.Name.{name_of};
-ghost use Rattle.egt_c.specs.Move.{padded_name};
+ghost use Rattle.egt_c.specs.Prelude.{◌≡◌, ◌≢◌, ◌<◌, ◌≤◌, ◌↔◌, ℕ, take, IsTrue, children_of, name_of, padded_name};
 
 use egt_class::{Class, children, name};
 

@@ -1,6 +1,5 @@
 //! Faults, as C reads them.
-ghost use Rattle.std.specs.Prelude.{◌≡◌};
-ghost use Rattle.egt_c.specs.Places.{column_place, rule_place};
+ghost use Rattle.egt_c.specs.Prelude.{◌≡◌, column_place, rule_place};
 
 use egt_board::PosFault;
 use egt_check::{Reject, Rule};

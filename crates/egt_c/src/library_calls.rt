@@ -1,10 +1,6 @@
 //! A library is made, filled, asked for its classes, and goes.
-ghost use Rattle.std.specs.Prelude.{◌≡◌, ◌<◌, ◌≤◌, None, IfSome, IfNone};
-ghost use Rattle.std.specs.Arc.{arc_value};
-ghost use Rattle.egt_probe.specs.Shelves.{loaded_in};
-ghost use Rattle.egt_c.specs.Calls.{Opens, Shares, Adds, level};
-ghost use Rattle.egt_c.specs.Fault.{closed};
-ghost use Rattle.egt_c.specs.Held.{held};
+ghost use Rattle.egt_c.specs.Prelude.{◌≡◌, ◌<◌, ◌≤◌, None, IfSome, IfNone, arc_value, loaded_in, Opens, Shares, Adds};
+ghost use Rattle.egt_c.specs.Prelude.{level, closed, held};
 
 use crate::fault::EgtbFault;
 use crate::handle::{EgtbLibrary, Owner};

@@ -1,6 +1,5 @@
 //! Moves as texts that C reads.
-ghost use Rattle.std.specs.Prelude.{◌≡◌, ◌≤◌, length, map, take};
-ghost use Rattle.egt_c.specs.Move.{written, written_or_none, zeros};
+ghost use Rattle.egt_c.specs.Prelude.{◌≡◌, ◌≤◌, length, map, take, written, written_or_none, zeros};
 
 use egt_moves::Move;
 

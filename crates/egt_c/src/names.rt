@@ -1,16 +1,11 @@
 //! The names of faults, and the version.
-ghost use Rattle.std.specs.Prelude.{◌≡◌, ◌≤◌, length};
+ghost use Rattle.egt_c.specs.Prelude.{◌≡◌, ◌≤◌, length, PosFault, Reject, FenFault, FileFault, Device, fen_name};
+ghost use Rattle.egt_c.specs.Prelude.{file_name, check_name, probe_name, call_name, fault_name, padded_fault};
+ghost use Rattle.egt_c.specs.Prelude.{version_text};
 ghost use Rattle.egt_board.specs.Fault as setups;
-ghost use Rattle.egt_board.specs.declared.fault.PosFault.{PosFault};
 ghost use Rattle.egt_entries.specs.Names as checks;
-ghost use Rattle.egt_entries.specs.declared.reject.Reject.{Reject};
 ghost use Rattle.egt_fen.specs.Fault as fens;
-ghost use Rattle.egt_fen.specs.declared.fault.FenFault.{FenFault};
 ghost use Rattle.egt_table.specs.Fault as files;
-ghost use Rattle.egt_table.specs.declared.fault.FileFault.{FileFault};
-ghost use Rattle.egt_table.specs.declared.fault.FileFault.TheVariants.{Device};
-ghost use Rattle.egt_c.specs.Names.{fen_name, file_name, check_name, probe_name};
-ghost use Rattle.egt_c.specs.Names.{call_name, fault_name, padded_fault, version_text};
 
 use crate::fault::EgtbFault;
 

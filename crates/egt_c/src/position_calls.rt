@@ -1,10 +1,6 @@
 //! What is asked of positions, each given by its FEN or by its men.
-ghost use Rattle.std.specs.Prelude.{◌≡◌, IfSome, IfNone, IfOk, IfErr};
-ghost use Rattle.egt_probe.specs.Shelves.{loaded_in};
-ghost use Rattle.egt_c.specs.Calls.{IsOfText, IsTextFault, OfText, OfMen};
-ghost use Rattle.egt_c.specs.Calls.{TellsVerdict, TellsMove, TellsRoot, TellsMoves};
-ghost use Rattle.egt_c.specs.Fault.{closed};
-ghost use Rattle.egt_c.specs.Held.{held};
+ghost use Rattle.egt_c.specs.Prelude.{◌≡◌, IfSome, IfNone, IfOk, IfErr, loaded_in, IsOfText, IsTextFault, OfText};
+ghost use Rattle.egt_c.specs.Prelude.{OfMen, TellsVerdict, TellsMove, TellsRoot, TellsMoves, closed, held};
 
 use crate::fault::EgtbFault;
 use crate::handle::EgtbLibrary;

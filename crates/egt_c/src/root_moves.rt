@@ -1,6 +1,5 @@
 //! Moves with what they lead to, as C reads them.
-ghost use Rattle.std.specs.Prelude.{◌≡◌, ◌≤◌, length, map, take};
-ghost use Rattle.egt_c.specs.RootMoves.{shown_root};
+ghost use Rattle.egt_c.specs.Prelude.{◌≡◌, ◌≤◌, length, map, take, shown_root};
 
 use crate::moves::EgtbMove;
 use crate::verdict::EgtbAnswer;

@@ -1,16 +1,6 @@
 -- A position, its images and the position that its index spells play alike, and have one entry.
-use Rattle.std.proofs.Common.{◌≡◌, ℕ, ◌<◌, ◌↔◌, Bool, sym, subst}
-use Rattle.egt_board.specs.Images.{AreImages}
-use Rattle.egt_board.specs.Settled.{SettlesTo}
-use Rattle.egt_board.specs.Setup.{Setup, IsAdmissible}
-use Rattle.egt_class.specs.Membership.{IsOf}
-use Rattle.egt_index.specs.Code.{Spells}
-use Rattle.egt_index.specs.Index.{IsIndex}
-use Rattle.egt_moves.specs.Arena.{Value}
-use Rattle.egt_entries.specs.declared.metric.Metric.{Metric}
-use Rattle.egt_check.specs.Alike.{StepAlike}
-use Rattle.egt_steps.specs.Facts.{Facts}
-use Rattle.egt_entries.specs.Tables.{Tables, ShowsOf}
+use Rattle.egt_check.specs.Prelude.{◌≡◌, ℕ, ◌<◌, ◌↔◌, Bool, sym, subst, AreImages, SettlesTo, Setup, IsAdmissible, IsOf}
+use Rattle.egt_check.specs.Prelude.{Spells, IsIndex, Value, Metric, StepAlike, Facts, Tables, ShowsOf}
 
 module _ (facts : Facts) where
   -- an image of its settled form plays like a position

@@ -1,30 +1,9 @@
 -- Entries that are due to the greatest scores of all moves keep the rules.
-use Rattle.std.proofs.Common.{◌≡◌, ◌≢◌, ℕ, ◌%◌, ◌<◌, ◌⊎◌, Bool, false, None, arith, sym, ap, ◌∙◌, inl, inr}
-use Rattle.std.proofs.lemmas.Bool.{cases_eq}
-use Rattle.egt_board.specs.Settled.{IsSettled}
-use Rattle.egt_board.specs.Setup.{Setup, IsAdmissible}
-use Rattle.egt_board.specs.declared.man.Side.{Side}
-use Rattle.egt_index.specs.Code.{Spells}
-use Rattle.egt_index.specs.Index.{IsIndex, IsVoid}
-use Rattle.egt_index.specs.Size.{size_of}
-use Rattle.egt_index.specs.TellsMen.{TellsMen}
-use Rattle.egt_index.specs.Stood.{HasStand}
-use Rattle.egt_index.specs.declared.shelf_codes.ShelfMen.{ShelfMen}
-use Rattle.egt_lanes.specs.Scores.{byte_score, due_score}
-use Rattle.egt_moves.specs.Arena.{NoMove}
-use Rattle.egt_moves.specs.Chess.{chess}
-use Rattle.egt_table.specs.Table.{TableValue}
-use Rattle.egt_entries.specs.declared.metric.Metric.{Metric}
-use Rattle.egt_entries.specs.declared.metric.Metric.TheVariants.{Mate, Zeroing}
-use Rattle.egt_steps.specs.Stands.{stand_on}
-use Rattle.egt_check.specs.Given.{AreAlike, AreGiven}
-use Rattle.egt_check.specs.MoveScores.{AreAllScores, AreTablesOf}
-use Rattle.egt_check.specs.RightRow.{IsRightAt}
-use Rattle.egt_entries.specs.Rules.{IsJudged}
-use Rattle.egt_entries.specs.Score.{IsAtEnd}
-use Rattle.egt_entries.specs.Tables.{Tables, entry_at}
-use Rattle.egt_check.specs.Worth.{score_at}
-use Rattle.egt_check.specs.declared.move_scores.FourMen.{FourMen}
+use Rattle.egt_check.specs.Prelude.{◌≡◌, ◌≢◌, ℕ, ◌%◌, ◌<◌, ◌⊎◌, Bool, false, None, arith, sym, ap, ◌∙◌, inl, inr}
+use Rattle.egt_check.specs.Prelude.{cases_eq, IsSettled, Setup, IsAdmissible, Side, Spells, IsIndex, IsVoid, size_of}
+use Rattle.egt_check.specs.Prelude.{TellsMen, HasStand, ShelfMen, byte_score, due_score, NoMove, chess, TableValue}
+use Rattle.egt_check.specs.Prelude.{Metric, Mate, Zeroing, stand_on, AreAlike, AreGiven, AreAllScores, AreTablesOf}
+use Rattle.egt_check.specs.Prelude.{IsRightAt, IsJudged, IsAtEnd, Tables, entry_at, score_at, FourMen}
 use Rattle.egt_check.proofs.FirstRule.{void_judged}
 use Rattle.egt_check.proofs.QuietGiven.{low_score}
 

@@ -1,8 +1,7 @@
 -- What true tables of the children tell column by column.
-use Rattle.std.proofs.Common.{ℕ, IsSome, IfSome, Option, subst}
-use Rattle.egt_table.specs.Table.{TableValue}
-use Rattle.egt_entries.specs.Tables.{Tables, HasReachChildren}
-use Rattle.egt_entries.specs.Truth.{HasTrueChildren, HasTrueReachesBelow, HasTrueValues, HasTrueValuesBelow, IsTrueTable}
+use Rattle.egt_check.specs.Prelude.{ℕ, IsSome, IfSome, Option, subst, TableValue, Tables, HasReachChildren}
+use Rattle.egt_check.specs.Prelude.{HasTrueChildren, HasTrueReachesBelow, HasTrueValues, HasTrueValuesBelow}
+use Rattle.egt_check.specs.Prelude.{IsTrueTable}
 
 pub true_values : (t : TableValue) → IsTrueTable t → HasTrueValues t
 true_values t truth = record { void = truth.void; true = truth.true }

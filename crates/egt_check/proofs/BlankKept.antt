@@ -1,17 +1,7 @@
 -- Entries without scores: no position has their code, so they are right.
-use Rattle.std.proofs.Common.{◌≡◌, ℕ, ◌⊎◌, ◌∙◌, None, arith, inl, inr, refl, sym}
-use Rattle.egt_board.specs.Setup.{Setup}
-use Rattle.egt_index.specs.Code.{Spells}
-use Rattle.egt_index.specs.Index.{IsIndex, IsVoid}
-use Rattle.egt_table.specs.Table.{IsTable, TableValue}
-use Rattle.egt_entries.specs.declared.metric.Metric.TheVariants.{Mate}
-use Rattle.egt_check.specs.declared.part.Part.{Part}
-use Rattle.egt_check.specs.declared.part.Part.TheVariants.{Values, Reach}
-use Rattle.egt_check.specs.Blank.{IsBlank}
-use Rattle.egt_check.specs.Parts.{column_of, table_in}
-use Rattle.egt_check.specs.RightBlock.{KeepsPart}
-use Rattle.egt_entries.specs.Tables.{Tables, entry_at}
-use Rattle.egt_check.specs.Worth.{HasBytes, column_score, score_at}
+use Rattle.egt_check.specs.Prelude.{◌≡◌, ℕ, ◌⊎◌, ◌∙◌, None, arith, inl, inr, refl, sym, Setup, Spells, IsIndex, IsVoid}
+use Rattle.egt_check.specs.Prelude.{IsTable, TableValue, Mate, Part, Values, Reach, IsBlank, column_of, table_in}
+use Rattle.egt_check.specs.Prelude.{KeepsPart, Tables, entry_at, HasBytes, column_score, score_at}
 use Rattle.egt_check.proofs.AllJudged.{some_score}
 use Rattle.egt_check.proofs.FirstRule.{void_judged}
 use Rattle.egt_check.proofs.NearJudged.{void_kept}

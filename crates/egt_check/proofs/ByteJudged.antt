@@ -1,30 +1,14 @@
 -- Entries whose bytes are due to the greatest bytes of the moves are right.
-use Rattle.std.proofs.Common.{◌≡◌, ◌≢◌, ◌⊎◌, ℕ, ◌+◌, ◌-◌, ◌*◌, ◌/◌, ◌%◌, ◌<◌, ◌≤◌, Bool, true, false, cond, eqb, max, Option, Some, None, IfSome, arith, refl, sym, ap, ◌∙◌, inl, inr, subst}
-use Rattle.std.proofs.lemmas.Bool.{cases_eq, cases_lt, cond_above, cond_below, eq-eqb}
-use Rattle.std.proofs.lemmas.Bool.Decides.{eqb_tells}
-use Rattle.egt_board.specs.Setup.{Setup, IsAdmissible}
-use Rattle.egt_lanes.specs.Scores.{byte_score, due_score, zeroing_score}
-use Rattle.egt_moves.specs.Arena.{Value, NoMove}
-use Rattle.egt_moves.specs.Chess.{chess}
-use Rattle.egt_moves.specs.Legal.{Leads}
-use Rattle.egt_moves.specs.declared.chess_move.Move.{Move}
-use Rattle.egt_entries.specs.declared.metric.Metric.{Metric}
-use Rattle.egt_entries.specs.declared.metric.Metric.TheVariants.{Mate, Zeroing}
-use Rattle.egt_entries.specs.declared.by_metric.ByMetric.{ByMetric}
-use Rattle.egt_entries.specs.declared.outcome.Outcome.{Outcome}
+use Rattle.egt_check.specs.Prelude.{◌≡◌, ◌≢◌, ◌⊎◌, ℕ, ◌+◌, ◌-◌, ◌*◌, ◌/◌, ◌%◌, ◌<◌, ◌≤◌, Bool, true, false, cond, eqb}
+use Rattle.egt_check.specs.Prelude.{max, Option, Some, None, IfSome, arith, refl, sym, ap, ◌∙◌, inl, inr, subst}
+use Rattle.egt_check.specs.Prelude.{cases_eq, cases_lt, cond_above, cond_below, eq-eqb, eqb_tells, Setup, IsAdmissible}
+use Rattle.egt_check.specs.Prelude.{byte_score, due_score, zeroing_score, Value, NoMove, chess, Leads, Move, Metric}
+use Rattle.egt_check.specs.Prelude.{Mate, Zeroing, ByMetric, Outcome, Shows, Facts, AreAlike, AreGiven, HasScores}
+use Rattle.egt_check.specs.Prelude.{IsGiven, IsKnown, IsZeroingScore, IsCompared, IsJudged, IsAtEnd, IsBest, IsDue}
+use Rattle.egt_check.specs.Prelude.{IsCounted, IsShownBy, Scores, entry_before, number_at, score_of, value_of}
+use Rattle.egt_check.specs.Prelude.{zeroing_said, Tables, HasEntry, ShowsOf, entry_at, Spells, IsVoid, SameKind}
+use Rattle.egt_check.specs.Prelude.{TableValue, ComesOf, at_end_due, both_due}
 use Rattle.egt_entries.specs.declared.outcome.Outcome.TheVariants as outcomes
-use Rattle.egt_entries.specs.Entry.{Shows}
-use Rattle.egt_steps.specs.Facts.{Facts}
-use Rattle.egt_check.specs.Given.{AreAlike, AreGiven, HasScores, IsGiven, IsKnown, IsZeroingScore}
-use Rattle.egt_entries.specs.Judged.{IsCompared}
-use Rattle.egt_entries.specs.Rules.{IsJudged}
-use Rattle.egt_entries.specs.Score.{IsAtEnd, IsBest, IsDue, IsCounted, IsShownBy, Scores, entry_before, number_at, score_of, value_of, zeroing_said}
-use Rattle.egt_entries.specs.Tables.{Tables, HasEntry, ShowsOf, entry_at}
-use Rattle.egt_index.specs.Code.{Spells}
-use Rattle.egt_index.specs.Index.{IsVoid}
-use Rattle.egt_moves.specs.Entries.{SameKind}
-use Rattle.egt_table.specs.Table.{TableValue}
-use Rattle.egt_entries.proofs.Due.{ComesOf, at_end_due, both_due}
 use Rattle.egt_entries.proofs.Scoring.{told}
 use Rattle.egt_check.proofs.ShelfJudged.{right_judged}
 use Rattle.egt_check.proofs.Showing.{one_after, shows_once}

@@ -1,13 +1,6 @@
 -- The greatest bytes of moves of two kinds are those of all of them.
-use Rattle.std.proofs.Common.{◌≡◌, ℕ, ◌⊎◌, max, arith, inl, inr, subst}
-use Rattle.std.proofs.lemmas.Bool.{cases_lt}
-use Rattle.egt_board.specs.Setup.{Setup}
-use Rattle.egt_moves.specs.Chess.{Zeroes}
-use Rattle.egt_moves.specs.DecidedMoves.{decided_zeroes}
-use Rattle.egt_moves.specs.Legal.{Leads}
-use Rattle.egt_moves.specs.declared.chess_move.Move.{Move}
-use Rattle.egt_check.specs.Given.{AreGiven, IsGiven}
-use Rattle.egt_entries.specs.Tables.{Tables}
+use Rattle.egt_check.specs.Prelude.{◌≡◌, ℕ, ◌⊎◌, max, arith, inl, inr, subst, cases_lt, Setup, Zeroes, decided_zeroes}
+use Rattle.egt_check.specs.Prelude.{Leads, Move, AreGiven, IsGiven, Tables}
 
 -- the greater of two is one of them
 one_of : (P : ℕ → Type 0) (m n : ℕ) → P m → P n → P (max m n)

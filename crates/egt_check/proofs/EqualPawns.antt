@@ -1,23 +1,8 @@
 -- Equal pawns: the advances of the first are those of the last, with their squares exchanged.
-use Rattle.std.proofs.Common.{◌≡◌, ℕ, Bool, true, false, ◌∷◌, [], sym, ap, ◌∙◌, inl, inr, subst}
-use Rattle.std.specs.Option.{option_to_list}
-use Rattle.std.proofs.lemmas.Bool.{false≢true}
-use Rattle.egt_board.specs.Man.{other_side}
-use Rattle.egt_board.specs.declared.man.Man.{Man}
-use Rattle.egt_board.specs.declared.man.Side.{Side}
-use Rattle.egt_class.specs.Material.{has_equal_sides}
-use Rattle.egt_index.specs.Stood.{men_among}
-use Rattle.egt_index.specs.TurnedMen.{IsSomeTurnedCodeWith, swapped}
-use Rattle.egt_index.specs.declared.shelf_codes.ShelfMen.{ShelfMen}
-use Rattle.egt_index.specs.declared.stand.Stand.{Stand}
-use Rattle.egt_table.specs.Table.{TableValue}
-use Rattle.egt_table.specs.declared.column.Column.{Column}
-use Rattle.egt_steps.specs.InPassing.{AreLeapCodes, AreStepCodes}
-use Rattle.egt_steps.specs.PawnMoves.{stand_after}
-use Rattle.egt_check.specs.PawnScores.{AreAdvanceScores}
-use Rattle.egt_blocks.specs.Taken.{men_swapped}
-use Rattle.egt_check.specs.Worth.{column_score}
-use Rattle.egt_blocks.proofs.BlockRaising.{raised_alike}
+use Rattle.egt_check.specs.Prelude.{◌≡◌, ℕ, Bool, true, false, ◌∷◌, [], sym, ap, ◌∙◌, inl, inr, subst, option_to_list}
+use Rattle.egt_check.specs.Prelude.{false≢true, other_side, Man, Side, has_equal_sides, men_among, IsSomeTurnedCodeWith}
+use Rattle.egt_check.specs.Prelude.{swapped, ShelfMen, Stand, TableValue, Column, AreLeapCodes, AreStepCodes}
+use Rattle.egt_check.specs.Prelude.{stand_after, AreAdvanceScores, men_swapped, column_score, raised_alike}
 
 -- equal men are told in either order
 other_order : (passed : Bool) (c code : ℕ) (flips : Bool) (stand : Stand) (side : Side) → has_equal_sides c ≡ false → men_among (option_to_list stand.next) ≡ men_among (option_to_list stand.last)

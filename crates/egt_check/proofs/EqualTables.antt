@@ -1,23 +1,10 @@
 -- Two true tables of one class with the same columns.
-use Rattle.std.proofs.Common.{◌≡◌, ℕ, ◌<◌, ◌⊎◌, true, List, length, Option, Some, None, refl, sym, ap, ◌∙◌, subst, inl, inr}
-use Rattle.std.specs.Option.{is_some}
-use Rattle.std.proofs.lemmas.Bool.{false≢true}
-use Rattle.std.proofs.lemmas.List.{ext_get_or}
-use Rattle.egt_board.specs.Setup.{Setup}
-use Rattle.egt_index.specs.Code.{Spells}
-use Rattle.egt_index.specs.Index.{IsIndex, IsVoid}
-use Rattle.egt_index.specs.Size.{size_of}
-use Rattle.egt_moves.specs.Arena.{Value}
-use Rattle.egt_moves.specs.Chess.{chess}
-use Rattle.egt_moves.specs.Reach.{HasReach}
-use Rattle.egt_entries.specs.declared.metric.Metric.{Metric}
-use Rattle.egt_entries.specs.declared.metric.Metric.TheVariants.{Mate, Zeroing}
-use Rattle.egt_table.specs.Table.{TableValue, IsTable, entries_or_none}
+use Rattle.egt_check.specs.Prelude.{◌≡◌, ℕ, ◌<◌, ◌⊎◌, true, List, length, Option, Some, None, refl, sym, ap, ◌∙◌, subst}
+use Rattle.egt_check.specs.Prelude.{inl, inr, is_some, false≢true, ext_get_or, Setup, Spells, IsIndex, IsVoid, size_of}
+use Rattle.egt_check.specs.Prelude.{Value, chess, HasReach, Metric, Mate, Zeroing, TableValue, IsTable, entries_or_none}
+use Rattle.egt_check.specs.Prelude.{entry_of, reach_entry_of, entries_in, entry_at, reach_at, IsTrueReach, IsTrueTable}
+use Rattle.egt_check.specs.Prelude.{Tells}
 use Rattle.egt_table.specs.declared.column.Column.TheVariants as columns
-use Rattle.egt_entries.specs.Entry.{entry_of}
-use Rattle.egt_entries.specs.Reach.{reach_entry_of}
-use Rattle.egt_entries.specs.Tables.{entries_in, entry_at, reach_at}
-use Rattle.egt_entries.specs.Truth.{IsTrueReach, IsTrueTable, Tells}
 
 -- what other laws say: a code is an index or void, and one thing is told of a position
 pub record One : Type 0 where

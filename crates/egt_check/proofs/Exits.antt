@@ -1,22 +1,10 @@
 -- The greatest score of the moves that zero: that of the moves that leave the class, and of pawns' moves that do not.
-use Rattle.std.proofs.Common.{◌≡◌, ◌↔◌, ◌∙◌, ℕ, max, Bool, IsTrue, true, false, Option, arith, inl, inr, refl, sym, subst}
-use Rattle.std.proofs.lemmas.Bool.{false≢true}
-use Rattle.egt_board.specs.Pawn.{pawn_of}
-use Rattle.egt_board.specs.declared.man.Kind.TheVariants.{P}
-use Rattle.egt_board.specs.declared.man.Man.{Man}
-use Rattle.egt_board.specs.declared.man.Side.{Side}
-use Rattle.egt_index.specs.declared.shelf_codes.ShelfMen.{ShelfMen}
-use Rattle.egt_table.specs.Table.{TableValue}
-use Rattle.egt_table.specs.declared.column.Column.{Column}
-use Rattle.egt_steps.specs.InPassing.{AreLeapCodes, AreStepCodes}
-use Rattle.egt_blocks.specs.Taken.{men_swapped}
-use Rattle.egt_check.specs.MoveScores.{AreExits, AreZeroingMoves}
-use Rattle.egt_check.specs.PawnScores.{AreAdvanceScores, AreOwnPawnMoves, ArePawnScores, ArePromotionScores, IsBestPromotion, IsPromotionScore, IsRaisedByPawn}
-use Rattle.egt_check.specs.Worth.{column_score}
-use Rattle.egt_check.specs.declared.move_scores.FourMen.{FourMen}
-use Rattle.egt_check.specs.declared.pawn_scores.Promotion.{Promotion}
-use Rattle.egt_check.specs.declared.pawn_scores.Promotions.{Promotions}
-use Rattle.egt_blocks.proofs.BlockRaising.{raised_by_none}
+use Rattle.egt_check.specs.Prelude.{◌≡◌, ◌↔◌, ◌∙◌, ℕ, max, Bool, IsTrue, true, false, Option, arith, inl, inr, refl}
+use Rattle.egt_check.specs.Prelude.{sym, subst, false≢true, pawn_of, P, Man, Side, ShelfMen, TableValue, Column}
+use Rattle.egt_check.specs.Prelude.{AreLeapCodes, AreStepCodes, men_swapped, AreExits, AreZeroingMoves}
+use Rattle.egt_check.specs.Prelude.{AreAdvanceScores, AreOwnPawnMoves, ArePawnScores, ArePromotionScores}
+use Rattle.egt_check.specs.Prelude.{IsBestPromotion, IsPromotionScore, IsRaisedByPawn, column_score, FourMen, Promotion}
+use Rattle.egt_check.specs.Prelude.{Promotions, raised_by_none}
 
 -- the man is no pawn of that side
 pub no_own_pawn : (told : Bool) (man : Man) (side : Side) → IsTrue told ↔ (man ≡ pawn_of side) → told ≡ false → ¬ ((man.kind ≡ P) × (man.side ≡ side))

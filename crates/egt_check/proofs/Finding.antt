@@ -1,21 +1,8 @@
 -- In which table the entry of a position is found.
-use Rattle.std.proofs.Common.{◌≡◌, ℕ, ◌<◌, ◌⊎◌, inl, inr, Bool, false, eqb, Option, Some, None, refl, sym, subst, ◌∙◌, arith}
-use Rattle.std.specs.Option.{IsSome, IfSome, option_map}
-use Rattle.std.specs.List.{Contains}
-use Rattle.std.proofs.lemmas.Bool.{eq-eqb}
-use Rattle.std.proofs.lemmas.Bool.Decides.{eqb_tells}
-use Rattle.egt_board.specs.Setup.{Setup, IsAdmissible}
-use Rattle.egt_class.specs.Children.{children_of}
-use Rattle.egt_class.specs.Membership.{IsOf}
-use Rattle.egt_index.specs.Size.{size_of}
-use Rattle.egt_moves.specs.declared.chess_move.Move.{Move}
-use Rattle.egt_moves.specs.Legal.{Leads}
-use Rattle.egt_table.specs.Table.{TableValue}
-use Rattle.egt_steps.specs.Facts.{Facts}
-use Rattle.egt_check.specs.Place.{IsPlaceOf, HasReachAt}
-use Rattle.egt_entries.specs.Steps.{IsInClass}
-use Rattle.egt_entries.specs.Tables.{Tables, beside, HasChildren, HasReachChildren}
-use Rattle.egt_check.specs.declared.successors.Place.{Place}
+use Rattle.egt_check.specs.Prelude.{◌≡◌, ℕ, ◌<◌, ◌⊎◌, inl, inr, Bool, false, eqb, Option, Some, None, refl, sym, subst}
+use Rattle.egt_check.specs.Prelude.{◌∙◌, arith, IsSome, IfSome, option_map, Contains, eq-eqb, eqb_tells, Setup}
+use Rattle.egt_check.specs.Prelude.{IsAdmissible, children_of, IsOf, size_of, Move, Leads, TableValue, Facts, IsPlaceOf}
+use Rattle.egt_check.specs.Prelude.{HasReachAt, IsInClass, Tables, beside, HasChildren, HasReachChildren, Place}
 
 pub beside_own : (tables : Tables) (t : TableValue) (c : ℕ) → c ≡ t.class → beside tables t c ≡ Some t
 beside_own tables t c own = rw (eq-eqb c t.class own)

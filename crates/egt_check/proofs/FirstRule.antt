@@ -1,23 +1,11 @@
 -- From what comparing finds to the first rule that an entry breaks.
-use Rattle.std.proofs.Common.{◌≡◌, ◌≢◌, ℕ, ◌-◌, ◌/◌, ◌%◌, ◌<◌, ◌≤◌, inl, inr, Option, Some, None, sym, subst, ◌∙◌, arith}
-use Rattle.std.proofs.lemmas.Bool.{cases_lt}
-use Rattle.egt_board.specs.Setup.{Setup}
-use Rattle.egt_index.specs.Code.{Spells}
-use Rattle.egt_index.specs.Index.{IsVoid}
-use Rattle.egt_moves.specs.Arena.{Value, Win, Loss, Draw}
-use Rattle.egt_entries.specs.declared.metric.Metric.{Metric}
-use Rattle.egt_entries.specs.declared.metric.Metric.TheVariants.{Mate, Zeroing}
-use Rattle.egt_table.specs.Table.{TableValue}
-use Rattle.egt_entries.specs.declared.outcome.Outcome.{Outcome}
+use Rattle.egt_check.specs.Prelude.{◌≡◌, ◌≢◌, ℕ, ◌-◌, ◌/◌, ◌%◌, ◌<◌, ◌≤◌, inl, inr, Option, Some, None, sym, subst, ◌∙◌}
+use Rattle.egt_check.specs.Prelude.{arith, cases_lt, Setup, Spells, IsVoid, Value, Win, Loss, Draw, Metric, Mate}
+use Rattle.egt_check.specs.Prelude.{Zeroing, TableValue, Outcome, Rule, entry_of, Shows, FitsBeside, Agree, IsCompared}
+use Rattle.egt_check.specs.Prelude.{Finds, FindsVoid, value_of, IsDueDraw, IsDue, Tables, entry_at, ShowsOf}
 use Rattle.egt_entries.specs.declared.outcome.Outcome.TheVariants as outcomes
-use Rattle.egt_entries.specs.declared.rule.Rule.{Rule}
 use Rattle.egt_entries.specs.declared.rule.Rule.TheVariants as rules
-use Rattle.egt_entries.specs.Entry.{entry_of, Shows}
-use Rattle.egt_entries.specs.Fits.{FitsBeside}
-use Rattle.egt_entries.specs.Judged.{Agree, IsCompared, Finds, FindsVoid}
 use Rattle.egt_entries.specs.Rules.{Fits, AgreesInKind, Keeps, rule_place, IsJudged}
-use Rattle.egt_entries.specs.Score.{value_of, IsDueDraw, IsDue}
-use Rattle.egt_entries.specs.Tables.{Tables, entry_at, ShowsOf}
 use Rattle.egt_check.proofs.Showing.{shows_once}
 
 -- what shows something is in range, and not 0

@@ -1,31 +1,15 @@
 -- Scores that are put, and what they tell.
-use Rattle.std.proofs.Common.{◌≡◌, ◌≢◌, ◌∙◌, ◌⊎◌, ℕ, ◌+◌, ◌*◌, ◌-◌, ◌%◌, ◌<◌, List, true, Option, Some, None, length, map, slice_index, Fits, w8, arith, refl, sym, ap, subst, inl, inr}
+use Rattle.egt_check.specs.Prelude.{◌≡◌, ◌≢◌, ◌∙◌, ◌⊎◌, ℕ, ◌+◌, ◌*◌, ◌-◌, ◌%◌, ◌<◌, List, true, Option, Some, None}
+use Rattle.egt_check.specs.Prelude.{length, map, slice_index, Fits, w8, arith, refl, sym, ap, subst, inl, inr}
+use Rattle.egt_check.specs.Prelude.{Each1-get_or, cases_eq, cases_lt, false≢true, nat_tests, Has, Kind, Side, SquareSet}
+use Rattle.egt_check.specs.Prelude.{code_of, kind_digits, kind_less, number_in, size_of, ShelfMen, byte_score}
+use Rattle.egt_check.specs.Prelude.{reach_score, zeroing_score, HasColumn, TableValue, entries_of, Column, IsShelfRow}
+use Rattle.egt_check.specs.Prelude.{square_in, AreAlike, IsKnown, Inside, Part, AreFound, AreTold, IsNearScore, IsPutIn}
+use Rattle.egt_check.specs.Prelude.{IsToldAt, IsValueScore, TellColumn, TellsEntry, near_told, table_told, told}
+use Rattle.egt_check.specs.Prelude.{value_told, IsPut, CodeScores, IsLaneIn}
 use lib.Lanes.{Each1}
-use Rattle.std.proofs.lemmas.Simd.{Each1-get_or}
-use Rattle.std.proofs.lemmas.Bool.{cases_eq, cases_lt, false≢true}
-use Rattle.std.proofs.lemmas.Bool.Decides.{nat_tests}
-use Rattle.egt_board.specs.SquareSet.{Has}
-use Rattle.egt_board.specs.declared.man.Kind.{Kind}
-use Rattle.egt_board.specs.declared.man.Side.{Side}
-use Rattle.egt_board.specs.declared.square_set.SquareSet.{SquareSet}
-use Rattle.egt_index.specs.Numbers.{code_of}
-use Rattle.egt_index.specs.Scales.{kind_digits, kind_less}
-use Rattle.egt_index.specs.ShelfCodes.{number_in}
-use Rattle.egt_index.specs.Size.{size_of}
-use Rattle.egt_index.specs.declared.shelf_codes.ShelfMen.{ShelfMen}
-use Rattle.egt_lanes.specs.Scores.{byte_score, reach_score, zeroing_score}
-use Rattle.egt_table.specs.Table.{HasColumn, TableValue, entries_of}
-use Rattle.egt_table.specs.declared.column.Column.{Column}
 use Rattle.egt_table.specs.declared.column.Column.TheVariants.{Mate, Zeroing, Reach}
-use Rattle.egt_blocks.specs.ShelfRow.{IsShelfRow}
-use Rattle.egt_blocks.proofs.ShelfRead.{square_in}
-use Rattle.egt_check.specs.Given.{AreAlike, IsKnown}
-use Rattle.egt_check.specs.declared.found.Found.TheInside.{Inside}
-use Rattle.egt_check.specs.declared.part.Part.{Part}
 use Rattle.egt_check.specs.declared.part.Part.TheVariants as parts
-use Rattle.egt_check.specs.Found.{AreFound, AreTold, IsNearScore, IsPutIn, IsToldAt, IsValueScore, TellColumn, TellsEntry, near_told, table_told, told, value_told}
-use Rattle.egt_check.specs.Put.{IsPut}
-use Rattle.egt_check.specs.ScoreRows.{CodeScores, IsLaneIn}
 use Rattle.egt_check.proofs.FoundTold.{mate_score, near_score, told_at, told_none, zeroing_score as clock_score}
 
 -- ---- scores of entries

@@ -1,25 +1,11 @@
 -- What scores tell of a table's entries.
-use Rattle.std.proofs.Common.{◌≡◌, ◌≢◌, ◌∙◌, ℕ, ◌%◌, ◌<◌, Bool, List, Option, Some, None, IsSome, get_or, map, slice_index, refl, sym, ap, subst, inl, inr}
-use Rattle.std.proofs.lemmas.Bool.{cases_eq, false≢true}
-use Rattle.std.proofs.Math.ListN.{get_or-map}
-use Rattle.egt_board.specs.Pawn.{MayStand}
-use Rattle.egt_board.specs.declared.man.Man.{Man}
-use Rattle.egt_board.specs.declared.man.Side.{Side}
-use Rattle.egt_index.specs.ShelfCodes.{IsShelfOf, stand_with}
-use Rattle.egt_index.specs.Spelled.{IsListed}
-use Rattle.egt_index.specs.Stood.{list_of}
-use Rattle.egt_index.specs.TellsMen.{TellsMen}
-use Rattle.egt_index.specs.declared.shelf_codes.ShelfMen.{ShelfMen}
-use Rattle.egt_index.specs.declared.stand.Stand.{Stand}
-use Rattle.egt_lanes.specs.Raised.{IsRaised}
-use Rattle.egt_table.specs.Table.{HasColumn, TableValue, entries_of, entries_or_none}
-use Rattle.egt_table.specs.declared.column.Column.{Column}
+use Rattle.egt_check.specs.Prelude.{◌≡◌, ◌≢◌, ◌∙◌, ℕ, ◌%◌, ◌<◌, Bool, List, Option, Some, None, IsSome, get_or, map}
+use Rattle.egt_check.specs.Prelude.{slice_index, refl, sym, ap, subst, inl, inr, cases_eq, false≢true, get_or-map}
+use Rattle.egt_check.specs.Prelude.{MayStand, Man, Side, IsShelfOf, stand_with, IsListed, list_of, TellsMen, ShelfMen}
+use Rattle.egt_check.specs.Prelude.{Stand, IsRaised, HasColumn, TableValue, entries_of, entries_or_none, Column}
+use Rattle.egt_check.specs.Prelude.{IsShelfRow, row_read, column_score, entry_score, IsToldEntry, IsToldFrom}
+use Rattle.egt_check.specs.Prelude.{TellColumn, TellsEntry, table_told, told, CodeScores}
 use Rattle.egt_table.specs.declared.column.Column.TheVariants.{Mate, Zeroing, Reach}
-use Rattle.egt_blocks.specs.ShelfRow.{IsShelfRow}
-use Rattle.egt_blocks.proofs.ShelfRead.{row_read}
-use Rattle.egt_check.specs.Worth.{column_score, entry_score}
-use Rattle.egt_check.specs.Found.{IsToldEntry, IsToldFrom, TellColumn, TellsEntry, table_told, told}
-use Rattle.egt_check.specs.ScoreRows.{CodeScores}
 
 -- an entry that is told
 pub told_at : (column : Column) (scores : List ℕ) (code : ℕ) → told column 0 ≡ 0 → slice_index (map (told column) scores) code ≡ told column (slice_index scores code)

@@ -1,25 +1,8 @@
 -- The code of a lane of a shelf.
-use Rattle.std.proofs.Common.{◌≡◌, ◌≢◌, ℕ, ◌+◌, ◌*◌, ◌<◌, ◌≤◌, Bool, arith, sym, subst}
-use Rattle.egt_board.specs.Images.{side_number}
-use Rattle.egt_board.specs.declared.man.Kind.{Kind}
-use Rattle.egt_board.specs.declared.man.Kind.TheVariants.{Q, R, B, N, P, K}
-use Rattle.egt_board.specs.declared.man.Side.{Side}
-use Rattle.egt_index.specs.Numbers.{code_of, places}
-use Rattle.egt_index.specs.Scales.{kind_digits, kind_less}
-use Rattle.egt_index.specs.ShelfCodes.{IsShelfOf, IsWithin, number_in}
-use Rattle.egt_index.specs.Size.{size_of}
-use Rattle.egt_index.specs.TellsMen.{TellsMen}
-use Rattle.egt_index.specs.declared.shelf_codes.ShelfMen.{ShelfMen}
-use Rattle.egt_table.specs.Table.{TableValue}
-use Rattle.egt_table.specs.declared.column.Column.{Column}
-use Rattle.egt_check.specs.declared.part.Part.{Part}
-use Rattle.egt_check.specs.Blank.{IsBlank}
-use Rattle.egt_steps.specs.Stands.{men_on, stand_on}
-use Rattle.egt_check.specs.Parts.{column_of}
-use Rattle.egt_check.specs.RightBlock.{IsRightLane}
-use Rattle.egt_check.specs.RightRow.{IsRightAtOf}
-use Rattle.egt_check.specs.Worth.{column_score}
-use Rattle.egt_blocks.proofs.ShelfRead.{side_few}
+use Rattle.egt_check.specs.Prelude.{◌≡◌, ◌≢◌, ℕ, ◌+◌, ◌*◌, ◌<◌, ◌≤◌, Bool, arith, sym, subst, side_number, Kind, Q, R}
+use Rattle.egt_check.specs.Prelude.{B, N, P, K, Side, code_of, places, kind_digits, kind_less, IsShelfOf, IsWithin}
+use Rattle.egt_check.specs.Prelude.{number_in, size_of, TellsMen, ShelfMen, TableValue, Column, Part, IsBlank, men_on}
+use Rattle.egt_check.specs.Prelude.{stand_on, column_of, IsRightLane, IsRightAtOf, column_score, side_few}
 
 -- a code of a shelf within is below the size
 row_below : (kind : Kind) (shelf first digit size : ℕ) → first < 2 → digit < kind_digits kind → (shelf + 1) * (2 * kind_digits kind) ≤ size → shelf * (2 * kind_digits kind) + first + 2 * digit < size

@@ -1,26 +1,10 @@
 -- The entries of a class with one man beside the kings, read by his square.
-use Rattle.std.proofs.Common.{◌≡◌, ℕ, ◌+◌, ◌-◌, ◌*◌, ◌%◌, ◌<◌, ◌≤◌, ◌⊎◌, Bool, true, false, List, take, drop, arith, refl, ap, ◌∙◌, inl, inr, subst}
-use Rattle.std.specs.Prelude.{slice_index}
-use Rattle.std.proofs.lemmas.Bool.{cases_lt}
-use Rattle.egt_board.specs.Images.{side_number}
-use Rattle.egt_board.specs.Pawn.{MayStand}
-use Rattle.egt_board.specs.declared.man.Kind.TheVariants.{P}
-use Rattle.egt_board.specs.declared.man.Man.{Man}
-use Rattle.egt_board.specs.declared.man.Side.{Side}
-use Rattle.egt_board.specs.declared.man.Side.TheVariants.{White, Black}
-use Rattle.egt_index.specs.LoneCodes.{IsLoneRow, lone_stand}
-use Rattle.egt_index.specs.Scales.{kind_digits, kind_less}
-use Rattle.egt_index.specs.Spelled.{IsListed}
-use Rattle.egt_index.specs.TellsMen.{TellsMen}
-use Rattle.egt_index.specs.Stood.{list_of}
-use Rattle.egt_index.specs.declared.stand.Stand.{Stand}
-use Rattle.egt_lanes.specs.Raised.{IsRaised}
+use Rattle.egt_check.specs.Prelude.{◌≡◌, ℕ, ◌+◌, ◌-◌, ◌*◌, ◌%◌, ◌<◌, ◌≤◌, ◌⊎◌, Bool, true, false, List, take, drop}
+use Rattle.egt_check.specs.Prelude.{arith, refl, ap, ◌∙◌, inl, inr, subst, slice_index, cases_lt, side_number, MayStand}
+use Rattle.egt_check.specs.Prelude.{P, Man, Side, White, Black, IsLoneRow, lone_stand, kind_digits, kind_less, IsListed}
+use Rattle.egt_check.specs.Prelude.{TellsMen, list_of, Stand, IsRaised, is_pawn, TableValue, entries_of, Column}
+use Rattle.egt_check.specs.Prelude.{column_score, entry_score, pawn_digits, piece_at, piece_digits}
 use Rattle.egt_check.proofs.RowRead.{no_score}
-use Rattle.egt_moves.specs.Promotion.{is_pawn}
-use Rattle.egt_table.specs.Table.{TableValue, entries_of}
-use Rattle.egt_table.specs.declared.column.Column.{Column}
-use Rattle.egt_check.specs.Worth.{column_score, entry_score}
-use Rattle.egt_blocks.proofs.ShelfRead.{pawn_digits, piece_at, piece_digits}
 
 side_few : (side : Side) → side_number side < 2
 side_few White = omega arith

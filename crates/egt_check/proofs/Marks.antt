@@ -1,24 +1,12 @@
 -- What the scores of a shelf's mate entries tell, beside the bits of its indexes.
-use Rattle.std.proofs.Common.{◌≡◌, ◌≢◌, ℕ, ◌+◌, ◌*◌, ◌/◌, ◌%◌, ◌^◌, ◌<◌, ◌==◌, if◌then◌else◌, Bool, true, false, inl, inr, arith, ap, eqb, refl, sym, ◌∙◌, subst}
-use Rattle.std.specs.Int.{bit_at}
-use Rattle.std.proofs.lemmas.Bool.{cases_eq, eqb-true}
-use Rattle.std.proofs.lemmas.Nat.Bits.{bit_at-lt, bit_at-zero}
-use Rattle.std.proofs.lemmas.Nat.{div-add-mod', div_below, mod_below, shr-shr}
-use Rattle.egt_board.specs.declared.man.Side.{Side}
-use Rattle.egt_board.specs.declared.man.Side.TheVariants.{White, Black}
-use Rattle.egt_index.specs.Index.{IsVoid}
-use Rattle.egt_index.specs.Numbers.{code_of, number_of, places}
-use Rattle.egt_index.specs.ShelfCodes.{AreIndexed, AreIndexes, IsWithin, number_in}
-use Rattle.egt_index.specs.Size.{size_of}
-use Rattle.egt_index.specs.declared.places.Places.{Places}
-use Rattle.egt_table.specs.Table.{TableValue}
-use Rattle.egt_entries.specs.declared.metric.Metric.TheVariants.{Mate, Zeroing}
-use Rattle.egt_entries.specs.Tables.{entry_at}
-use Rattle.egt_check.specs.Voids.{AreAllAlike, TellsVoid, TellsVoids, TellsVoidsIn}
-use Rattle.egt_check.specs.Worth.{score_at}
+use Rattle.egt_check.specs.Prelude.{◌≡◌, ◌≢◌, ℕ, ◌+◌, ◌*◌, ◌/◌, ◌%◌, ◌^◌, ◌<◌, ◌==◌, if◌then◌else◌, Bool, true, false}
+use Rattle.egt_check.specs.Prelude.{inl, inr, arith, ap, eqb, refl, sym, ◌∙◌, subst, bit_at, cases_eq, eqb-true}
+use Rattle.egt_check.specs.Prelude.{bit_at-lt, bit_at-zero, div-add-mod', div_below, mod_below, shr-shr, Side, White}
+use Rattle.egt_check.specs.Prelude.{Black, IsVoid, code_of, number_of, places, AreIndexed, AreIndexes, IsWithin}
+use Rattle.egt_check.specs.Prelude.{number_in, size_of, Places, TableValue, Mate, Zeroing, entry_at, AreAllAlike}
+use Rattle.egt_check.specs.Prelude.{TellsVoid, TellsVoids, TellsVoidsIn, score_at, side_few}
 use Rattle.egt_check.proofs.AllJudged.{some_score}
 use Rattle.egt_check.proofs.QuietGiven.{low_score}
-use Rattle.egt_blocks.proofs.ShelfRead.{side_few}
 use Rattle.egt_check.proofs.ToldBytes.{alike_there}
 use Rattle.egt_check.proofs.Worth.{zero_score}
 

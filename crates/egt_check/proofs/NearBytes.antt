@@ -1,16 +1,7 @@
 -- Tables whose entries of the nearest mates have bytes of their own.
-use Rattle.std.proofs.Common.{◌≡◌, ◌≢◌, ℕ, ◌*◌, ◌-◌, ◌<◌, arith, inl, inr, refl}
-use Rattle.std.proofs.lemmas.Bool.{cases_eq}
-use Rattle.egt_index.specs.Index.{IsVoid}
-use Rattle.egt_index.specs.Size.{size_of}
-use Rattle.egt_lanes.specs.Near.{IsVoidOrNear}
-use Rattle.egt_table.specs.Table.{TableValue}
-use Rattle.egt_entries.specs.declared.metric.Metric.{Metric}
-use Rattle.egt_entries.specs.declared.metric.Metric.TheVariants.{Mate, Zeroing}
-use Rattle.egt_check.specs.Given.{AreAlike, IsKnown}
-use Rattle.egt_entries.specs.Tables.{entry_at, reach_at}
-use Rattle.egt_check.specs.Voids.{TellsVoids}
-use Rattle.egt_check.specs.Worth.{HasBytes}
+use Rattle.egt_check.specs.Prelude.{◌≡◌, ◌≢◌, ℕ, ◌*◌, ◌-◌, ◌<◌, arith, inl, inr, refl, cases_eq, IsVoid, size_of}
+use Rattle.egt_check.specs.Prelude.{IsVoidOrNear, TableValue, Metric, Mate, Zeroing, AreAlike, IsKnown, entry_at}
+use Rattle.egt_check.specs.Prelude.{reach_at, TellsVoids, HasBytes}
 use Rattle.egt_check.proofs.NearReading.{near, near_at}
 
 -- an entry as it is read

@@ -1,24 +1,12 @@
 -- Entries of the nearest mates that are due to the greatest scores of all moves keep the rules.
-use Rattle.std.proofs.Common.{◌≡◌, ◌≢◌, ℕ, zero, suc, ◌+◌, ◌-◌, ◌<◌, ◌≤◌, ◌⊎◌, List, Option, Some, None, arith, refl, sym, ap, ◌∙◌, inl, inr, subst, slice_index}
-use Rattle.std.proofs.Math.ListN.{get_or-map}
-use Rattle.std.proofs.lemmas.Bool.{cases_eq, cond_above, cond_below}
-use Rattle.egt_board.specs.Setup.{Setup, IsAdmissible}
-use Rattle.egt_index.specs.Code.{Spells}
-use Rattle.egt_index.specs.Index.{IsIndex, IsVoid}
-use Rattle.egt_lanes.specs.Scores.{byte_score, reach_due_score, reach_score}
-use Rattle.egt_moves.specs.Arena.{NoMove}
-use Rattle.egt_moves.specs.Chess.{chess}
-use Rattle.egt_moves.specs.declared.chess_move.Move.{Move}
-use Rattle.egt_table.specs.Table.{TableValue, entries_or_none}
-use Rattle.egt_entries.specs.declared.metric.Metric.TheVariants.{Mate}
+use Rattle.egt_check.specs.Prelude.{◌≡◌, ◌≢◌, ℕ, zero, suc, ◌+◌, ◌-◌, ◌<◌, ◌≤◌, ◌⊎◌, List, Option, Some, None, arith}
+use Rattle.egt_check.specs.Prelude.{refl, sym, ap, ◌∙◌, inl, inr, subst, slice_index, get_or-map, cases_eq, cond_above}
+use Rattle.egt_check.specs.Prelude.{cond_below, Setup, IsAdmissible, Spells, IsIndex, IsVoid, byte_score}
+use Rattle.egt_check.specs.Prelude.{reach_due_score, reach_score, NoMove, chess, Move, TableValue, entries_or_none}
+use Rattle.egt_check.specs.Prelude.{Mate, Facts, AreGiven, HasScores, IsKnown, near_entry, near_if, near_of, near_table}
+use Rattle.egt_check.specs.Prelude.{near_tables, FitsReachBeside, HasReachEntry, ShowsReachOf, reach_entry_of}
+use Rattle.egt_check.specs.Prelude.{IsJudgedBy, KeepsReach, IsAtEnd, HasEntry, Tables, entry_at, reach_at}
 use Rattle.egt_entries.specs.declared.rule.Rule.TheVariants as rules
-use Rattle.egt_steps.specs.Facts.{Facts}
-use Rattle.egt_check.specs.Given.{AreGiven, HasScores, IsKnown}
-use Rattle.egt_entries.specs.NearTables.{near_entry, near_if, near_of, near_table, near_tables}
-use Rattle.egt_entries.specs.Reach.{FitsReachBeside, HasReachEntry, ShowsReachOf, reach_entry_of}
-use Rattle.egt_entries.specs.Rules.{IsJudgedBy, KeepsReach}
-use Rattle.egt_entries.specs.Score.{IsAtEnd}
-use Rattle.egt_entries.specs.Tables.{HasEntry, Tables, entry_at, reach_at}
 use Rattle.egt_check.proofs.ByteJudged.{byte_loss}
 
 -- ---- entries as they are read

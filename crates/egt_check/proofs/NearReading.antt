@@ -1,23 +1,11 @@
 -- Tables whose column of the nearest mates is read as a mate column.
-use Rattle.std.proofs.Common.{◌≡◌, ℕ, ◌*◌, ◌-◌, ◌%◌, ◌<◌, ◌⊎◌, ◌∙◌, List, Option, Some, None, IsSome, arith, inl, inr, length, refl, sym, ap}
-use Rattle.std.proofs.Math.ListN.{get_or-map}
-use Rattle.std.proofs.lemmas.Bool.{cases_lt, false≢true}
-use Rattle.std.proofs.lemmas.List.{get_or_past, length-map}
-use Rattle.egt_board.specs.Setup.{Setup}
-use Rattle.egt_index.specs.Code.{Spells}
-use Rattle.egt_index.specs.Index.{IsIndex, IsVoid}
-use Rattle.egt_index.specs.Size.{size_of}
-use Rattle.egt_lanes.specs.Scores.{byte_score}
-use Rattle.egt_table.specs.Table.{HasColumn, IsTable, TableValue, entries_of, entries_or_none}
-use Rattle.egt_table.specs.declared.column.Column.{Column}
+use Rattle.egt_check.specs.Prelude.{◌≡◌, ℕ, ◌*◌, ◌-◌, ◌%◌, ◌<◌, ◌⊎◌, ◌∙◌, List, Option, Some, None, IsSome, arith, inl}
+use Rattle.egt_check.specs.Prelude.{inr, length, refl, sym, ap, get_or-map, cases_lt, false≢true, get_or_past}
+use Rattle.egt_check.specs.Prelude.{length-map, Setup, Spells, IsIndex, IsVoid, size_of, byte_score, HasColumn, IsTable}
+use Rattle.egt_check.specs.Prelude.{TableValue, entries_of, entries_or_none, Column, Mate, Part, Values, Reach}
+use Rattle.egt_check.specs.Prelude.{near_entry, near_if, near_of, near_table, column_of, table_in, tables_in, Tables}
+use Rattle.egt_check.specs.Prelude.{entry_at, reach_at, HasBytes, column_score, score_at}
 use Rattle.egt_table.specs.declared.column.Column.TheVariants as columns
-use Rattle.egt_entries.specs.declared.metric.Metric.TheVariants.{Mate}
-use Rattle.egt_check.specs.declared.part.Part.{Part}
-use Rattle.egt_check.specs.declared.part.Part.TheVariants.{Values, Reach}
-use Rattle.egt_entries.specs.NearTables.{near_entry, near_if, near_of, near_table}
-use Rattle.egt_check.specs.Parts.{column_of, table_in, tables_in}
-use Rattle.egt_entries.specs.Tables.{Tables, entry_at, reach_at}
-use Rattle.egt_check.specs.Worth.{HasBytes, column_score, score_at}
 
 -- ---- entries
 

@@ -1,26 +1,12 @@
 -- The greatest scores of moves in the column of the nearest mates are those in the tables where it is read as a mate column.
-use Rattle.std.proofs.Common.{◌≡◌, ℕ, ◌<◌, ◌≤◌, ◌⊎◌, Bool, true, false, max, Option, IfSome, refl, ap, ◌∙◌, inl, inr, subst}
-use Rattle.egt_board.specs.Setup.{Setup}
-use Rattle.egt_board.specs.declared.man.Side.{Side}
-use Rattle.egt_index.specs.Code.{Spells}
-use Rattle.egt_index.specs.Index.{IsIndex, IsVoid}
-use Rattle.egt_index.specs.declared.shelf_codes.ShelfMen.{ShelfMen}
-use Rattle.egt_lanes.specs.Raised.{IsRaised}
-use Rattle.egt_lanes.specs.Scores.{zeroing_score}
-use Rattle.egt_table.specs.Table.{IsTable, TableValue}
+use Rattle.egt_check.specs.Prelude.{◌≡◌, ℕ, ◌<◌, ◌≤◌, ◌⊎◌, Bool, true, false, max, Option, IfSome, refl, ap, ◌∙◌, inl}
+use Rattle.egt_check.specs.Prelude.{inr, subst, Setup, Side, Spells, IsIndex, IsVoid, ShelfMen, IsRaised, zeroing_score}
+use Rattle.egt_check.specs.Prelude.{IsTable, TableValue, Mate, Reach, FourMen, Promotion, Promotions, AreAllScores}
+use Rattle.egt_check.specs.Prelude.{AreMoveScores, ArePassingCaptures, AreTablesOf, AreZeroingMoves, children_in}
+use Rattle.egt_check.specs.Prelude.{four_in, promotion_in, promotions_in, some_promotions_in, ArePawnScores}
+use Rattle.egt_check.specs.Prelude.{HasPromotion, HasPromotions, IsPromotionScore, IsRaisedByPawn, AreAllReachScores}
+use Rattle.egt_check.specs.Prelude.{AreReachScores, Tables, men_swapped, HasBytes, column_score, score_at}
 use Rattle.egt_table.specs.declared.column.Column.TheVariants as columns
-use Rattle.egt_entries.specs.declared.metric.Metric.TheVariants.{Mate}
-use Rattle.egt_check.specs.declared.part.Part.TheVariants.{Reach}
-use Rattle.egt_check.specs.declared.move_scores.FourMen.{FourMen}
-use Rattle.egt_check.specs.declared.pawn_scores.Promotion.{Promotion}
-use Rattle.egt_check.specs.declared.pawn_scores.Promotions.{Promotions}
-use Rattle.egt_check.specs.MoveScores.{AreAllScores, AreMoveScores, ArePassingCaptures, AreTablesOf, AreZeroingMoves}
-use Rattle.egt_check.specs.Parts.{children_in, four_in, promotion_in, promotions_in, some_promotions_in}
-use Rattle.egt_check.specs.PawnScores.{ArePawnScores, HasPromotion, HasPromotions, IsPromotionScore, IsRaisedByPawn}
-use Rattle.egt_check.specs.ReachScores.{AreAllReachScores, AreReachScores}
-use Rattle.egt_entries.specs.Tables.{Tables}
-use Rattle.egt_blocks.specs.Taken.{men_swapped}
-use Rattle.egt_check.specs.Worth.{HasBytes, column_score, score_at}
 use Rattle.egt_check.proofs.NearReading.{near, near_scores}
 
 -- the greatest of equal numbers

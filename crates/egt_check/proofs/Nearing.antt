@@ -1,22 +1,9 @@
 -- The least number that the column of the nearest mates shows after a step.
-use Rattle.std.proofs.Common.{◌≡◌, ℕ, zero, suc, ◌+◌, ◌≤◌, ◌⊎◌, inl, inr, min, Option, Some, None, IfSome, refl, sym, ap, subst, ◌∙◌, arith}
-use Rattle.std.specs.Option.{IfNone}
-use Rattle.std.proofs.lemmas.Bool.{cases_lt}
-use Rattle.egt_board.specs.Setup.{Setup, IsAdmissible}
-use Rattle.egt_index.specs.Index.{IsIndex}
-use Rattle.egt_moves.specs.Arena.{EachMove}
-use Rattle.egt_moves.specs.Chess.{chess}
-use Rattle.egt_moves.specs.Entries.{IsLeast}
-use Rattle.egt_moves.specs.Legal.{Leads, IsLegal}
-use Rattle.egt_moves.specs.declared.chess_move.Move.{Move}
-use Rattle.egt_moves.specs.Standing.{StandsAs}
-use Rattle.egt_moves.specs.declared.outcome.Standing.{Standing}
-use Rattle.egt_moves.specs.declared.outcome.Standing.TheVariants.{Checkmate, Stalemate, HasMove}
-use Rattle.egt_entries.specs.Entry.{longest}
-use Rattle.egt_steps.specs.Facts.{Facts}
-use Rattle.egt_entries.specs.Nearest.{nearer, IsNearest}
-use Rattle.egt_entries.specs.Reach.{HasReachEntry, IsReachDue, ShowsReach, ShowsReachOf}
-use Rattle.egt_entries.specs.Tables.{Tables, reach_at}
+use Rattle.egt_check.specs.Prelude.{◌≡◌, ℕ, zero, suc, ◌+◌, ◌≤◌, ◌⊎◌, inl, inr, min, Option, Some, None, IfSome, refl}
+use Rattle.egt_check.specs.Prelude.{sym, ap, subst, ◌∙◌, arith, IfNone, cases_lt, Setup, IsAdmissible, IsIndex}
+use Rattle.egt_check.specs.Prelude.{EachMove, chess, IsLeast, Leads, IsLegal, Move, StandsAs, Standing, Checkmate}
+use Rattle.egt_check.specs.Prelude.{Stalemate, HasMove, longest, Facts, nearer, IsNearest, HasReachEntry, IsReachDue}
+use Rattle.egt_check.specs.Prelude.{ShowsReach, ShowsReachOf, Tables, reach_at}
 
 -- a position has one entry
 pub one_reach_entry : (facts : Facts) (tables : Tables) (p : Setup) → IsAdmissible p → (x y : ℕ) → HasReachEntry tables p x → HasReachEntry tables p y → x ≡ y

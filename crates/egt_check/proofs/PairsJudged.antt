@@ -1,14 +1,8 @@
 -- All pairs of kings' squares: each comes once in the order of a side, and they hold all codes.
-use Rattle.std.proofs.Common.{◌≡◌, ℕ, zero, suc, ◌+◌, ◌*◌, ◌/◌, ◌%◌, ◌<◌, ◌≤◌, ◌∙◌, arith, refl, ap, subst}
-use Rattle.std.proofs.Math.Nat.{mod-eq_of_lt, div-eq_of_lt, mul-add-div_right, mul-add-mod_self_right, mul-le-mul_right}
-use Rattle.egt_board.specs.declared.man.Kind.{Kind}
-use Rattle.egt_board.specs.declared.man.Side.{Side}
-use Rattle.egt_board.specs.declared.man.Side.TheVariants.{White, Black}
-use Rattle.egt_index.specs.Numbers.{code_of, number_of, places}
-use Rattle.egt_index.specs.Scales.{kind_digits}
-use Rattle.egt_index.specs.ShelfCodes.{number_in}
-use Rattle.egt_index.specs.Size.{size_of}
-use Rattle.egt_check.specs.PairOrder.{nth_pair}
+use Rattle.egt_check.specs.Prelude.{◌≡◌, ℕ, zero, suc, ◌+◌, ◌*◌, ◌/◌, ◌%◌, ◌<◌, ◌≤◌, ◌∙◌, arith, refl, ap, subst}
+use Rattle.egt_check.specs.Prelude.{mod-eq_of_lt, div-eq_of_lt, mul-add-div_right, mul-add-mod_self_right}
+use Rattle.egt_check.specs.Prelude.{mul-le-mul_right, Kind, Side, White, Black, code_of, number_of, places, kind_digits}
+use Rattle.egt_check.specs.Prelude.{number_in, size_of, nth_pair}
 use Rattle.egt_check.proofs.TablePairs.{NumbersKeep, keeps_codes, keeps_halves, keeps_pair}
 
 some_kings : (kings n : ℕ) → n < 64 * kings → 0 < kings

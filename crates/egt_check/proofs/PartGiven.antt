@@ -1,28 +1,11 @@
 -- Where moves that zero lead to the positions with some men, and to all of them, the greatest score of the codes of
 -- these men is that of the moves.
-use Rattle.std.proofs.Common.{◌≡◌, ℕ, ◌≤◌, Bool, true, false, Some, refl, sym, ap, subst, inl, inr}
-use Rattle.std.proofs.lemmas.Bool.{false≢true}
-use Rattle.egt_board.specs.Man.{other_side}
-use Rattle.egt_board.specs.Settled.{SettlesTo}
-use Rattle.egt_board.specs.Setup.{Setup, IsAdmissible}
-use Rattle.egt_board.specs.declared.man.Side.{Side}
-use Rattle.egt_index.specs.Index.{IsIndex}
-use Rattle.egt_index.specs.Stood.{HasStand}
-use Rattle.egt_index.specs.TurnedMen.{IsSomeTurnedCode, IsSomeTurnedCodeWith}
-use Rattle.egt_index.specs.declared.stand.Stand.{Stand}
-use Rattle.egt_lanes.specs.Raised.{IsRaised}
-use Rattle.egt_lanes.specs.Scores.{zeroing_score}
-use Rattle.egt_moves.specs.Chess.{Zeroes}
-use Rattle.egt_moves.specs.Legal.{Leads}
-use Rattle.egt_moves.specs.declared.chess_move.Move.{Move}
-use Rattle.egt_table.specs.Table.{IsTable, TableValue}
-use Rattle.egt_entries.specs.declared.metric.Metric.{Metric}
-use Rattle.egt_entries.specs.declared.metric.Metric.TheVariants.{Mate, Zeroing}
-use Rattle.egt_steps.specs.Facts.{Facts}
-use Rattle.egt_check.specs.Given.{AreAlike, AreGiven, HasScores, IsGiven}
-use Rattle.egt_entries.specs.Tables.{HasEntry, Tables, entry_at}
-use Rattle.egt_check.specs.Worth.{HasBytes, IsBestWith, IsScoreWith, score_at}
-use Rattle.egt_steps.proofs.Leaping.{settled_index}
+use Rattle.egt_check.specs.Prelude.{◌≡◌, ℕ, ◌≤◌, Bool, true, false, Some, refl, sym, ap, subst, inl, inr, false≢true}
+use Rattle.egt_check.specs.Prelude.{other_side, SettlesTo, Setup, IsAdmissible, Side, IsIndex, HasStand}
+use Rattle.egt_check.specs.Prelude.{IsSomeTurnedCode, IsSomeTurnedCodeWith, Stand, IsRaised, zeroing_score, Zeroes}
+use Rattle.egt_check.specs.Prelude.{Leads, Move, IsTable, TableValue, Metric, Mate, Zeroing, Facts, AreAlike, AreGiven}
+use Rattle.egt_check.specs.Prelude.{HasScores, IsGiven, HasEntry, Tables, entry_at, HasBytes, IsBestWith, IsScoreWith}
+use Rattle.egt_check.specs.Prelude.{score_at, settled_index}
 use Rattle.egt_check.proofs.ByteJudged.{zeroing_above}
 use Rattle.egt_check.proofs.QuietGiven.{low_score}
 use Rattle.egt_check.proofs.Worth.{AreWhole, SpellsSettled, Turning, best_with}

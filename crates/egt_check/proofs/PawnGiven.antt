@@ -1,50 +1,20 @@
 -- The greatest scores of the codes after advances of a pawn, after captures by which he is promoted, and after captures in
 -- passing are those of these moves.
-use Rattle.std.proofs.Common.{◌≡◌, ℕ, ◌<◌, ◌==◌, ◌⊎◌, ◌↔◌, if◌then◌else◌, max, Bool, true, false, IsTrue, Option, Some, None, IsSome, refl, sym, ap, ◌∙◌, subst, inl, inr}
-use Rattle.std.proofs.lemmas.Bool.{and_parts, false≢true}
-use Rattle.std.proofs.lemmas.Bool.Decides.{eqb_tells}
+use Rattle.egt_check.specs.Prelude.{◌≡◌, ℕ, ◌<◌, ◌==◌, ◌⊎◌, ◌↔◌, if◌then◌else◌, max, Bool, true, false, IsTrue, Option}
+use Rattle.egt_check.specs.Prelude.{Some, None, IsSome, refl, sym, ap, ◌∙◌, subst, inl, inr, and_parts, false≢true}
+use Rattle.egt_check.specs.Prelude.{eqb_tells, Reaches-on_board, other_side, ahead, last_rank, IsHeld, SettlesTo, Setup}
+use Rattle.egt_check.specs.Prelude.{rank_of, Kind, P, Man, Side, sides_differ, HasStand, IsSomeTurnedCode}
+use Rattle.egt_check.specs.Prelude.{IsSomeTurnedCodeWith, ShelfMen, Stand, IsRaised, zeroing_score, raised_as, Zeroes}
+use Rattle.egt_check.specs.Prelude.{Captures, Leads, arriving, is_pawn, promotes, Move, TableValue, Mate, Facts}
+use Rattle.egt_check.specs.Prelude.{AreGiven, AreLeapCodes, ArePassingCodes, AreStepCodes, IsPassingCapture}
+use Rattle.egt_check.specs.Prelude.{IsPassingFrom, LeavesTarget, AreAdvancedCodes, ArePromotedCodes, IsAdvance}
+use Rattle.egt_check.specs.Prelude.{IsAdvanceFrom, IsClassAfter, IsPromotingCapture, IsPromotingCaptureFrom, officer_of}
+use Rattle.egt_check.specs.Prelude.{stand_after, stand_in, IsTableAfter, IsTableOf, IsClear, IsClassOf, IsPastKings}
+use Rattle.egt_check.specs.Prelude.{left_of, stand_left, Tables, score_at, unpromoted, promoted, AreTwo, are_in}
 use Rattle.std.specs.FinMap as placement
-use Rattle.egt_board.specs.AttackLines.{Reaches-on_board}
-use Rattle.egt_board.specs.Man.{other_side}
-use Rattle.egt_board.specs.Pawn.{ahead, last_rank}
-use Rattle.egt_board.specs.Placement.{IsHeld}
-use Rattle.egt_board.specs.Settled.{SettlesTo}
-use Rattle.egt_board.specs.Setup.{Setup}
-use Rattle.egt_board.specs.Square.{rank_of}
-use Rattle.egt_board.specs.declared.man.Kind.{Kind}
-use Rattle.egt_board.specs.declared.man.Kind.TheVariants.{P}
-use Rattle.egt_board.specs.declared.man.Man.{Man}
-use Rattle.egt_board.specs.declared.man.Side.{Side}
-use Rattle.egt_board.proofs.Sides.{sides_differ}
-use Rattle.egt_index.specs.Stood.{HasStand}
-use Rattle.egt_index.specs.TurnedMen.{IsSomeTurnedCode, IsSomeTurnedCodeWith}
-use Rattle.egt_index.specs.declared.shelf_codes.ShelfMen.{ShelfMen}
-use Rattle.egt_index.specs.declared.stand.Stand.{Stand}
-use Rattle.egt_lanes.specs.Raised.{IsRaised}
-use Rattle.egt_lanes.specs.Scores.{zeroing_score}
-use Rattle.egt_lanes.proofs.Raising.{raised_as}
-use Rattle.egt_moves.specs.Chess.{Zeroes}
-use Rattle.egt_moves.specs.Exchange.{Captures}
-use Rattle.egt_moves.specs.Legal.{Leads}
-use Rattle.egt_moves.specs.Promotion.{arriving, is_pawn, promotes}
-use Rattle.egt_moves.specs.declared.chess_move.Move.{Move}
-use Rattle.egt_table.specs.Table.{TableValue}
-use Rattle.egt_entries.specs.declared.metric.Metric.TheVariants.{Mate}
-use Rattle.egt_steps.specs.Facts.{Facts}
-use Rattle.egt_check.specs.Given.{AreGiven}
-use Rattle.egt_steps.specs.InPassing.{AreLeapCodes, ArePassingCodes, AreStepCodes, IsPassingCapture, IsPassingFrom, LeavesTarget}
-use Rattle.egt_steps.specs.PawnMoves.{AreAdvancedCodes, ArePromotedCodes, IsAdvance, IsAdvanceFrom, IsClassAfter, IsPromotingCapture, IsPromotingCaptureFrom, officer_of, stand_after, stand_in}
-use Rattle.egt_check.specs.Taken.{IsTableAfter, IsTableOf}
-use Rattle.egt_steps.specs.QuietStands.{IsClear}
-use Rattle.egt_steps.specs.Takings.{IsClassOf, IsPastKings, left_of, stand_left}
-use Rattle.egt_entries.specs.Tables.{Tables}
-use Rattle.egt_check.specs.Worth.{score_at}
 use Rattle.egt_check.proofs.ByteJudged.{zeroing_max}
 use Rattle.egt_check.proofs.EitherGiven.{same_given, union_given}
-use Rattle.egt_steps.proofs.LeftTargets.{unpromoted}
 use Rattle.egt_check.proofs.PartGiven.{Parts, PartsWith, part_given, part_given_with}
-use Rattle.egt_steps.proofs.PawnCaptures.{promoted}
-use Rattle.egt_steps.proofs.TwoNonKings.{AreTwo, are_in}
 use Rattle.egt_check.proofs.Worth.{AreWhole, SpellsSettled, Turning}
 
 -- either square is on the board

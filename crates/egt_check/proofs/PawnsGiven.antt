@@ -1,41 +1,17 @@
 -- The greatest scores of all moves of pawns: their advances, and the captures by which they are promoted.
-use Rattle.std.proofs.Common.{◌≡◌, ◌≢◌, ℕ, ◌⊎◌, max, Bool, true, false, Option, Some, None, IfSome, arith, refl, sym, ap, ◌∙◌, inl, inr, subst}
-use Rattle.egt_board.specs.Attack.{king_of}
-use Rattle.egt_board.specs.Man.{other_side}
-use Rattle.egt_board.specs.Placement.{Stands, IsHeld, one_man}
-use Rattle.egt_board.specs.Setup.{Setup}
-use Rattle.egt_board.specs.declared.man.Kind.{Kind}
-use Rattle.egt_board.specs.declared.man.Kind.TheVariants.{Q, R, B, N, P, K}
-use Rattle.egt_board.specs.declared.man.Man.{Man}
-use Rattle.egt_board.specs.declared.man.Side.{Side}
-use Rattle.egt_board.specs.declared.man.Side.TheVariants.{White, Black}
-use Rattle.egt_index.specs.Stood.{HasStand}
-use Rattle.egt_index.specs.declared.shelf_codes.ShelfMen.{ShelfMen}
-use Rattle.egt_lanes.specs.Raised.{IsRaised}
-use Rattle.egt_lanes.specs.Scores.{zeroing_score}
-use Rattle.egt_moves.specs.Chess.{Zeroes}
-use Rattle.egt_moves.specs.Legal.{Leads}
-use Rattle.egt_moves.specs.Promotion.{FitsPromotion, IsOfficer, is_pawn, promotes}
-use Rattle.egt_moves.specs.declared.chess_move.Move.{Move}
-use Rattle.egt_moves.proofs.Admissible.{pawn_told}
-use Rattle.egt_table.specs.Table.{TableValue}
+use Rattle.egt_check.specs.Prelude.{◌≡◌, ◌≢◌, ℕ, ◌⊎◌, max, Bool, true, false, Option, Some, None, IfSome, arith, refl}
+use Rattle.egt_check.specs.Prelude.{sym, ap, ◌∙◌, inl, inr, subst, king_of, other_side, Stands, IsHeld, one_man, Setup}
+use Rattle.egt_check.specs.Prelude.{Kind, Q, R, B, N, P, K, Man, Side, White, Black, HasStand, ShelfMen, IsRaised}
+use Rattle.egt_check.specs.Prelude.{zeroing_score, Zeroes, Leads, FitsPromotion, IsOfficer, is_pawn, promotes, Move}
+use Rattle.egt_check.specs.Prelude.{pawn_told, TableValue, Mate, stand_on, AreGiven, AreLeapCodes, ArePassingCodes}
+use Rattle.egt_check.specs.Prelude.{AreStepCodes, IsOfFourKinds, IsPassingFrom, AreAdvancedCodes, ArePromotedCodes}
+use Rattle.egt_check.specs.Prelude.{IsAdvanceFrom, IsPromotingCaptureFrom, officer_of, IsTableAfter, IsTableOf}
+use Rattle.egt_check.specs.Prelude.{men_swapped, ArePawnScores, AreRaisedByPawns, HasPromotion, HasPromotions}
+use Rattle.egt_check.specs.Prelude.{IsPromotionScore, IsRaisedByPawn, Tables, IsPlainCapture, score_at, Promotion}
+use Rattle.egt_check.specs.Prelude.{Promotions, AreTwo, are_in, who}
 use Rattle.egt_table.specs.declared.column.Column.TheVariants as columns
-use Rattle.egt_entries.specs.declared.metric.Metric.TheVariants.{Mate}
-use Rattle.egt_steps.specs.Stands.{stand_on}
-use Rattle.egt_check.specs.Given.{AreGiven}
-use Rattle.egt_steps.specs.InPassing.{AreLeapCodes, ArePassingCodes, AreStepCodes, IsOfFourKinds, IsPassingFrom}
-use Rattle.egt_steps.specs.PawnMoves.{AreAdvancedCodes, ArePromotedCodes, IsAdvanceFrom, IsPromotingCaptureFrom, officer_of}
-use Rattle.egt_check.specs.Taken.{IsTableAfter, IsTableOf}
-use Rattle.egt_blocks.specs.Taken.{men_swapped}
-use Rattle.egt_check.specs.PawnScores.{ArePawnScores, AreRaisedByPawns, HasPromotion, HasPromotions, IsPromotionScore, IsRaisedByPawn}
-use Rattle.egt_entries.specs.Tables.{Tables}
-use Rattle.egt_steps.specs.Takings.{IsPlainCapture}
-use Rattle.egt_check.specs.Worth.{score_at}
-use Rattle.egt_check.specs.declared.pawn_scores.Promotion.{Promotion}
-use Rattle.egt_check.specs.declared.pawn_scores.Promotions.{Promotions}
 use Rattle.egt_check.proofs.EitherGiven.{same_given, union_given}
 use Rattle.egt_check.proofs.ByteJudged.{zeroing_max}
-use Rattle.egt_steps.proofs.TwoNonKings.{AreTwo, are_in, who}
 
 -- ---- moves of two kinds that zero
 

@@ -1,35 +1,12 @@
 -- The tables of the classes that promotions lead to, wherever the kings stand.
-use Rattle.std.proofs.Common.{◌≡◌, ◌≢◌, ℕ, ◌<◌, Bool, true, false, [], ◌∷◌, Option, Some, None, IfSome, arith, sym, ap, ◌∙◌, subst}
-use Rattle.egt_board.specs.Attack.{king_of}
-use Rattle.egt_board.specs.Setup.{Setup}
-use Rattle.egt_board.specs.Turned.{turned_man}
-use Rattle.egt_board.specs.declared.man.Side.TheVariants.{White, Black}
-use Rattle.egt_class.specs.Material.{material_of}
-use Rattle.egt_class.specs.Membership.{IsOf}
-use Rattle.egt_class.specs.Pair.{AreNonKings}
-use Rattle.egt_index.specs.Size.{men_in_order}
-use Rattle.egt_board.specs.declared.man.Man.{Man}
-use Rattle.egt_index.specs.ShelfCodes.{AreMenOf}
-use Rattle.egt_index.specs.declared.shelf_codes.ShelfMen.{ShelfMen}
-use Rattle.egt_moves.specs.Promotion.{arriving}
-use Rattle.egt_table.specs.Table.{HasColumn, TableValue}
-use Rattle.egt_table.specs.declared.column.Column.{Column}
-use Rattle.egt_blocks.specs.Blocks.{with_kings}
-use Rattle.egt_check.specs.MoveScores.{AreChildren, AreFourMen, AreTablesOf}
-use Rattle.egt_entries.specs.Library.{IsShelved}
-use Rattle.egt_check.specs.Parts.{column_of, promotions_in, some_promotions_in, table_in, tables_in}
-use Rattle.egt_steps.specs.PawnMoves.{IsClassAfter, men_after}
-use Rattle.egt_check.specs.Taken.{IsTableAfter}
-use Rattle.egt_blocks.specs.Taken.{men_swapped}
-use Rattle.egt_check.specs.PawnScores.{AreNamed, ArePromotionsOf, HasPromotion, HasPromotions, IsPromotionOf}
-use Rattle.egt_entries.specs.Tables.{Tables, beside}
-use Rattle.egt_check.specs.Worth.{HasBytes}
-use Rattle.egt_check.specs.declared.move_scores.Children.{Children}
-use Rattle.egt_check.specs.declared.move_scores.FourMen.{FourMen}
-use Rattle.egt_check.specs.declared.part.Part.{Part}
-use Rattle.egt_check.specs.declared.part.Part.TheVariants.{Values, Reach}
-use Rattle.egt_check.specs.declared.pawn_scores.Promotion.{Promotion}
-use Rattle.egt_check.specs.declared.pawn_scores.Promotions.{Promotions}
+use Rattle.egt_check.specs.Prelude.{◌≡◌, ◌≢◌, ℕ, ◌<◌, Bool, true, false, [], ◌∷◌, Option, Some, None, IfSome, arith}
+use Rattle.egt_check.specs.Prelude.{sym, ap, ◌∙◌, subst, king_of, Setup, turned_man, White, Black, material_of, IsOf}
+use Rattle.egt_check.specs.Prelude.{AreNonKings, men_in_order, Man, AreMenOf, ShelfMen, arriving, HasColumn, TableValue}
+use Rattle.egt_check.specs.Prelude.{Column, with_kings, AreChildren, AreFourMen, AreTablesOf, IsShelved, column_of}
+use Rattle.egt_check.specs.Prelude.{promotions_in, some_promotions_in, table_in, tables_in, IsClassAfter, men_after}
+use Rattle.egt_check.specs.Prelude.{IsTableAfter, men_swapped, AreNamed, ArePromotionsOf, HasPromotion, HasPromotions}
+use Rattle.egt_check.specs.Prelude.{IsPromotionOf, Tables, beside, HasBytes, Children, FourMen, Part, Values, Reach}
+use Rattle.egt_check.specs.Prelude.{Promotion, Promotions}
 use Rattle.egt_check.proofs.NearReading.{is_table_in}
 use Rattle.egt_check.proofs.TablePairs.{found_beside}
 

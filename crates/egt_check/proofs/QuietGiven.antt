@@ -1,27 +1,10 @@
 -- The greatest scores of the codes of quiet steps are those of the quiet moves.
-use Rattle.std.proofs.Common.{◌≡◌, ℕ, ◌%◌, ◌<◌, ◌≤◌, Bool, false, Some, arith, refl, sym, ap, inl, inr, subst}
-use Rattle.egt_board.specs.Man.{other_side}
-use Rattle.egt_board.specs.Setup.{Setup}
-use Rattle.egt_board.specs.declared.man.Side.{Side}
-use Rattle.egt_board.specs.declared.man.Side.TheVariants.{White, Black}
-use Rattle.egt_index.specs.Index.{IsIndex}
-use Rattle.egt_index.specs.Stood.{AllStand, HasStand, list_of}
-use Rattle.egt_index.specs.declared.shelf_codes.ShelfMen.{ShelfMen}
-use Rattle.egt_index.specs.declared.stand.Stand.{Stand}
-use Rattle.egt_lanes.specs.Raised.{IsRaised}
-use Rattle.egt_lanes.specs.Scores.{byte_score}
-use Rattle.egt_moves.specs.Chess.{Zeroes}
-use Rattle.egt_moves.specs.Legal.{Leads}
-use Rattle.egt_moves.specs.declared.chess_move.Move.{Move}
-use Rattle.egt_table.specs.Table.{IsTable, TableValue}
-use Rattle.egt_entries.specs.declared.metric.Metric.{Metric}
-use Rattle.egt_entries.specs.declared.metric.Metric.TheVariants.{Mate, Zeroing}
-use Rattle.egt_steps.specs.Stands.{stand_on, with_king}
-use Rattle.egt_steps.specs.Facts.{Facts}
-use Rattle.egt_check.specs.Given.{AreAlike, AreGiven, HasScores}
-use Rattle.egt_steps.specs.QuietStands.{AreQuietCodes, IsQuietStand}
-use Rattle.egt_entries.specs.Tables.{HasEntry, Tables, entry_at}
-use Rattle.egt_check.specs.Worth.{HasBytes, IsBestOf, score_at}
+use Rattle.egt_check.specs.Prelude.{◌≡◌, ℕ, ◌%◌, ◌<◌, ◌≤◌, Bool, false, Some, arith, refl, sym, ap, inl, inr, subst}
+use Rattle.egt_check.specs.Prelude.{other_side, Setup, Side, White, Black, IsIndex, AllStand, HasStand, list_of}
+use Rattle.egt_check.specs.Prelude.{ShelfMen, Stand, IsRaised, byte_score, Zeroes, Leads, Move, IsTable, TableValue}
+use Rattle.egt_check.specs.Prelude.{Metric, Mate, Zeroing, stand_on, with_king, Facts, AreAlike, AreGiven, HasScores}
+use Rattle.egt_check.specs.Prelude.{AreQuietCodes, IsQuietStand, HasEntry, Tables, entry_at, HasBytes, IsBestOf}
+use Rattle.egt_check.specs.Prelude.{score_at}
 use Rattle.egt_check.proofs.Worth.{AreWhole, Turning, best_of}
 
 pub low_score : (e : ℕ) → e < 254 → byte_score (e % 256) ≡ byte_score e

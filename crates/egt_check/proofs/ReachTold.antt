@@ -1,16 +1,8 @@
 -- What the column of the nearest mates shows of positions, as a function.
-use Rattle.std.proofs.Common.{◌≡◌, ◌≢◌, ℕ, zero, suc, ◌-◌, ◌≤◌, ◌↔◌, false, nat_lt, le-ltb, if◌then◌else◌, Option, Some, None, refl, sym, ap, ◌∙◌, subst, inl, inr, arith}
-use Rattle.std.proofs.lemmas.Bool.{cases_eq}
-use Rattle.egt_board.specs.Decided.{Decided}
-use Rattle.egt_board.specs.DecidedSetup.{decided_admissible}
-use Rattle.egt_board.specs.Images.{AreImages}
-use Rattle.egt_board.specs.Setup.{Setup, IsAdmissible}
-use Rattle.egt_index.specs.Index.{IsIndex}
-use Rattle.egt_table.specs.Table.{TableValue}
-use Rattle.egt_entries.specs.Entry.{longest}
-use Rattle.egt_steps.specs.Facts.{Facts}
-use Rattle.egt_entries.specs.Reach.{HasReachEntry, ShowsReach, ShowsReachOf}
-use Rattle.egt_entries.specs.Tables.{Tables, reach_at}
+use Rattle.egt_check.specs.Prelude.{◌≡◌, ◌≢◌, ℕ, zero, suc, ◌-◌, ◌≤◌, ◌↔◌, false, nat_lt, le-ltb, if◌then◌else◌, Option}
+use Rattle.egt_check.specs.Prelude.{Some, None, refl, sym, ap, ◌∙◌, subst, inl, inr, arith, cases_eq, Decided}
+use Rattle.egt_check.specs.Prelude.{decided_admissible, AreImages, Setup, IsAdmissible, IsIndex, TableValue, longest}
+use Rattle.egt_check.specs.Prelude.{Facts, HasReachEntry, ShowsReach, ShowsReachOf, Tables, reach_at}
 use Rattle.egt_check.proofs.Alike.{image_index}
 
 -- the number that an entry shows, if it shows one

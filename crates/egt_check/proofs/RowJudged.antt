@@ -1,17 +1,7 @@
 -- A row of entries, judged by the greatest bytes of the moves.
-use Rattle.std.proofs.Common.{◌≡◌, ◌∙◌, ℕ, ◌+◌, ◌-◌, ◌<◌, Bool, min, arith, ap, inl, inr, subst}
-use Rattle.std.specs.Int.{bit_at}
-use Rattle.egt_board.specs.declared.man.Side.{Side}
-use Rattle.egt_index.specs.Numbers.{code_of}
-use Rattle.egt_index.specs.Scales.{kind_digits, kind_less}
-use Rattle.egt_index.specs.ShelfCodes.{IsShelfOf, number_in, stand_with}
-use Rattle.egt_index.specs.TellsMen.{TellsMen}
-use Rattle.egt_index.specs.declared.shelf_codes.ShelfMen.{ShelfMen}
-use Rattle.egt_index.specs.declared.stand.Stand.{Stand}
-use Rattle.egt_lanes.specs.Raised.{IsRaised}
-use Rattle.egt_table.specs.Table.{TableValue}
-use Rattle.egt_table.specs.declared.column.Column.{Column}
-use Rattle.egt_check.specs.Worth.{column_score}
+use Rattle.egt_check.specs.Prelude.{◌≡◌, ◌∙◌, ℕ, ◌+◌, ◌-◌, ◌<◌, Bool, min, arith, ap, inl, inr, subst, bit_at, Side}
+use Rattle.egt_check.specs.Prelude.{code_of, kind_digits, kind_less, IsShelfOf, number_in, stand_with, TellsMen}
+use Rattle.egt_check.specs.Prelude.{ShelfMen, Stand, IsRaised, TableValue, Column, column_score}
 
 -- the greatest of one number is that number
 raised_alone : (In : ℕ → Type 0) (f : ℕ → ℕ) (v t : ℕ) → In t → ((u : ℕ) → In u → u ≡ t) → IsRaised 0 In f v → v ≡ f t

@@ -1,23 +1,11 @@
 -- The entries of a shelf, read by the last man's square.
-use Rattle.std.proofs.Common.{◌≡◌, ℕ, ◌+◌, ◌-◌, ◌*◌, ◌%◌, ◌<◌, ◌≤◌, ◌⊎◌, Bool, true, false, List, take, drop, arith, refl, sym, ap, ◌∙◌}
-use Rattle.std.specs.Prelude.{slice_index}
-use Rattle.std.proofs.lemmas.Bool.{false≢true}
-use Rattle.egt_board.specs.Images.{side_number}
-use Rattle.egt_board.specs.declared.man.Side.{Side}
-use Rattle.egt_class.specs.Material.{material_of}
-use Rattle.egt_index.specs.Numbers.{code_of, places}
-use Rattle.egt_index.specs.Scales.{kind_digits, kind_less}
-use Rattle.egt_index.specs.ShelfCodes.{IsShelf, IsWithin, number_in}
-use Rattle.egt_index.specs.Size.{has_target}
-use Rattle.egt_index.specs.declared.shelf_codes.ShelfMen.{ShelfMen}
-use Rattle.egt_index.proofs.Halves.{code_plain}
-use Rattle.egt_moves.specs.Promotion.{is_pawn}
-use Rattle.egt_table.specs.Table.{TableValue, entries_of}
-use Rattle.egt_table.specs.declared.column.Column.{Column}
+use Rattle.egt_check.specs.Prelude.{◌≡◌, ℕ, ◌+◌, ◌-◌, ◌*◌, ◌%◌, ◌<◌, ◌≤◌, ◌⊎◌, Bool, true, false, List, take, drop}
+use Rattle.egt_check.specs.Prelude.{arith, refl, sym, ap, ◌∙◌, slice_index, false≢true, side_number, Side, material_of}
+use Rattle.egt_check.specs.Prelude.{code_of, places, kind_digits, kind_less, IsShelf, IsWithin, number_in, has_target}
+use Rattle.egt_check.specs.Prelude.{ShelfMen, code_plain, is_pawn, TableValue, entries_of, Column, IsShelfRow}
+use Rattle.egt_check.specs.Prelude.{column_score, entry_score, bit_few, bit_of, code_in_shelf, pawn_digits}
+use Rattle.egt_check.specs.Prelude.{pawn_of_digits, piece_at, piece_digits, places_is, side_few}
 use Rattle.egt_table.specs.declared.column.Column.TheVariants as columns
-use Rattle.egt_blocks.specs.ShelfRow.{IsShelfRow}
-use Rattle.egt_check.specs.Worth.{column_score, entry_score}
-use Rattle.egt_blocks.proofs.ShelfRead.{bit_few, bit_of, code_in_shelf, pawn_digits, pawn_of_digits, piece_at, piece_digits, places_is, side_few}
 
 -- no position has no score
 pub no_score : (column : Column) → entry_score column 0 ≡ 0

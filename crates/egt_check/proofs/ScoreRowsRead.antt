@@ -1,30 +1,13 @@
 -- The scores of codes, read from rows and put in them.
-use Rattle.std.proofs.Common.{◌≡◌, ◌≢◌, ◌⊎◌, ℕ, ◌+◌, ◌*◌, ◌/◌, ◌%◌, ◌<◌, ◌≤◌, ◌∙◌, max, min, ◌-◌, if◌then◌else◌, ◌==◌, List, [], ◌∷◌, length, map, set, get_or, replicate, slice_index, arith, refl, sym, ap, subst, inl, inr}
-use Rattle.std.specs.Prelude.{slice_index_or}
-use Rattle.std.specs.Int.{bit_at}
-use Rattle.std.specs.List.{range_with_len}
-use Rattle.std.proofs.lemmas.Bool.{cases_eq, cases_lt}
-use Rattle.std.proofs.lemmas.Nat.Bits.{bit_at-lt}
-use Rattle.std.proofs.lemmas.List.{get_or-replicate, get_or-set_other, get_or-set_same, get_or_default}
-use Rattle.std.proofs.lemmas.List.FromFn.{get_or-map-range_with_len, length-map-range_with_len}
-use Rattle.std.proofs.lemmas.Nat.{div-add-mod', div_below, div-mul-add, mod-mul-add, mod_below}
-use Rattle.std.proofs.Math.ListN.{get_or-eq_default}
-use Rattle.std.proofs.lemmas.List.{length-replicate}
-use Rattle.egt_board.specs.Images.{side_number}
-use Rattle.egt_board.specs.SquareSet.{Has}
-use Rattle.egt_board.specs.Attack.{king_of}
-use Rattle.egt_board.specs.declared.man.Kind.TheVariants.{P}
-use Rattle.egt_board.specs.declared.man.Man.{Man}
-use Rattle.egt_board.specs.declared.man.Side.{Side}
-use Rattle.egt_board.specs.declared.man.Side.TheVariants.{White, Black}
-use Rattle.egt_board.specs.declared.square_set.SquareSet.{SquareSet}
-use Rattle.egt_index.specs.Numbers.{code_of, number_of, places}
-use Rattle.egt_index.specs.Scales.{kind_digits, kind_less}
-use Rattle.egt_index.specs.ShelfCodes.{AreMenOf, IsShelf, IsWithin, number_in}
-use Rattle.egt_index.specs.Size.{size_of}
-use Rattle.egt_index.specs.declared.shelf_codes.ShelfMen.{ShelfMen}
-use Rattle.egt_blocks.proofs.ShelfRead.{side_few, square_in}
-use Rattle.egt_blocks.specs.ShelfRow.{IsShelfRow}
+use Rattle.egt_check.specs.Prelude.{◌≡◌, ◌≢◌, ◌⊎◌, ℕ, ◌+◌, ◌*◌, ◌/◌, ◌%◌, ◌<◌, ◌≤◌, ◌∙◌, max, min, ◌-◌, if◌then◌else◌}
+use Rattle.egt_check.specs.Prelude.{◌==◌, List, [], ◌∷◌, length, map, set, get_or, replicate, slice_index, arith, refl}
+use Rattle.egt_check.specs.Prelude.{sym, ap, subst, inl, inr, slice_index_or, bit_at, range_with_len, cases_eq}
+use Rattle.egt_check.specs.Prelude.{cases_lt, bit_at-lt, get_or-replicate, get_or-set_other, get_or-set_same}
+use Rattle.egt_check.specs.Prelude.{get_or_default, get_or-map-range_with_len, length-map-range_with_len, div-add-mod'}
+use Rattle.egt_check.specs.Prelude.{div_below, div-mul-add, mod-mul-add, mod_below, get_or-eq_default, length-replicate}
+use Rattle.egt_check.specs.Prelude.{side_number, Has, king_of, P, Man, Side, White, Black, SquareSet, code_of}
+use Rattle.egt_check.specs.Prelude.{number_of, places, kind_digits, kind_less, AreMenOf, IsShelf, IsWithin, number_in}
+use Rattle.egt_check.specs.Prelude.{size_of, ShelfMen, side_few, square_in, IsShelfRow}
 use Rattle.egt_check.proofs.ByteJudged.{if_not, if_same}
 use Rattle.egt_check.specs.ScoreRows.{AreWholeRows, IsLaneIn, IsMaskOf, score_of, scores_in}
 

@@ -1,23 +1,10 @@
 -- Scores of draws, put at a shelf's codes that are indexes.
-use Rattle.std.proofs.Common.{◌≡◌, ◌≢◌, ◌∙◌, ◌⊎◌, ℕ, ◌+◌, ◌*◌, ◌-◌, ◌/◌, ◌%◌, ◌<◌, ◌≤◌, List, replicate, slice_index, arith, refl, sym, ap, subst, inl, inr}
-use Rattle.std.specs.Int.{bit_at}
-use Rattle.std.proofs.lemmas.Bool.{cases_eq}
-use Rattle.std.proofs.lemmas.List.{get_or-replicate}
-use Rattle.std.proofs.lemmas.Nat.{div-add-mod', div_below, mod_below}
-use Rattle.std.proofs.lemmas.Nat.Bits.{bit_at-zero, bit_at_cat_high, bit_at_cat_low}
-use Rattle.egt_board.specs.Images.{side_number}
-use Rattle.egt_board.specs.SquareSet.{Has}
-use Rattle.egt_board.specs.declared.man.Side.{Side}
-use Rattle.egt_board.specs.declared.man.Side.TheVariants.{White, Black}
-use Rattle.egt_board.specs.declared.square_set.SquareSet.{SquareSet}
-use Rattle.egt_index.specs.Index.{IsVoid}
-use Rattle.egt_index.specs.Numbers.{code_of, number_of, places}
-use Rattle.egt_index.specs.Scales.{kind_digits, kind_less}
-use Rattle.egt_index.specs.ShelfCodes.{AreIndexed, number_in}
-use Rattle.egt_index.specs.Size.{size_of}
-use Rattle.egt_index.specs.declared.shelf_codes.ShelfMen.{ShelfMen}
-use Rattle.egt_blocks.proofs.ShelfRead.{square_in}
-use Rattle.egt_check.specs.ScoreRows.{AreDrawnOrNone, CodeScores, HasNoVoidScore, IsDrawnIndex, IsLaneIn}
+use Rattle.egt_check.specs.Prelude.{◌≡◌, ◌≢◌, ◌∙◌, ◌⊎◌, ℕ, ◌+◌, ◌*◌, ◌-◌, ◌/◌, ◌%◌, ◌<◌, ◌≤◌, List, replicate}
+use Rattle.egt_check.specs.Prelude.{slice_index, arith, refl, sym, ap, subst, inl, inr, bit_at, cases_eq}
+use Rattle.egt_check.specs.Prelude.{get_or-replicate, div-add-mod', div_below, mod_below, bit_at-zero, bit_at_cat_high}
+use Rattle.egt_check.specs.Prelude.{bit_at_cat_low, side_number, Has, Side, White, Black, SquareSet, IsVoid, code_of}
+use Rattle.egt_check.specs.Prelude.{number_of, places, kind_digits, kind_less, AreIndexed, number_in, size_of, ShelfMen}
+use Rattle.egt_check.specs.Prelude.{square_in, AreDrawnOrNone, CodeScores, HasNoVoidScore, IsDrawnIndex, IsLaneIn}
 
 -- ---- bits a rank further on
 

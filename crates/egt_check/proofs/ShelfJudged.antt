@@ -1,16 +1,6 @@
 -- The positions of a shelf, by what a spread tells, and the judgement of their entries.
-use Rattle.std.proofs.Common.{◌≡◌, ℕ, None, subst}
-use Rattle.egt_board.specs.Setup.{Setup}
-use Rattle.egt_index.specs.Code.{Spells}
-use Rattle.egt_index.specs.Index.{IsVoid}
-use Rattle.egt_table.specs.Table.{TableValue}
-use Rattle.egt_entries.specs.declared.metric.Metric.{Metric}
-use Rattle.egt_entries.specs.declared.metric.Metric.TheVariants.{Mate, Zeroing}
-use Rattle.egt_entries.specs.declared.by_metric.ByMetric.{ByMetric}
-use Rattle.egt_entries.specs.Judged.{Finds}
-use Rattle.egt_entries.specs.Rules.{IsJudged}
-use Rattle.egt_entries.specs.Score.{IsDue, number_at}
-use Rattle.egt_entries.specs.Tables.{Tables, ShowsOf, entry_at}
+use Rattle.egt_check.specs.Prelude.{◌≡◌, ℕ, None, subst, Setup, Spells, IsVoid, TableValue, Metric, Mate, Zeroing}
+use Rattle.egt_check.specs.Prelude.{ByMetric, Finds, IsJudged, IsDue, number_at, Tables, ShowsOf, entry_at}
 use Rattle.egt_check.proofs.FirstRule.{judged}
 
 -- entries that are due are right

@@ -1,17 +1,11 @@
 -- The places of a library.
-use Rattle.std.proofs.Common.{◌≡◌, ◌≢◌, ℕ, zero, suc, ◌+◌, ◌-◌, length-append, ◌<◌, ◌⊎◌, inl, inr, true, false, eqb, List, [], ◌∷◌, ◌++◌, length, get_or, set, Option, Some, None, refl, sym, ap, subst, ◌∙◌, arith}
-use Rattle.std.specs.Option.{IsSome, IfSome}
-use Rattle.std.specs.List.{Contains}
-use Rattle.std.proofs.lemmas.Bool.{cases_lt, ne_eqb, false≢true}
-use Rattle.std.proofs.lemmas.List.{get_or-set_other, get_or-set_same, length-set, get_or_append_left, get_or-append_right}
-use Rattle.std.proofs.lemmas.Bool.Decides.{eqb_tells}
-use Rattle.egt_class.specs.Children.{children_of}
-use Rattle.egt_table.specs.Table.{TableValue, IsTable}
-use Rattle.egt_entries.specs.declared.reject.Reject.{Reject}
-use Rattle.egt_entries.specs.declared.reject.Reject.TheVariants.{Missing, NoReach, Rejected, AlreadyThere}
-use Rattle.egt_entries.specs.Library.{IsLibrary, IsRefused, IsShelved, IsTurnedAway, ReachesDown}
-use Rattle.egt_entries.specs.Tables.{Tables, table_at, beside, HasChildren}
-use Rattle.egt_entries.specs.Truth.{IsTrueTable, HasTrueChildren}
+use Rattle.egt_check.specs.Prelude.{◌≡◌, ◌≢◌, ℕ, zero, suc, ◌+◌, ◌-◌, length-append, ◌<◌, ◌⊎◌, inl, inr, true, false}
+use Rattle.egt_check.specs.Prelude.{eqb, List, [], ◌∷◌, ◌++◌, length, get_or, set, Option, Some, None, refl, sym, ap}
+use Rattle.egt_check.specs.Prelude.{subst, ◌∙◌, arith, IsSome, IfSome, Contains, cases_lt, ne_eqb, false≢true}
+use Rattle.egt_check.specs.Prelude.{get_or-set_other, get_or-set_same, length-set, get_or_append_left}
+use Rattle.egt_check.specs.Prelude.{get_or-append_right, eqb_tells, children_of, TableValue, IsTable, Reject, Missing}
+use Rattle.egt_check.specs.Prelude.{NoReach, Rejected, AlreadyThere, IsLibrary, IsRefused, IsShelved, IsTurnedAway}
+use Rattle.egt_check.specs.Prelude.{ReachesDown, Tables, table_at, beside, HasChildren, IsTrueTable, HasTrueChildren}
 use Rattle.egt_check.proofs.Finding.{lower, beside_own, beside_other}
 
 abbrev pub Places : Type 0

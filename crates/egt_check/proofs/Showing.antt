@@ -1,16 +1,7 @@
 -- What tables show of positions.
-use Rattle.std.proofs.Common.{◌≡◌, ℕ, Option, Some, None, refl, sym, ap, subst, ◌∙◌, arith}
-use Rattle.egt_board.specs.Setup.{Setup, IsAdmissible}
-use Rattle.egt_index.specs.Index.{IsIndex}
-use Rattle.egt_moves.specs.Arena.{Value, Win, Loss, Draw}
-use Rattle.egt_moves.specs.Chess.{chess}
-use Rattle.egt_entries.specs.declared.metric.Metric.{Metric}
-use Rattle.egt_entries.specs.declared.outcome.Outcome.{Outcome}
-use Rattle.egt_entries.specs.Entry.{Shows}
-use Rattle.egt_steps.specs.Facts.{Facts}
-use Rattle.egt_entries.specs.Score.{IsShownBy}
-use Rattle.egt_entries.specs.Tables.{Tables, entry_at, HasEntry, ShowsOf}
-use Rattle.egt_entries.proofs.Due.{IsOne, IsShownOf}
+use Rattle.egt_check.specs.Prelude.{◌≡◌, ℕ, Option, Some, None, refl, sym, ap, subst, ◌∙◌, arith, Setup, IsAdmissible}
+use Rattle.egt_check.specs.Prelude.{IsIndex, Value, Win, Loss, Draw, chess, Metric, Outcome, Shows, Facts, IsShownBy}
+use Rattle.egt_check.specs.Prelude.{Tables, entry_at, HasEntry, ShowsOf, IsOne, IsShownOf}
 
 -- an entry shows one value
 pub shows_once : (x : ℕ) (v w : Value) → Shows x v → Shows x w → v ≡ w

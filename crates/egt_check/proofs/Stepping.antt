@@ -1,18 +1,8 @@
 -- What a legal move says, by the entries of its successor.
-use Rattle.std.proofs.Common.{◌≡◌, ◌↔◌, Bool, IsTrue, Option, subst}
-use Rattle.egt_board.specs.Setup.{Setup, IsAdmissible}
-use Rattle.egt_moves.specs.declared.chess_move.Move.{Move}
-use Rattle.egt_moves.specs.Chess.{Zeroes}
-use Rattle.egt_moves.specs.DecidedMoves.{leads_to_one}
-use Rattle.egt_moves.specs.Legal.{Leads}
-use Rattle.egt_entries.specs.declared.metric.Metric.{Metric}
-use Rattle.egt_entries.specs.declared.metric.Metric.TheVariants.{Mate, Zeroing}
-use Rattle.egt_entries.specs.declared.by_metric.ByMetric.{ByMetric}
-use Rattle.egt_entries.specs.declared.outcome.Outcome.{Outcome}
-use Rattle.egt_steps.specs.Facts.{Facts}
-use Rattle.egt_entries.specs.Score.{number_at, IsShownBy, IsSaid, score_of, Scores, zeroing_said}
-use Rattle.egt_entries.specs.Tables.{Tables, HasEntry, ShowsOf}
-use Rattle.egt_entries.proofs.Due.{mate_said, zeroing_is_said}
+use Rattle.egt_check.specs.Prelude.{◌≡◌, ◌↔◌, Bool, IsTrue, Option, subst, Setup, IsAdmissible, Move, Zeroes}
+use Rattle.egt_check.specs.Prelude.{leads_to_one, Leads, Metric, Mate, Zeroing, ByMetric, Outcome, Facts, number_at}
+use Rattle.egt_check.specs.Prelude.{IsShownBy, IsSaid, score_of, Scores, zeroing_said, Tables, HasEntry, ShowsOf}
+use Rattle.egt_check.specs.Prelude.{mate_said, zeroing_is_said}
 use Rattle.egt_check.proofs.Showing.{one_shown, shown_of}
 
 -- the entries of the position that the move leads to, what they show, and whether the move zeroes

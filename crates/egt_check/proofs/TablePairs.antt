@@ -1,29 +1,10 @@
 -- Whole tables of classes with two men beside the kings: what holds at all codes, shelf by shelf, and the tables that moves lead to.
-use Rattle.std.proofs.Common.{◌≡◌, ◌≢◌, ℕ, ◌+◌, ◌-◌, ◌*◌, ◌/◌, ◌%◌, ◌<◌, ◌≤◌, ◌⊎◌, Bool, ne_eqb, refl, inl, inr, Some, None, sym, ap, ◌∙◌, subst, arith}
-use Rattle.std.proofs.lemmas.Bool.{cases_lt}
-use Rattle.std.proofs.Math.Nat.{mul-le-mul_right}
-use Rattle.egt_board.specs.Setup.{Setup}
-use Rattle.egt_board.specs.Turned.{turned_man}
-use Rattle.egt_board.specs.Images.{side_number}
-use Rattle.egt_board.specs.declared.man.Kind.{Kind}
-use Rattle.egt_board.specs.declared.man.Kind.TheVariants.{Q, R, B, N, P, K}
-use Rattle.egt_board.specs.declared.man.Man.{Man}
-use Rattle.egt_board.specs.declared.man.Side.{Side}
-use Rattle.egt_board.specs.declared.man.Side.TheVariants.{White, Black}
-use Rattle.egt_class.specs.Membership.{IsOf}
-use Rattle.egt_class.specs.Pair.{AreNonKings}
-use Rattle.egt_index.specs.LoneCodes.{IsLoneMan}
-use Rattle.egt_index.specs.Numbers.{code_of, number_of, places}
-use Rattle.egt_index.specs.Scales.{kind_digits}
-use Rattle.egt_index.specs.ShelfCodes.{number_in}
-use Rattle.egt_index.specs.Size.{size_of}
-use Rattle.egt_table.specs.Table.{HasColumn, TableValue}
-use Rattle.egt_check.specs.declared.part.Part.{Part}
-use Rattle.egt_check.specs.Parts.{column_of, table_in, tables_in}
-use Rattle.egt_entries.specs.Library.{IsShelved}
-use Rattle.egt_entries.specs.Tables.{Tables, beside}
-use Rattle.egt_check.specs.Taken.{IsTableOf}
-use Rattle.egt_check.specs.Worth.{HasBytes}
+use Rattle.egt_check.specs.Prelude.{◌≡◌, ◌≢◌, ℕ, ◌+◌, ◌-◌, ◌*◌, ◌/◌, ◌%◌, ◌<◌, ◌≤◌, ◌⊎◌, Bool, ne_eqb, refl, inl, inr}
+use Rattle.egt_check.specs.Prelude.{Some, None, sym, ap, ◌∙◌, subst, arith, cases_lt, mul-le-mul_right, Setup}
+use Rattle.egt_check.specs.Prelude.{turned_man, side_number, Kind, Q, R, B, N, P, K, Man, Side, White, Black, IsOf}
+use Rattle.egt_check.specs.Prelude.{AreNonKings, IsLoneMan, code_of, number_of, places, kind_digits, number_in, size_of}
+use Rattle.egt_check.specs.Prelude.{HasColumn, TableValue, Part, column_of, table_in, tables_in, IsShelved, Tables}
+use Rattle.egt_check.specs.Prelude.{beside, IsTableOf, HasBytes}
 use Rattle.egt_check.proofs.Finding.{beside_other}
 use Rattle.egt_check.proofs.NearReading.{found_in, is_table_in}
 

@@ -1,31 +1,11 @@
 -- The greatest scores of the codes after captures are those of the captures.
-use Rattle.std.proofs.Common.{◌≡◌, ℕ, ◌<◌, ◌⊎◌, ◌↔◌, if◌then◌else◌, max, Bool, true, false, refl, sym, ap, ◌∙◌, inl, inr, subst}
-use Rattle.egt_board.specs.AttackLines.{Reaches-on_board}
-use Rattle.egt_board.specs.Man.{other_side}
-use Rattle.egt_board.specs.Setup.{Setup, IsAdmissible}
-use Rattle.egt_board.specs.declared.man.Man.{Man}
-use Rattle.egt_board.specs.declared.man.Side.{Side}
-use Rattle.egt_board.specs.declared.man.Side.TheVariants.{White, Black}
-use Rattle.egt_index.specs.Stood.{AllStand, HasStand, list_of}
-use Rattle.egt_index.specs.TurnedMen.{IsSomeTurnedCode}
-use Rattle.egt_index.specs.declared.shelf_codes.ShelfMen.{ShelfMen}
-use Rattle.egt_index.specs.declared.stand.Stand.{Stand}
-use Rattle.egt_lanes.specs.Raised.{IsRaised}
-use Rattle.egt_lanes.specs.Scores.{zeroing_score}
-use Rattle.egt_lanes.proofs.Raising.{raised_as}
-use Rattle.egt_moves.specs.DecidedMoves.{leads_to_one}
-use Rattle.egt_moves.specs.Legal.{Leads}
-use Rattle.egt_moves.specs.declared.chess_move.Move.{Move}
-use Rattle.egt_table.specs.Table.{TableValue}
-use Rattle.egt_entries.specs.declared.metric.Metric.TheVariants.{Mate}
-use Rattle.egt_steps.specs.Stands.{IsBesideKing, stand_on, with_king}
-use Rattle.egt_steps.specs.Facts.{Facts}
-use Rattle.egt_check.specs.Given.{AreGiven}
-use Rattle.egt_check.specs.Taken.{IsTableOf}
-use Rattle.egt_blocks.specs.Taken.{AreLeftCodes, IsLastTaken, men_swapped}
-use Rattle.egt_steps.specs.Takings.{IsClassOf, IsPlainCapture, IsTaken, Left, left_of, stand_left}
-use Rattle.egt_entries.specs.Tables.{Tables}
-use Rattle.egt_check.specs.Worth.{score_at}
+use Rattle.egt_check.specs.Prelude.{◌≡◌, ℕ, ◌<◌, ◌⊎◌, ◌↔◌, if◌then◌else◌, max, Bool, true, false, refl, sym, ap, ◌∙◌}
+use Rattle.egt_check.specs.Prelude.{inl, inr, subst, Reaches-on_board, other_side, Setup, IsAdmissible, Man, Side}
+use Rattle.egt_check.specs.Prelude.{White, Black, AllStand, HasStand, list_of, IsSomeTurnedCode, ShelfMen, Stand}
+use Rattle.egt_check.specs.Prelude.{IsRaised, zeroing_score, raised_as, leads_to_one, Leads, Move, TableValue, Mate}
+use Rattle.egt_check.specs.Prelude.{IsBesideKing, stand_on, with_king, Facts, AreGiven, IsTableOf, AreLeftCodes}
+use Rattle.egt_check.specs.Prelude.{IsLastTaken, men_swapped, IsClassOf, IsPlainCapture, IsTaken, Left, left_of}
+use Rattle.egt_check.specs.Prelude.{stand_left, Tables, score_at}
 use Rattle.egt_check.proofs.ByteJudged.{zeroing_max}
 use Rattle.egt_check.proofs.EitherGiven.{union_given}
 use Rattle.egt_check.proofs.PartGiven.{Parts, part_given}

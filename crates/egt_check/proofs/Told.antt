@@ -1,15 +1,7 @@
 -- What tables show of positions, as a function.
-use Rattle.std.proofs.Common.{◌≡◌, ℕ, Option, Some, None, sym, ap, ◌∙◌, subst, inl, inr}
-use Rattle.egt_board.specs.Decided.{Decided}
-use Rattle.egt_board.specs.DecidedSetup.{decided_admissible}
-use Rattle.egt_board.specs.Setup.{Setup, IsAdmissible}
-use Rattle.egt_index.specs.Index.{IsIndex}
-use Rattle.egt_moves.specs.Arena.{Value, Draw}
-use Rattle.egt_entries.specs.declared.metric.Metric.{Metric}
-use Rattle.egt_table.specs.Table.{TableValue}
-use Rattle.egt_steps.specs.Facts.{Facts}
-use Rattle.egt_entries.specs.Tables.{Tables, entry_at, HasEntry, ShowsOf}
-use Rattle.egt_check.specs.Reading.{read, read_shown}
+use Rattle.egt_check.specs.Prelude.{◌≡◌, ℕ, Option, Some, None, sym, ap, ◌∙◌, subst, inl, inr, Decided}
+use Rattle.egt_check.specs.Prelude.{decided_admissible, Setup, IsAdmissible, IsIndex, Value, Draw, Metric, TableValue}
+use Rattle.egt_check.specs.Prelude.{Facts, Tables, entry_at, HasEntry, ShowsOf, read, read_shown}
 
 module _ (facts : Facts) (tables : Tables) where
   value_in : Metric → ℕ → Option TableValue → Value

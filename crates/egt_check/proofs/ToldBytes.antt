@@ -1,18 +1,7 @@
 -- Tables whose entries have bytes of their own.
-use Rattle.std.proofs.Common.{◌≡◌, ◌≢◌, ℕ, ◌<◌, ◌∙◌, arith, inl, inr, sym}
-use Rattle.std.proofs.lemmas.Bool.{cases_eq}
-use Rattle.egt_index.specs.Index.{IsVoid}
-use Rattle.egt_index.specs.Size.{size_of}
-use Rattle.egt_lanes.specs.Alike.{AreDecided, AreVoidOrAlike}
-use Rattle.egt_table.specs.Table.{TableValue}
-use Rattle.egt_entries.specs.declared.metric.Metric.{Metric}
-use Rattle.egt_entries.specs.declared.metric.Metric.TheVariants.{Mate, Zeroing}
-use Rattle.egt_check.specs.Given.{AreAlike, IsKnown}
-use Rattle.egt_check.specs.Reading.{shown_range}
-use Rattle.egt_entries.specs.Tables.{entry_at}
-use Rattle.egt_entries.specs.Truth.{IsTrueTable}
-use Rattle.egt_check.specs.Voids.{AreAllAlike, TellsVoids}
-use Rattle.egt_check.specs.Worth.{HasBytes}
+use Rattle.egt_check.specs.Prelude.{◌≡◌, ◌≢◌, ℕ, ◌<◌, ◌∙◌, arith, inl, inr, sym, cases_eq, IsVoid, size_of, AreDecided}
+use Rattle.egt_check.specs.Prelude.{AreVoidOrAlike, TableValue, Metric, Mate, Zeroing, AreAlike, IsKnown, shown_range}
+use Rattle.egt_check.specs.Prelude.{entry_at, IsTrueTable, AreAllAlike, TellsVoids, HasBytes}
 
 known : (entry : ℕ) → 2 < entry → entry < 254 → IsKnown entry
 known entry some low = record { some = λ is. absurd (omega (arith, is, some)); other = λ is. absurd (omega (arith, is, some)); low = low }

@@ -1,8 +1,7 @@
 -- What the entries that rows of scores tell come to at one lane. A mask's lane is 65535 or 0.
-use Rattle.std.proofs.Common.{◌≡◌, ℕ, zero, suc, ◌+◌, ◌<◌, ◌-◌, ◌%◌, ◌^◌, cond, eqb, ltb, List, [], ◌∷◌, map, length, get_or, replicate, arith, Fits, w8}
+use Rattle.egt_check.specs.Prelude.{◌≡◌, ℕ, zero, suc, ◌+◌, ◌<◌, ◌-◌, ◌%◌, ◌^◌, cond, eqb, ltb, List, [], ◌∷◌, map}
+use Rattle.egt_check.specs.Prelude.{length, get_or, replicate, arith, Fits, w8, agreed, near_told, value_told}
 use lib.Lanes.{zip2, sel_l, top, Each1}
-use Rattle.egt_lanes.proofs.Tests.{agreed}
-use Rattle.egt_check.specs.Found.{near_told, value_told}
 
 abbrev below : ℕ → ℕ → ℕ
 below a b = cond (ltb a b) 65535 0

@@ -1,22 +1,11 @@
 -- Where the children's columns of the nearest mates are true, a table's keeps the rules exactly where it is true.
-use Rattle.std.proofs.Common.{◌≡◌, ◌≢◌, ℕ, zero, suc, ◌<◌, ◌≤◌, ◌⊎◌, ◌↔◌, Bool, IsTrue, Option, Some, None, refl, sym, subst, inl, inr, arith}
-use Rattle.std.proofs.lemmas.Bool.{cases_eq, cases_lt}
-use Rattle.std.proofs.Math.Logic.{⊎_elim, ⊎_map}
-use Rattle.egt_board.specs.Setup.{Setup, IsAdmissible}
-use Rattle.egt_class.specs.Membership.{IsOf}
-use Rattle.egt_index.specs.Code.{Spells}
-use Rattle.egt_index.specs.Index.{IsIndex, IsVoid}
-use Rattle.egt_index.specs.Size.{size_of}
-use Rattle.egt_moves.specs.Chess.{chess}
+use Rattle.egt_check.specs.Prelude.{◌≡◌, ◌≢◌, ℕ, zero, suc, ◌<◌, ◌≤◌, ◌⊎◌, ◌↔◌, Bool, IsTrue, Option, Some, None, refl}
+use Rattle.egt_check.specs.Prelude.{sym, subst, inl, inr, arith, cases_eq, cases_lt, ⊎_elim, ⊎_map, Setup, IsAdmissible}
+use Rattle.egt_check.specs.Prelude.{IsOf, Spells, IsIndex, IsVoid, size_of, chess, TableValue, IsTable, StepAlike}
+use Rattle.egt_check.specs.Prelude.{Facts, FitsReachBeside, HasReachEntry, ShowsReach, ShowsReachOf, FitsReach}
+use Rattle.egt_check.specs.Prelude.{KeepsReach, KeepsReachBelow, Tables, reach_at, IsTrueReach, HasTrueReachesBelow}
 use Rattle.egt_moves.specs.Reach.{FitsReach as FitsNumbers, HasReach, ReachJudgedOver}
-use Rattle.egt_table.specs.Table.{TableValue, IsTable}
 use Rattle.egt_entries.specs.declared.rule.Rule.TheVariants as rules
-use Rattle.egt_check.specs.Alike.{StepAlike}
-use Rattle.egt_steps.specs.Facts.{Facts}
-use Rattle.egt_entries.specs.Reach.{FitsReachBeside, HasReachEntry, ShowsReach, ShowsReachOf}
-use Rattle.egt_entries.specs.Rules.{FitsReach, KeepsReach, KeepsReachBelow}
-use Rattle.egt_entries.specs.Tables.{Tables, reach_at}
-use Rattle.egt_entries.specs.Truth.{IsTrueReach, HasTrueReachesBelow}
 use Rattle.egt_check.proofs.Alike.{settled_image_alike, indexed_class}
 use Rattle.egt_check.proofs.ReachTold.{images_show_reach, number_at, reach_in_range, reach_range, reach_shown_told, reach_told_shown}
 use Rattle.egt_check.proofs.TrueTables.{Child, Own, is_own, own, owned, step}

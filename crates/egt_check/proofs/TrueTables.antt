@@ -1,34 +1,15 @@
 -- Where the children's columns of wins and losses are true, a table's keep the rules exactly where they are true.
-use Rattle.std.proofs.Common.{◌≡◌, ◌≢◌, ℕ, zero, suc, ◌<◌, ◌≤◌, ◌⊎◌, ◌↔◌, Bool, IsTrue, Some, refl, sym, subst, inl, inr, arith}
-use Rattle.std.proofs.lemmas.Bool.{cases_eq, cases_lt}
-use Rattle.std.proofs.Math.Logic.{⊎_elim, ⊎_map}
-use Rattle.std.specs.List.{Contains}
-use Rattle.egt_board.specs.Decided.{Decided, tells, tells_so, tells_where}
-use Rattle.egt_board.specs.DecidedSetup.{decided_admissible}
-use Rattle.egt_board.specs.Setup.{Setup, IsAdmissible}
-use Rattle.egt_class.specs.Children.{children_of}
-use Rattle.egt_class.specs.Membership.{IsOf}
-use Rattle.egt_index.specs.Code.{Spells}
-use Rattle.egt_index.specs.Index.{IsIndex, IsVoid}
-use Rattle.egt_index.specs.Size.{size_of}
-use Rattle.egt_moves.specs.Arena.{Value, Win, Loss, Draw}
-use Rattle.egt_moves.specs.Chess.{chess}
+use Rattle.egt_check.specs.Prelude.{◌≡◌, ◌≢◌, ℕ, zero, suc, ◌<◌, ◌≤◌, ◌⊎◌, ◌↔◌, Bool, IsTrue, Some, refl, sym, subst}
+use Rattle.egt_check.specs.Prelude.{inl, inr, arith, cases_eq, cases_lt, ⊎_elim, ⊎_map, Contains, Decided, tells}
+use Rattle.egt_check.specs.Prelude.{tells_so, tells_where, decided_admissible, Setup, IsAdmissible, children_of, IsOf}
+use Rattle.egt_check.specs.Prelude.{Spells, IsIndex, IsVoid, size_of, Value, Win, Loss, Draw, chess, Metric, Mate}
+use Rattle.egt_check.specs.Prelude.{Zeroing, TableValue, IsTable, Rule, StepAlike, Shows, Facts, Shown, FitsBeside}
+use Rattle.egt_check.specs.Prelude.{Tables, entry_at, HasEntry, ShowsOf, Tells, HasTrueValues, HasTrueValuesBelow}
+use Rattle.egt_check.specs.Prelude.{ShownAlike, PlaysLike, carry, in_range, shown_range}
 use Rattle.egt_moves.specs.Entries as entries
-use Rattle.egt_entries.specs.declared.metric.Metric.{Metric}
-use Rattle.egt_entries.specs.declared.metric.Metric.TheVariants.{Mate, Zeroing}
-use Rattle.egt_table.specs.Table.{TableValue, IsTable}
-use Rattle.egt_entries.specs.declared.rule.Rule.{Rule}
 use Rattle.egt_entries.specs.declared.rule.Rule.TheVariants as rules
-use Rattle.egt_check.specs.Alike.{StepAlike}
-use Rattle.egt_entries.specs.Entry.{Shows}
-use Rattle.egt_steps.specs.Facts.{Facts}
-use Rattle.egt_entries.specs.Fits.{Shown, FitsBeside}
 use Rattle.egt_entries.specs.Rules.{Fits, Keeps, KeepsBelow}
-use Rattle.egt_entries.specs.Tables.{Tables, entry_at, HasEntry, ShowsOf}
-use Rattle.egt_entries.specs.Truth.{Tells, HasTrueValues, HasTrueValuesBelow}
 use Rattle.egt_check.proofs.Alike.{settled_image_alike, indexed_class, images_show_alike}
-use Rattle.egt_entries.proofs.Carry.{ShownAlike, PlaysLike, carry}
-use Rattle.egt_check.specs.Reading.{in_range, shown_range}
 use Rattle.egt_check.proofs.Told.{value_at, shown_told, told_shown}
 
 module _ (facts : Facts) (tables : Tables) (t : TableValue) (sized : IsTable t) (here : tables t.class ≡ Some t) where

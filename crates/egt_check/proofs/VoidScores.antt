@@ -1,19 +1,8 @@
 -- Void codes score nothing in a table whose bytes tell its entries.
-use Rattle.std.proofs.Common.{◌≡◌, ℕ, ◌%◌, arith, inl, inr, ap}
-use Rattle.std.proofs.lemmas.Bool.{cases_lt}
-use Rattle.std.proofs.lemmas.List.{get_or_past}
-use Rattle.egt_index.specs.Index.{IsVoid}
-use Rattle.egt_index.specs.Size.{size_of}
-use Rattle.egt_lanes.specs.Scores.{reach_score}
-use Rattle.egt_table.specs.Table.{HasColumn, IsTable, TableValue, entries_or_none}
+use Rattle.egt_check.specs.Prelude.{◌≡◌, ℕ, ◌%◌, arith, inl, inr, ap, cases_lt, get_or_past, IsVoid, size_of}
+use Rattle.egt_check.specs.Prelude.{reach_score, HasColumn, IsTable, TableValue, entries_or_none, Mate, Zeroing, Part}
+use Rattle.egt_check.specs.Prelude.{Values, Reach, column_of, table_in, reach_at, HasBytes, column_score, ScoresNoVoids}
 use Rattle.egt_table.specs.declared.column.Column.TheVariants as columns
-use Rattle.egt_entries.specs.declared.metric.Metric.TheVariants.{Mate, Zeroing}
-use Rattle.egt_check.specs.declared.part.Part.{Part}
-use Rattle.egt_check.specs.declared.part.Part.TheVariants.{Values, Reach}
-use Rattle.egt_check.specs.Parts.{column_of, table_in}
-use Rattle.egt_entries.specs.Tables.{reach_at}
-use Rattle.egt_check.specs.Worth.{HasBytes, column_score}
-use Rattle.egt_blocks.specs.Scored.{ScoresNoVoids}
 use Rattle.egt_check.proofs.NearReading.{near, near_at}
 use Rattle.egt_check.proofs.Worth.{void_score}
 

@@ -1,27 +1,11 @@
 -- The greatest score of the codes of some men, wherever turns take them, is that of the positions with these men.
-use Rattle.std.proofs.Common.{◌≡◌, ℕ, ◌%◌, ◌<◌, ◌≤◌, ◌⊎◌, Bool, true, false, length, arith, sym, ap, ◌∙◌, inl, inr}
-use Rattle.std.proofs.lemmas.Bool.{cases_lt, false≢true}
-use Rattle.std.proofs.lemmas.List.{get_or_past}
-use Rattle.egt_board.specs.Images.{AreImages}
-use Rattle.egt_board.specs.Settled.{IsSettled}
-use Rattle.egt_board.specs.Setup.{Setup, IsAdmissible}
-use Rattle.egt_board.specs.declared.man.Side.{Side}
-use Rattle.egt_index.specs.Code.{Spells}
-use Rattle.egt_index.specs.Index.{IsIndex, IsVoid, SettleAlike}
-use Rattle.egt_index.specs.Size.{size_of}
-use Rattle.egt_index.specs.Stood.{HasStand, IsFilled}
-use Rattle.egt_index.specs.TurnedMen.{IsSomeTurnedCode, IsSomeTurnedCodeWith}
-use Rattle.egt_index.specs.Went.{AreOnBoard}
-use Rattle.egt_index.specs.declared.stand.Stand.{Stand}
-use Rattle.egt_lanes.specs.Raised.{IsRaised}
-use Rattle.egt_lanes.specs.Scores.{byte_score}
-use Rattle.egt_table.specs.Table.{IsTable, TableValue}
+use Rattle.egt_check.specs.Prelude.{◌≡◌, ℕ, ◌%◌, ◌<◌, ◌≤◌, ◌⊎◌, Bool, true, false, length, arith, sym, ap, ◌∙◌, inl}
+use Rattle.egt_check.specs.Prelude.{inr, cases_lt, false≢true, get_or_past, AreImages, IsSettled, Setup, IsAdmissible}
+use Rattle.egt_check.specs.Prelude.{Side, Spells, IsIndex, IsVoid, SettleAlike, size_of, HasStand, IsFilled}
+use Rattle.egt_check.specs.Prelude.{IsSomeTurnedCode, IsSomeTurnedCodeWith, AreOnBoard, Stand, IsRaised, byte_score}
+use Rattle.egt_check.specs.Prelude.{IsTable, TableValue, Metric, Mate, Zeroing, Facts, entries_in, entry_at, HasBytes}
+use Rattle.egt_check.specs.Prelude.{IsBestOf, IsBestWith, IsScoreWith, score_at}
 use Rattle.egt_table.specs.declared.column.Column.TheVariants as columns
-use Rattle.egt_entries.specs.declared.metric.Metric.{Metric}
-use Rattle.egt_entries.specs.declared.metric.Metric.TheVariants.{Mate, Zeroing}
-use Rattle.egt_steps.specs.Facts.{Facts}
-use Rattle.egt_entries.specs.Tables.{entries_in, entry_at}
-use Rattle.egt_check.specs.Worth.{HasBytes, IsBestOf, IsBestWith, IsScoreWith, score_at}
 
 -- what codes tell of turned men, by the law of egt_index
 pub record Turning : Type 0 where

@@ -18,3 +18,4 @@ pub mod ScoreRows
 pub mod Found
 pub mod Put
 pub mod Own
+pub mod Prelude

@@ -1,19 +1,8 @@
 //! The judgement of all entries with the kings on two squares, in classes with two men beside the kings.
-ghost use Rattle.std.specs.Prelude.{◌≡◌, ◌+◌, ◌<◌, ℕ, true, false};
-ghost use Rattle.egt_board.specs.Man.{other_side};
-ghost use Rattle.egt_index.specs.Numbers.{code_of};
-ghost use Rattle.egt_index.specs.Scales.{kind_digits, kind_less};
-ghost use Rattle.egt_index.specs.ShelfCodes.{AreMenOf, number_in};
-ghost use Rattle.egt_lanes.specs.Blocks.{at};
-ghost use Rattle.egt_table.specs.Table.{HasColumn};
-ghost use Rattle.egt_steps.specs.Stands.{men_on};
-ghost use Rattle.egt_blocks.specs.Kept.{AreKept};
-ghost use Rattle.egt_check.specs.MoveScores.{AreFourMen, AreTablesOf, HoldsExits, HoldsPassing};
-ghost use Rattle.egt_check.specs.Parts.{column_of, four_in, tables_in};
-ghost use Rattle.egt_check.specs.ReachScores.{AreAllScoresOf};
-ghost use Rattle.egt_check.specs.RightBlock.{AreJudged, IsRightLane};
-ghost use Rattle.egt_entries.specs.Tables.{Tables};
-ghost use Rattle.egt_check.specs.Worth.{column_score};
+ghost use Rattle.egt_check.specs.Prelude.{◌≡◌, ◌+◌, ◌<◌, ℕ, true, false, other_side, code_of, kind_digits, kind_less};
+ghost use Rattle.egt_check.specs.Prelude.{AreMenOf, number_in, at, HasColumn, men_on, AreKept, AreFourMen, AreTablesOf};
+ghost use Rattle.egt_check.specs.Prelude.{HoldsExits, HoldsPassing, column_of, four_in, tables_in, AreAllScoresOf};
+ghost use Rattle.egt_check.specs.Prelude.{AreJudged, IsRightLane, Tables, column_score};
 
 use crate::move_scores::{FourMen, exits, move_scores, passing_captures, raise_passed};
 use crate::part::{Part, column_of};

@@ -1,11 +1,7 @@
 //! Tables whose entries have bytes of their own.
-ghost use Rattle.std.specs.Prelude.{◌≡◌, true, IsSome};
-ghost use Rattle.egt_table.specs.Table.{HasColumn};
+ghost use Rattle.egt_check.specs.Prelude.{◌≡◌, true, IsSome, HasColumn, column_of, table_in, IsTrueTable, AreAllAlike};
+ghost use Rattle.egt_check.specs.Prelude.{TellsVoids, HasBytes};
 ghost use Rattle.egt_check.specs.declared.part.Part.TheVariants as parts;
-ghost use Rattle.egt_check.specs.Parts.{column_of, table_in};
-ghost use Rattle.egt_entries.specs.Truth.{IsTrueTable};
-ghost use Rattle.egt_check.specs.Voids.{AreAllAlike, TellsVoids};
-ghost use Rattle.egt_check.specs.Worth.{HasBytes};
 
 use crate::part::Part;
 use crate::voids::tells_voids;

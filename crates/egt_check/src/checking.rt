@@ -1,13 +1,10 @@
 //! The judgement of a whole table.
-ghost use Rattle.std.specs.Prelude.{◌≡◌, ◌↔◌, ◌≤◌, IsOk, IfOk, IfErr, IfSome, IfNone, IsSome, IsTrue};
-ghost use Rattle.egt_index.specs.Size.{size_of};
+ghost use Rattle.egt_check.specs.Prelude.{◌≡◌, ◌↔◌, ◌≤◌, IsOk, IfOk, IfErr, IfSome, IfNone, IsSome, IsTrue, size_of};
+ghost use Rattle.egt_check.specs.Prelude.{Metric, Mate, table_at, beside, HasChildren, HasReachChildren, IsAccepted};
+ghost use Rattle.egt_check.specs.Prelude.{IsRefused, IsFirstBreak, IsFirstLacking, IsFirstMissing, LacksReach};
+ghost use Rattle.egt_check.specs.Prelude.{ReachesDown, KeepsBelow, KeepsReachBelow, earlier, IsFirstBad};
+ghost use Rattle.egt_check.specs.Prelude.{IsFirstBadReach};
 ghost use Rattle.egt_table.specs.declared.column.Column.TheVariants as columns;
-ghost use Rattle.egt_entries.specs.declared.metric.Metric.{Metric};
-ghost use Rattle.egt_entries.specs.declared.metric.Metric.TheVariants.{Mate};
-ghost use Rattle.egt_entries.specs.Tables.{table_at, beside, HasChildren, HasReachChildren};
-ghost use Rattle.egt_entries.specs.Library.{IsAccepted, IsRefused, IsFirstBreak, IsFirstLacking, IsFirstMissing, LacksReach, ReachesDown};
-ghost use Rattle.egt_entries.specs.Rules.{KeepsBelow, KeepsReachBelow};
-ghost use Rattle.egt_entries.specs.FirstBad.{earlier, IsFirstBad, IsFirstBadReach};
 
 use crate::judging::judge;
 use crate::library::Library;

@@ -1,9 +1,6 @@
 //! Scores that may be put: each is that of an entry, and both tell one result.
-ghost use Rattle.std.specs.Prelude.{◌≡◌, ◌≢◌, ◌<◌, ℕ, slice_index, true};
-ghost use Rattle.egt_board.specs.SquareSet.{Has};
-ghost use Rattle.egt_lanes.specs.Scores.{zeroing_score};
-ghost use Rattle.egt_check.specs.Found.{AreTold, IsNearScore, IsValueScore};
-ghost use Rattle.egt_check.specs.ScoreRows.{IsMaskOf};
+ghost use Rattle.egt_check.specs.Prelude.{◌≡◌, ◌≢◌, ◌<◌, ℕ, slice_index, true, Has, zeroing_score, AreTold};
+ghost use Rattle.egt_check.specs.Prelude.{IsNearScore, IsValueScore, IsMaskOf};
 
 use crate::lane_sets::without_score;
 use crate::part::Part;

@@ -1,16 +1,9 @@
 //! The entries of a class with two men beside the kings while they are found: their scores are kept as rows of bytes.
-ghost use Rattle.std.specs.Prelude.{◌≡◌, ◌<◌, ℕ, None, Some, IsSome, map, slice_index};
-ghost use Rattle.egt_index.specs.Numbers.{code_of, places};
-ghost use Rattle.egt_index.specs.ShelfCodes.{HasTwoBeside, IsShelf, IsShelfOf, IsWithin, number_in, stand_with};
-ghost use Rattle.egt_index.specs.TellsMen.{TellsMen};
-ghost use Rattle.egt_lanes.specs.Raised.{IsRaised};
-ghost use Rattle.egt_table.specs.Table.{HasColumn, IsTable, entries_of};
-ghost use Rattle.egt_table.specs.declared.column.Column.{Column};
+ghost use Rattle.egt_check.specs.Prelude.{◌≡◌, ◌<◌, ℕ, None, Some, IsSome, map, slice_index, code_of, places};
+ghost use Rattle.egt_check.specs.Prelude.{HasTwoBeside, IsShelf, IsShelfOf, IsWithin, number_in, stand_with, TellsMen};
+ghost use Rattle.egt_check.specs.Prelude.{IsRaised, HasColumn, IsTable, entries_of, Column, column_score, IsToldEntry};
+ghost use Rattle.egt_check.specs.Prelude.{IsToldFrom, TellColumn, table_told, told, IsPut, IsMaskOf};
 ghost use Rattle.egt_table.specs.declared.column.Column.TheVariants as columns;
-ghost use Rattle.egt_check.specs.Worth.{column_score};
-ghost use Rattle.egt_check.specs.Found.{IsToldEntry, IsToldFrom, TellColumn, table_told, told};
-ghost use Rattle.egt_check.specs.Put.{IsPut};
-ghost use Rattle.egt_check.specs.ScoreRows.{IsMaskOf};
 
 use crate::fitting::are_told;
 use crate::part::Part;

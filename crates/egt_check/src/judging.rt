@@ -1,15 +1,8 @@
 //! The judgement of one index's entries.
-ghost use Rattle.std.specs.Prelude.{◌≡◌, ◌↔◌, ◌<◌, ◌==◌, if◌then◌else◌, Some, None, IsTrue};
-ghost use Rattle.egt_index.specs.Size.{size_of};
-ghost use Rattle.egt_moves.specs.Arena.{NoMove};
-ghost use Rattle.egt_moves.specs.Chess.{chess};
-ghost use Rattle.egt_entries.specs.declared.metric.Metric.{Metric};
-ghost use Rattle.egt_entries.specs.declared.metric.Metric.TheVariants.{Mate, Zeroing};
-ghost use Rattle.egt_entries.specs.Judged.{rule_of, IsOfKind, Finds, FindsVoid};
-ghost use Rattle.egt_entries.specs.Rules.{IsJudged};
-ghost use Rattle.egt_entries.specs.Score.{number_at, IsAtEnd, IsDue};
-ghost use Rattle.egt_entries.specs.Steps.{IsInClass, shown_by};
-ghost use Rattle.egt_entries.specs.Tables.{table_at, beside, HasChildren};
+ghost use Rattle.egt_check.specs.Prelude.{◌≡◌, ◌↔◌, ◌<◌, ◌==◌, if◌then◌else◌, Some, None, IsTrue, size_of, NoMove};
+ghost use Rattle.egt_check.specs.Prelude.{chess, Metric, Mate, Zeroing, rule_of, IsOfKind, Finds, FindsVoid, IsJudged};
+ghost use Rattle.egt_check.specs.Prelude.{number_at, IsAtEnd, IsDue, IsInClass, shown_by, table_at, beside};
+ghost use Rattle.egt_check.specs.Prelude.{HasChildren};
 
 use crate::library::Library;
 use crate::successors::{best, entries_at};

@@ -1,6 +1,5 @@
 //! Rows compared square by square.
-ghost use Rattle.std.specs.Prelude.{◌≡◌, ◌<◌, ◌==◌, if◌then◌else◌, ℕ, slice_index};
-ghost use Rattle.egt_check.specs.ScoreRows.{IsMaskOf};
+ghost use Rattle.egt_check.specs.Prelude.{◌≡◌, ◌<◌, ◌==◌, if◌then◌else◌, ℕ, slice_index, IsMaskOf};
 
 use egt_board::SquareSet;
 use egt_lanes::Row;

@@ -1,41 +1,14 @@
 //! What holds of tables and their rules. These functions do nothing: a caller calls one to know what it ensures.
-ghost use Rattle.std.specs.Prelude.{◌≡◌, ◌≢◌, ◌↔◌, ◌<◌, max, ℕ, Bool, false, None, Some, IsSome};
-ghost use Rattle.std.specs.Option.{is_some};
-ghost use Rattle.egt_class.specs.Membership.{IsOf};
-ghost use Rattle.egt_index.specs.Code.{Spells};
-ghost use Rattle.egt_index.specs.Index.{IsIndex, IsVoid};
-ghost use Rattle.egt_board.specs.Setup.{Setup, IsAdmissible};
-ghost use Rattle.egt_table.specs.Table.{TableValue, IsTable};
-ghost use Rattle.egt_check.specs.Alike.{StepAlike};
-ghost use Rattle.egt_moves.specs.Chess.{Zeroes, chess};
-ghost use Rattle.egt_board.specs.declared.man.Side.{Side};
-ghost use Rattle.egt_entries.specs.declared.metric.Metric.{Metric};
-ghost use Rattle.egt_board.specs.declared.man.Kind.TheVariants.{K};
-ghost use Rattle.egt_index.specs.Stood.{HasStand};
-ghost use Rattle.egt_index.specs.declared.shelf_codes.ShelfMen.{ShelfMen};
-ghost use Rattle.egt_steps.specs.Stands.{stand_on};
-ghost use Rattle.egt_steps.specs.QuietStands.{AreQuietCodes};
-ghost use Rattle.egt_steps.specs.Takings.{IsPlainCapture};
-ghost use Rattle.egt_check.specs.Given.{AreAlike, AreGiven};
-ghost use Rattle.egt_entries.specs.Rules.{IsJudged, KeepsBelow, KeepsReachBelow, KeepsRules};
-ghost use Rattle.egt_entries.specs.Score.{IsAtEnd};
-ghost use Rattle.egt_lanes.specs.Scores.{byte_score, due_score, zeroing_score};
-ghost use Rattle.egt_check.specs.Taken.{IsTableOf};
-ghost use Rattle.egt_blocks.specs.Taken.{AreLeftCodes, men_swapped};
-ghost use Rattle.egt_check.specs.MoveScores.{AreAllScores, AreTablesOf};
-ghost use Rattle.egt_check.specs.Parts.{four_in, tables_in};
-ghost use Rattle.egt_check.specs.ReachScores.{AreAllScoresOf};
-ghost use Rattle.egt_check.specs.RightBlock.{IsRightLane, KeepsPart};
-ghost use Rattle.egt_check.specs.declared.move_scores.FourMen.{FourMen};
-ghost use Rattle.egt_check.specs.declared.part.Part.{Part};
-ghost use Rattle.egt_entries.specs.declared.metric.Metric.TheVariants.{Mate, Zeroing};
-ghost use Rattle.egt_check.specs.Worth.{HasBytes, score_at};
-ghost use Rattle.egt_lanes.specs.Raised.{IsRaised};
-ghost use Rattle.egt_moves.specs.Arena.{NoMove};
-ghost use Rattle.egt_entries.specs.Tables.{Tables, entry_at};
-ghost use Rattle.egt_entries.specs.Library.{ReachesDown};
-ghost use Rattle.egt_entries.specs.Truth.{HasTrueChildren, HasTrueReachesBelow, HasTrueValues, HasTrueValuesBelow, IsTrueReach, IsTrueTable};
-ghost use Rattle.egt_index.specs.Size.{size_of};
+ghost use Rattle.egt_check.specs.Prelude.{◌≡◌, ◌≢◌, ◌↔◌, ◌<◌, max, ℕ, Bool, false, None, Some, IsSome, is_some, IsOf};
+ghost use Rattle.egt_check.specs.Prelude.{Spells, IsIndex, IsVoid, Setup, IsAdmissible, TableValue, IsTable, StepAlike};
+ghost use Rattle.egt_check.specs.Prelude.{Zeroes, chess, Side, Metric, K, HasStand, ShelfMen, stand_on, AreQuietCodes};
+ghost use Rattle.egt_check.specs.Prelude.{IsPlainCapture, AreAlike, AreGiven, IsJudged, KeepsBelow, KeepsReachBelow};
+ghost use Rattle.egt_check.specs.Prelude.{KeepsRules, IsAtEnd, byte_score, due_score, zeroing_score, IsTableOf};
+ghost use Rattle.egt_check.specs.Prelude.{AreLeftCodes, men_swapped, AreAllScores, AreTablesOf, four_in, tables_in};
+ghost use Rattle.egt_check.specs.Prelude.{AreAllScoresOf, IsRightLane, KeepsPart, FourMen, Part, Mate, Zeroing};
+ghost use Rattle.egt_check.specs.Prelude.{HasBytes, score_at, IsRaised, NoMove, Tables, entry_at, ReachesDown};
+ghost use Rattle.egt_check.specs.Prelude.{HasTrueChildren, HasTrueReachesBelow, HasTrueValues, HasTrueValuesBelow};
+ghost use Rattle.egt_check.specs.Prelude.{IsTrueReach, IsTrueTable, size_of};
 
 use crate::pawn_laws::{
     codes_after_advances_beside_pawns_give_them, codes_after_advances_give_the_advances,

@@ -1,19 +1,10 @@
 //! The greatest scores of the moves of a side with two men beside the kings, who stand on two squares.
-ghost use Rattle.std.specs.Prelude.{◌≡◌, ◌<◌, max, ℕ, false, true};
-ghost use Rattle.egt_board.specs.Man.{other_side};
-ghost use Rattle.egt_index.specs.ShelfCodes.{AreMenOf};
-ghost use Rattle.egt_lanes.specs.Blocks.{at};
-ghost use Rattle.egt_lanes.specs.Raised.{IsRaised};
-ghost use Rattle.egt_lanes.specs.Scores.{zeroing_score};
-ghost use Rattle.egt_table.specs.Table.{HasColumn};
+ghost use Rattle.egt_check.specs.Prelude.{◌≡◌, ◌<◌, max, ℕ, false, true, other_side, AreMenOf, at, IsRaised};
+ghost use Rattle.egt_check.specs.Prelude.{zeroing_score, HasColumn, AreKept, AreStill, ScoresNoVoids, AreChildren};
+ghost use Rattle.egt_check.specs.Prelude.{AreFourMen, AreMoveScores, ArePassedScores, AreZeroingMoves, HoldsExits};
+ghost use Rattle.egt_check.specs.Prelude.{HoldsPassing, AreOwnPawnMoves, IsBestPromotion, AreLeftCodes, men_swapped};
+ghost use Rattle.egt_check.specs.Prelude.{column_score};
 ghost use Rattle.egt_table.specs.declared.column.Column.TheVariants as columns;
-ghost use Rattle.egt_blocks.specs.Kept.{AreKept};
-ghost use Rattle.egt_blocks.specs.Leaps.{AreStill};
-ghost use Rattle.egt_blocks.specs.Scored.{ScoresNoVoids};
-ghost use Rattle.egt_check.specs.MoveScores.{AreChildren, AreFourMen, AreMoveScores, ArePassedScores, AreZeroingMoves, HoldsExits, HoldsPassing};
-ghost use Rattle.egt_check.specs.PawnScores.{AreOwnPawnMoves, IsBestPromotion};
-ghost use Rattle.egt_blocks.specs.Taken.{AreLeftCodes, men_swapped};
-ghost use Rattle.egt_check.specs.Worth.{column_score};
 
 use crate::found::Found;
 use crate::own::Own;

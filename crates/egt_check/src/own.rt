@@ -1,10 +1,6 @@
 //! The entries of the class itself, beside those of its children: a table's, or those that are being found.
-ghost use Rattle.std.specs.Prelude.{◌≡◌, ◌<◌, ℕ, IfSome, slice_index};
-ghost use Rattle.egt_index.specs.ShelfCodes.{IsShelfOf, IsWithin, stand_with};
-ghost use Rattle.egt_index.specs.TellsMen.{TellsMen};
-ghost use Rattle.egt_lanes.specs.Raised.{IsRaised};
-ghost use Rattle.egt_table.specs.Table.{HasColumn, IsTable};
-ghost use Rattle.egt_check.specs.Worth.{column_score};
+ghost use Rattle.egt_check.specs.Prelude.{◌≡◌, ◌<◌, ℕ, IfSome, slice_index, IsShelfOf, IsWithin, stand_with, TellsMen};
+ghost use Rattle.egt_check.specs.Prelude.{IsRaised, HasColumn, IsTable, column_score};
 
 use crate::found::Found;
 use crate::rows::row_of;

@@ -1,14 +1,6 @@
 //! The pairs of squares that the kings stand on, of a class with two men beside them.
-ghost use Rattle.std.specs.Prelude.{◌*◌, ◌<◌, ◌≤◌, ℕ, IfSome};
-ghost use Rattle.egt_board.specs.declared.man.Side.{Side};
-ghost use Rattle.egt_index.specs.Size.{size_of};
-ghost use Rattle.egt_index.specs.declared.shelf_codes.ShelfMen.{ShelfMen};
-ghost use Rattle.egt_table.specs.Table.{TableValue};
-ghost use Rattle.egt_entries.specs.Tables.{Tables};
-ghost use Rattle.egt_check.specs.Pairs.{AreJudgedPairs, ArePairs};
-ghost use Rattle.egt_check.specs.RightBlock.{KeepsPart};
-ghost use Rattle.egt_check.specs.declared.pairs.Pairs.{Pairs};
-ghost use Rattle.egt_check.specs.declared.part.Part.{Part};
+ghost use Rattle.egt_check.specs.Prelude.{◌*◌, ◌<◌, ◌≤◌, ℕ, IfSome, Side, size_of, ShelfMen, TableValue, Tables};
+ghost use Rattle.egt_check.specs.Prelude.{AreJudgedPairs, ArePairs, KeepsPart, Pairs, Part};
 
 use egt_blocks::digits::digits_of;
 use egt_class::Class;

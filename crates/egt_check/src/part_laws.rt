@@ -1,15 +1,6 @@
 //! What holds of the entries of either part beside the greatest scores of all moves. This function does nothing: a caller calls it to know what it ensures.
-ghost use Rattle.std.specs.Prelude.{◌≡◌, ◌≢◌, ℕ, Bool};
-ghost use Rattle.egt_board.specs.declared.man.Kind.TheVariants.{K};
-ghost use Rattle.egt_board.specs.declared.man.Side.{Side};
-ghost use Rattle.egt_index.specs.declared.shelf_codes.ShelfMen.{ShelfMen};
-ghost use Rattle.egt_entries.specs.Tables.{Tables};
-ghost use Rattle.egt_check.specs.MoveScores.{AreTablesOf};
-ghost use Rattle.egt_check.specs.Parts.{four_in, tables_in};
-ghost use Rattle.egt_check.specs.ReachScores.{AreAllScoresOf};
-ghost use Rattle.egt_check.specs.RightBlock.{IsRightLane, KeepsPart};
-ghost use Rattle.egt_check.specs.declared.move_scores.FourMen.{FourMen};
-ghost use Rattle.egt_check.specs.declared.part.Part.{Part};
+ghost use Rattle.egt_check.specs.Prelude.{◌≡◌, ◌≢◌, ℕ, Bool, K, Side, ShelfMen, Tables, AreTablesOf, four_in};
+ghost use Rattle.egt_check.specs.Prelude.{tables_in, AreAllScoresOf, IsRightLane, KeepsPart, FourMen, Part};
 
 use crate::laws::{all_scores_give_all_moves, due_bytes_are_right};
 use crate::reach_laws::{all_reach_scores_give_all_moves, due_reaches_are_right};

@@ -1,22 +1,10 @@
 //! The greatest scores of the codes after the moves of pawns. These functions do nothing: a caller calls one to know what it ensures.
-ghost use Rattle.std.specs.Prelude.{◌≡◌, ◌≢◌, ◌<◌, ◌⊎◌, ℕ, max, Bool, true, false, Option, None, IsSome};
-ghost use Rattle.egt_board.specs.Setup.{Setup};
-ghost use Rattle.egt_board.specs.declared.man.Kind.{Kind};
-ghost use Rattle.egt_board.specs.declared.man.Kind.TheVariants.{P, K};
-ghost use Rattle.egt_board.specs.declared.man.Side.{Side};
-ghost use Rattle.egt_index.specs.Stood.{HasStand};
-ghost use Rattle.egt_index.specs.declared.shelf_codes.ShelfMen.{ShelfMen};
-ghost use Rattle.egt_lanes.specs.Raised.{IsRaised};
-ghost use Rattle.egt_lanes.specs.Scores.{zeroing_score};
-ghost use Rattle.egt_moves.specs.Promotion.{arriving};
-ghost use Rattle.egt_table.specs.Table.{TableValue};
-ghost use Rattle.egt_entries.specs.declared.metric.Metric.TheVariants.{Mate};
-ghost use Rattle.egt_check.specs.Given.{AreGiven};
-ghost use Rattle.egt_steps.specs.InPassing.{AreLeapCodes, ArePassingCodes, AreStepCodes, IsPassingFrom};
-ghost use Rattle.egt_steps.specs.PawnMoves.{AreAdvancedCodes, ArePromotedCodes, IsAdvanceFrom, IsPromotingCaptureFrom, officer_of, stand_in};
-ghost use Rattle.egt_check.specs.Taken.{IsTableAfter, IsTableOf};
-ghost use Rattle.egt_entries.specs.Tables.{Tables};
-ghost use Rattle.egt_check.specs.Worth.{score_at};
+ghost use Rattle.egt_check.specs.Prelude.{◌≡◌, ◌≢◌, ◌<◌, ◌⊎◌, ℕ, max, Bool, true, false, Option, None, IsSome, Setup};
+ghost use Rattle.egt_check.specs.Prelude.{Kind, P, K, Side, HasStand, ShelfMen, IsRaised, zeroing_score, arriving};
+ghost use Rattle.egt_check.specs.Prelude.{TableValue, Mate, AreGiven, AreLeapCodes, ArePassingCodes, AreStepCodes};
+ghost use Rattle.egt_check.specs.Prelude.{IsPassingFrom, AreAdvancedCodes, ArePromotedCodes, IsAdvanceFrom};
+ghost use Rattle.egt_check.specs.Prelude.{IsPromotingCaptureFrom, officer_of, stand_in, IsTableAfter, IsTableOf};
+ghost use Rattle.egt_check.specs.Prelude.{Tables, score_at};
 
 use egt_index::laws::{a_code_is_an_index_or_void, codes_tell_turned_men, numbers_stand_for_codes};
 use egt_steps::facts::facts;

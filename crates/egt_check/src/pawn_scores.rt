@@ -1,13 +1,8 @@
 //! The greatest scores of the moves of pawns beside two kings who stand on two squares.
-ghost use Rattle.std.specs.Prelude.{◌≡◌, ◌<◌, ℕ, false, true, IfSome};
-ghost use Rattle.egt_index.specs.ShelfCodes.{AreMenOf};
-ghost use Rattle.egt_lanes.specs.Blocks.{at};
-ghost use Rattle.egt_table.specs.Table.{HasColumn};
-ghost use Rattle.egt_steps.specs.PawnMoves.{men_after};
-ghost use Rattle.egt_blocks.specs.Leaps.{AreStill};
-ghost use Rattle.egt_check.specs.PawnScores.{AreAdvanceScores, AreOwnPawnMoves, ArePromotionScores, ArePromotionsOf, IsBestPromotion, IsPromotionOf, IsPromotionScore};
-ghost use Rattle.egt_blocks.specs.Scored.{ScoresNoVoids};
-ghost use Rattle.egt_check.specs.Worth.{column_score};
+ghost use Rattle.egt_check.specs.Prelude.{◌≡◌, ◌<◌, ℕ, false, true, IfSome, AreMenOf, at, HasColumn, men_after};
+ghost use Rattle.egt_check.specs.Prelude.{AreStill, AreAdvanceScores, AreOwnPawnMoves, ArePromotionScores};
+ghost use Rattle.egt_check.specs.Prelude.{ArePromotionsOf, IsBestPromotion, IsPromotionOf, IsPromotionScore};
+ghost use Rattle.egt_check.specs.Prelude.{ScoresNoVoids, column_score};
 
 use crate::own::Own;
 use crate::table_scores::TableScores;

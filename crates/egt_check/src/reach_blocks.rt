@@ -1,9 +1,6 @@
 //! The judgement of the column of the nearest mates, block by block.
-ghost use Rattle.std.specs.Prelude.{◌≡◌, true, IsSome};
-ghost use Rattle.egt_index.specs.Size.{size_of};
-ghost use Rattle.egt_entries.specs.declared.metric.Metric.{Metric};
-ghost use Rattle.egt_entries.specs.Rules.{KeepsBelow, KeepsReachBelow};
-ghost use Rattle.egt_entries.specs.Tables.{beside, table_at};
+ghost use Rattle.egt_check.specs.Prelude.{◌≡◌, true, IsSome, size_of, Metric, KeepsBelow, KeepsReachBelow, beside};
+ghost use Rattle.egt_check.specs.Prelude.{table_at};
 
 use crate::bytes::tells_reach_bytes;
 use crate::library::Library;

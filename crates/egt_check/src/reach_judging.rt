@@ -1,11 +1,6 @@
 //! The judgement of one index's entry of the column of the nearest mates.
-ghost use Rattle.std.specs.Prelude.{◌<◌, IsSome};
-ghost use Rattle.egt_index.specs.Size.{size_of};
-ghost use Rattle.egt_entries.specs.Rules.{IsJudgedBy, KeepsReach};
-ghost use Rattle.egt_entries.specs.Reach.{IsReachDue, ShowsReachOf};
-ghost use Rattle.egt_entries.specs.ReachJudged.{FindsReach};
-ghost use Rattle.egt_entries.specs.Steps.{IsInClass};
-ghost use Rattle.egt_entries.specs.Tables.{table_at, beside, HasChildren, HasReachChildren};
+ghost use Rattle.egt_check.specs.Prelude.{◌<◌, IsSome, size_of, IsJudgedBy, KeepsReach, IsReachDue, ShowsReachOf};
+ghost use Rattle.egt_check.specs.Prelude.{FindsReach, IsInClass, table_at, beside, HasChildren, HasReachChildren};
 
 use crate::library::Library;
 use crate::successors::least_reach;

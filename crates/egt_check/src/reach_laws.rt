@@ -1,28 +1,10 @@
 //! What holds of the column of the nearest mates beside the moves. These functions do nothing: a caller calls one to
 //! know what it ensures.
-ghost use Rattle.std.specs.Prelude.{◌≡◌, ◌≢◌, ◌<◌, ℕ, Bool, false, None};
-ghost use Rattle.egt_board.specs.Setup.{Setup};
-ghost use Rattle.egt_board.specs.declared.man.Kind.TheVariants.{K};
-ghost use Rattle.egt_board.specs.declared.man.Side.{Side};
-ghost use Rattle.egt_index.specs.Code.{Spells};
-ghost use Rattle.egt_index.specs.Index.{IsVoid};
-ghost use Rattle.egt_index.specs.Stood.{HasStand};
-ghost use Rattle.egt_index.specs.declared.shelf_codes.ShelfMen.{ShelfMen};
-ghost use Rattle.egt_lanes.specs.Scores.{reach_due_score, reach_score};
-ghost use Rattle.egt_moves.specs.Arena.{NoMove};
-ghost use Rattle.egt_moves.specs.Chess.{chess};
-ghost use Rattle.egt_table.specs.Table.{TableValue};
-ghost use Rattle.egt_check.specs.declared.move_scores.FourMen.{FourMen};
-ghost use Rattle.egt_check.specs.declared.part.Part.TheVariants.{Reach};
-ghost use Rattle.egt_steps.specs.Stands.{stand_on};
-ghost use Rattle.egt_check.specs.Given.{AreGiven};
-ghost use Rattle.egt_check.specs.MoveScores.{AreTablesOf};
-ghost use Rattle.egt_entries.specs.NearTables.{near_entry, near_tables};
-ghost use Rattle.egt_check.specs.Parts.{four_in};
-ghost use Rattle.egt_check.specs.ReachScores.{AreAllReachScores};
-ghost use Rattle.egt_entries.specs.Rules.{IsJudgedBy, KeepsReach};
-ghost use Rattle.egt_entries.specs.Score.{IsAtEnd};
-ghost use Rattle.egt_entries.specs.Tables.{Tables, reach_at};
+ghost use Rattle.egt_check.specs.Prelude.{◌≡◌, ◌≢◌, ◌<◌, ℕ, Bool, false, None, Setup, K, Side, Spells, IsVoid};
+ghost use Rattle.egt_check.specs.Prelude.{HasStand, ShelfMen, reach_due_score, reach_score, NoMove, chess, TableValue};
+ghost use Rattle.egt_check.specs.Prelude.{FourMen, Reach, stand_on, AreGiven, AreTablesOf, near_entry, near_tables};
+ghost use Rattle.egt_check.specs.Prelude.{four_in, AreAllReachScores, IsJudgedBy, KeepsReach, IsAtEnd, Tables};
+ghost use Rattle.egt_check.specs.Prelude.{reach_at};
 
 use crate::laws::{all_scores_give_all_moves, due_bytes_are_right};
 use egt_index::laws::{

@@ -1,18 +1,9 @@
 //! The judgement of a row of a table's entries by the greatest scores of the moves.
-ghost use Rattle.std.specs.Prelude.{◌≡◌, ◌≢◌, ◌+◌, ◌*◌, ℕ, ◌<◌, slice_index, true, IfSome};
-ghost use Rattle.egt_board.specs.SquareSet.{Has};
-ghost use Rattle.egt_index.specs.Numbers.{code_of};
-ghost use Rattle.egt_index.specs.Scales.{kind_digits, kind_less};
-ghost use Rattle.egt_index.specs.ShelfCodes.{IsShelfOf, IsWithin, number_in};
-ghost use Rattle.egt_index.specs.Size.{size_of};
-ghost use Rattle.egt_lanes.specs.Scores.{due_score};
-ghost use Rattle.egt_table.specs.Table.{HasColumn};
-ghost use Rattle.egt_entries.specs.declared.metric.Metric.TheVariants.{Zeroing};
+ghost use Rattle.egt_check.specs.Prelude.{◌≡◌, ◌≢◌, ◌+◌, ◌*◌, ℕ, ◌<◌, slice_index, true, IfSome, Has, code_of};
+ghost use Rattle.egt_check.specs.Prelude.{kind_digits, kind_less, IsShelfOf, IsWithin, number_in, size_of, due_score};
+ghost use Rattle.egt_check.specs.Prelude.{HasColumn, Zeroing, column_of, IsRightAtOf, IsRightEndOf, due_in, IsAtEnd};
+ghost use Rattle.egt_check.specs.Prelude.{column_score, score_at};
 ghost use Rattle.egt_check.specs.declared.part.Part.TheVariants as parts;
-ghost use Rattle.egt_check.specs.Parts.{column_of};
-ghost use Rattle.egt_check.specs.RightRow.{IsRightAtOf, IsRightEndOf, due_in};
-ghost use Rattle.egt_entries.specs.Score.{IsAtEnd};
-ghost use Rattle.egt_check.specs.Worth.{column_score, score_at};
 
 use crate::lane_sets::unlike;
 use crate::part::{Part, column_of};

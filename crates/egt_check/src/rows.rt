@@ -1,15 +1,8 @@
 //! The scores that a table gives the codes which differ by the last man's square alone.
-ghost use Rattle.std.specs.Prelude.{◌≡◌, ◌↔◌, ℕ, ◌+◌, ◌*◌, ◌/◌, ◌%◌, ◌<◌, ◌≤◌, false, true, slice_index, IsTrue};
-ghost use Rattle.egt_board.specs.Pawn.{MayStand};
-ghost use Rattle.egt_class.specs.Material.{material_of};
-ghost use Rattle.egt_index.specs.Numbers.{code_of, places};
-ghost use Rattle.egt_index.specs.ShelfCodes.{IsShelf, IsShelfOf, IsWithin, stand_with};
-ghost use Rattle.egt_index.specs.Size.{has_target, size_of};
-ghost use Rattle.egt_index.specs.TellsMen.{TellsMen};
-ghost use Rattle.egt_lanes.specs.Raised.{IsRaised};
-ghost use Rattle.egt_table.specs.Table.{HasColumn};
-ghost use Rattle.egt_blocks.specs.ShelfRow.{IsShelfRow};
-ghost use Rattle.egt_check.specs.Worth.{column_score, entry_score};
+ghost use Rattle.egt_check.specs.Prelude.{◌≡◌, ◌↔◌, ℕ, ◌+◌, ◌*◌, ◌/◌, ◌%◌, ◌<◌, ◌≤◌, false, true, slice_index, IsTrue};
+ghost use Rattle.egt_check.specs.Prelude.{MayStand, material_of, code_of, places, IsShelf, IsShelfOf, IsWithin};
+ghost use Rattle.egt_check.specs.Prelude.{stand_with, has_target, size_of, TellsMen, IsRaised, HasColumn, IsShelfRow};
+ghost use Rattle.egt_check.specs.Prelude.{column_score, entry_score};
 
 use egt_blocks::own_men::is_pawn;
 use egt_board::{Kind, Man, Side, Square};

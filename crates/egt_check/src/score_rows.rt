@@ -1,15 +1,8 @@
 //! The scores of all codes of a class with two men beside the kings, kept as rows of bytes.
-ghost use Rattle.std.specs.Prelude.{◌≡◌, ◌+◌, ◌*◌, ◌<◌, ◌≤◌, ◌⊎◌, ℕ, IfOk, IfSome, length, slice_index, true};
-ghost use Rattle.std.specs.Int.{bit_at};
-ghost use Rattle.egt_board.specs.Images.{side_number};
-ghost use Rattle.egt_board.specs.SquareSet.{Has};
-ghost use Rattle.egt_board.specs.declared.man.Kind.TheVariants.{P};
-ghost use Rattle.egt_index.specs.Numbers.{code_of, places};
-ghost use Rattle.egt_index.specs.Scales.{kind_digits, kind_less};
-ghost use Rattle.egt_index.specs.ShelfCodes.{HasTwoBeside, IsShelf, IsWithin, number_in};
-ghost use Rattle.egt_index.specs.Size.{size_of};
-ghost use Rattle.egt_blocks.specs.ShelfRow.{IsShelfRow};
-ghost use Rattle.egt_check.specs.ScoreRows.{AreDrawnOrNone, HasNoVoidScore, IsDrawnIndex, IsLaneIn, IsMaskOf};
+ghost use Rattle.egt_check.specs.Prelude.{◌≡◌, ◌+◌, ◌*◌, ◌<◌, ◌≤◌, ◌⊎◌, ℕ, IfOk, IfSome, length, slice_index, true};
+ghost use Rattle.egt_check.specs.Prelude.{bit_at, side_number, Has, P, code_of, places, kind_digits, kind_less};
+ghost use Rattle.egt_check.specs.Prelude.{HasTwoBeside, IsShelf, IsWithin, number_in, size_of, IsShelfRow};
+ghost use Rattle.egt_check.specs.Prelude.{AreDrawnOrNone, HasNoVoidScore, IsDrawnIndex, IsLaneIn, IsMaskOf};
 
 use crate::lane_sets::{chosen, mask_of};
 use egt_blocks::own_men::is_pawn;

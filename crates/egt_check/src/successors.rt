@@ -1,21 +1,11 @@
 //! The best of a position's steps.
-ghost use Rattle.std.specs.Prelude.{◌≡◌, ◌↔◌, ◌<◌, ◌≤◌, max, ℕ, Some, None, IsTrue, IsSome, IfSome, IfNone};
-ghost use Rattle.std.specs.Option.{option_map};
-ghost use Rattle.egt_board.specs.Setup.{Setup, IsAdmissible};
-ghost use Rattle.egt_index.specs.Size.{size_of};
+ghost use Rattle.egt_check.specs.Prelude.{◌≡◌, ◌↔◌, ◌<◌, ◌≤◌, max, ℕ, Some, None, IsTrue, IsSome, IfSome, IfNone};
+ghost use Rattle.egt_check.specs.Prelude.{option_map, Setup, IsAdmissible, size_of, EachMove, NoMove, IsLeast, chess};
+ghost use Rattle.egt_check.specs.Prelude.{Zeroes, Leads, IsLegal, Metric, nearer, IsPlaceOf, HasReachAt, AreRaised};
+ghost use Rattle.egt_check.specs.Prelude.{HasReachEntry, ShowsReach, ShowsReachOf, number_at, greater, Scores, IsBest};
+ghost use Rattle.egt_check.specs.Prelude.{IsInClass, shown_by, table_at, beside, entry_at, HasEntry, HasChildren};
+ghost use Rattle.egt_check.specs.Prelude.{HasReachChildren};
 ghost use Rattle.egt_moves.specs.AllMen.{AreMenOf};
-ghost use Rattle.egt_moves.specs.Arena.{EachMove, NoMove};
-ghost use Rattle.egt_moves.specs.Entries.{IsLeast};
-ghost use Rattle.egt_moves.specs.Chess.{chess, Zeroes};
-ghost use Rattle.egt_moves.specs.Legal.{Leads, IsLegal};
-ghost use Rattle.egt_entries.specs.declared.metric.Metric.{Metric};
-ghost use Rattle.egt_entries.specs.Nearest.{nearer};
-ghost use Rattle.egt_check.specs.Place.{IsPlaceOf, HasReachAt};
-ghost use Rattle.egt_entries.specs.Raised.{AreRaised};
-ghost use Rattle.egt_entries.specs.Reach.{HasReachEntry, ShowsReach, ShowsReachOf};
-ghost use Rattle.egt_entries.specs.Score.{number_at, greater, Scores, IsBest};
-ghost use Rattle.egt_entries.specs.Steps.{IsInClass, shown_by};
-ghost use Rattle.egt_entries.specs.Tables.{table_at, beside, entry_at, HasEntry, HasChildren, HasReachChildren};
 
 use crate::library::Library;
 use egt_board::Position;

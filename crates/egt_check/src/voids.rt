@@ -1,13 +1,7 @@
 //! Tables whose mate entries are 0 exactly at the codes that no position has.
-ghost use Rattle.std.specs.Prelude.{◌≡◌, ℕ, ◌<◌, ◌==◌, if◌then◌else◌, true, IfSome};
-ghost use Rattle.std.specs.Int.{bit_at};
-ghost use Rattle.egt_board.specs.declared.man.Side.{Side};
-ghost use Rattle.egt_index.specs.Numbers.{code_of};
-ghost use Rattle.egt_index.specs.Scales.{kind_digits};
-ghost use Rattle.egt_index.specs.ShelfCodes.{AreMenOf, IsShelfOf, IsWithin, number_in};
-ghost use Rattle.egt_table.specs.Table.{HasColumn};
-ghost use Rattle.egt_check.specs.Voids.{AreAllAlike, TellsVoids, TellsVoidsIn};
-ghost use Rattle.egt_check.specs.Worth.{column_score};
+ghost use Rattle.egt_check.specs.Prelude.{◌≡◌, ℕ, ◌<◌, ◌==◌, if◌then◌else◌, true, IfSome, bit_at, Side, code_of};
+ghost use Rattle.egt_check.specs.Prelude.{kind_digits, AreMenOf, IsShelfOf, IsWithin, number_in, HasColumn};
+ghost use Rattle.egt_check.specs.Prelude.{AreAllAlike, TellsVoids, TellsVoidsIn, column_score};
 
 use crate::own::Own;
 use egt_blocks::digits::first_square;

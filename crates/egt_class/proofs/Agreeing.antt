@@ -1,12 +1,7 @@
 -- Counts of men that agree at every man but the kings.
-use Rattle.std.proofs.Common.{◌≡◌, ◌≢◌, ℕ, Bool, true, false, eqb, List, [], ◌∷◌, refl, ap, ◌∙◌}
-use Rattle.std.proofs.lemmas.Bool.{eq-eqb, eqb-true, false≢true}
-use Rattle.egt_board.specs.declared.man.Side.{Side}
-use Rattle.egt_board.specs.declared.man.Side.TheVariants.{White, Black}
-use Rattle.egt_board.specs.declared.man.Kind.{Kind}
-use Rattle.egt_board.specs.declared.man.Kind.TheVariants.{Q, R, B, N, P, K}
-use Rattle.egt_board.specs.declared.man.Man.{Man}
-use Rattle.egt_class.specs.Children.{men_beside, agree_at, man_of}
+use Rattle.egt_class.specs.Prelude.{◌≡◌, ◌≢◌, ℕ, Bool, true, false, eqb, List, [], ◌∷◌, refl, ap, ◌∙◌, eq-eqb, eqb-true}
+use Rattle.egt_class.specs.Prelude.{false≢true, Side, White, Black, Kind, Q, R, B, N, P, K, Man, men_beside, agree_at}
+use Rattle.egt_class.specs.Prelude.{man_of}
 
 abbrev Agree : List Man → (Man → ℕ) → (Man → ℕ) → Type 0
 Agree [] f g = Unit {0}

@@ -1,12 +1,7 @@
 -- The table of names is right at each class.
-use Rattle.std.proofs.Common.{◌≡◌, ℕ, ◌<◌, ◌&&◌, Bool, true, List, [], refl, lit<}
-use Rattle.std.specs.List.{filter}
-use Rattle.std.specs.Prelude.{slice_index, slice_index_or}
-use Rattle.std.proofs.lemmas.Bool.{and_parts}
-use Rattle.egt_class.specs.Below.{all_below, passes_below}
-use Rattle.egt_class.specs.Material.{materials, material_of}
-use Rattle.egt_class.specs.Name.{name_of, is_letter}
-use Rattle.egt_class.specs.declared.naming.TheConstants.{NAMES}
+use Rattle.egt_class.specs.Prelude.{◌≡◌, ℕ, ◌<◌, ◌&&◌, Bool, true, List, [], refl, lit<, filter, slice_index}
+use Rattle.egt_class.specs.Prelude.{slice_index_or, and_parts, all_below, passes_below, materials, material_of, name_of}
+use Rattle.egt_class.specs.Prelude.{is_letter, NAMES}
 use Rattle.egt_class.proofs.Tables.{same_list, same_list-equal, all_less, all_less-at}
 
 unfoldable row : ℕ → List ℕ

@@ -1,24 +1,11 @@
 -- The men beside the kings, gathered from a list.
-use Rattle.std.proofs.Common.{◌≡◌, ◌≢◌, ℕ, ◌+◌, ◌*◌, ◌<◌, ◌≤◌, List, [], ◌∷◌, map, length, Option, Some, None, IfSome, Bool, true, false, cond, arith, add-zero, refl, sym, ap, ◌∙◌, inl, inr}
-use Rattle.std.specs.Prelude.{count_by}
-use Rattle.std.specs.List.{sum_by}
+use Rattle.egt_class.specs.Prelude.{◌≡◌, ◌≢◌, ℕ, ◌+◌, ◌*◌, ◌<◌, ◌≤◌, List, [], ◌∷◌, map, length, Option, Some, None}
+use Rattle.egt_class.specs.Prelude.{IfSome, Bool, true, false, cond, arith, add-zero, refl, sym, ap, ◌∙◌, inl, inr}
+use Rattle.egt_class.specs.Prelude.{count_by, sum_by, length-map, sum_by-cons, false≢true, eqb_tells, Side, White}
+use Rattle.egt_class.specs.Prelude.{Black, Kind, Q, R, B, N, P, K, Man, king_of, Placement, man_entry, Setup}
+use Rattle.egt_class.specs.Prelude.{IsAdmissible, IsKingOn, kind_number, side_number, man_number, stands_here, count_of}
+use Rattle.egt_class.specs.Prelude.{is_man, AreNonKings}
 use Rattle.std.specs.FinMap as placement
-use Rattle.std.proofs.lemmas.List.{length-map}
-use Rattle.std.proofs.lemmas.List.Sums.{sum_by-cons}
-use Rattle.std.proofs.lemmas.Bool.{false≢true}
-use Rattle.std.proofs.lemmas.Bool.Decides.{eqb_tells}
-use Rattle.egt_board.specs.declared.man.Side.{Side}
-use Rattle.egt_board.specs.declared.man.Side.TheVariants.{White, Black}
-use Rattle.egt_board.specs.declared.man.Kind.{Kind}
-use Rattle.egt_board.specs.declared.man.Kind.TheVariants.{Q, R, B, N, P, K}
-use Rattle.egt_board.specs.declared.man.Man.{Man}
-use Rattle.egt_board.specs.Attack.{king_of}
-use Rattle.egt_board.specs.Placement.{Placement}
-use Rattle.egt_board.specs.Listed.{man_entry}
-use Rattle.egt_board.specs.Setup.{Setup, IsAdmissible, IsKingOn}
-use Rattle.egt_board.specs.Images.{kind_number, side_number, man_number, stands_here, count_of}
-use Rattle.egt_board.specs.Counting.{is_man}
-use Rattle.egt_class.specs.Pair.{AreNonKings}
 
 abbrev pub is_king : Kind → Bool
 is_king Q = false

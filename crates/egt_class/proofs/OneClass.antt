@@ -1,16 +1,7 @@
 -- Positions of a class: one class, the settled form, the images.
-use Rattle.std.proofs.Common.{◌≡◌, ℕ, ◌<◌, ◌⊎◌, ◌↔◌, Bool, true, false, not, if◌then◌else◌, refl, sym, ap, ◌∙◌, inl, inr}
-use Rattle.egt_board.specs.declared.man.Side.{Side}
-use Rattle.egt_board.specs.declared.man.Side.TheVariants.{White, Black}
-use Rattle.egt_board.specs.declared.man.Kind.{Kind}
-use Rattle.egt_board.specs.declared.man.Man.{Man}
-use Rattle.egt_board.specs.Man.{other_side}
-use Rattle.egt_board.specs.Placement.{Placement}
-use Rattle.egt_board.specs.Setup.{Setup}
-use Rattle.egt_board.specs.Settled.{SettlesTo}
-use Rattle.egt_board.specs.Images.{count_of, SameMen, ExchangedMen}
-use Rattle.egt_class.specs.Material.{men_in, has_equal_sides}
-use Rattle.egt_class.specs.Membership.{IsOf}
+use Rattle.egt_class.specs.Prelude.{◌≡◌, ℕ, ◌<◌, ◌⊎◌, ◌↔◌, Bool, true, false, not, if◌then◌else◌, refl, sym, ap, ◌∙◌}
+use Rattle.egt_class.specs.Prelude.{inl, inr, Side, White, Black, Kind, Man, other_side, Placement, Setup, SettlesTo}
+use Rattle.egt_class.specs.Prelude.{count_of, SameMen, ExchangedMen, men_in, has_equal_sides, IsOf}
 use Rattle.egt_class.proofs.ClassTests.{one_class, equal_sides}
 
 pub same_class : (p : Setup) (c d : ℕ) (flipped turned : Bool) → c < 36 → d < 36 → IsOf c flipped p → IsOf d turned p → (c ≡ d) × ((flipped ≡ turned) ⊎ (has_equal_sides c ≡ true))

@@ -1,20 +1,11 @@
 -- The table of classes by two men is right at each pair.
-use Rattle.std.proofs.Common.{◌≡◌, ◌≢◌, ℕ, ◌+◌, ◌*◌, ◌<◌, ◌≤◌, ◌&&◌, Bool, true, false, not, cond, eqb, ltb, Option, Some, None, IfSome, if◌then◌else◌, refl, sym, ap, ap₂, ◌∙◌, arith, inl, inr}
-use Rattle.std.proofs.lemmas.Bool.{and_parts, ltb-true, eqb-true, eq-eqb, false≢true}
-use Rattle.std.proofs.lemmas.Bool.Decides.{eqb_tells}
-use Rattle.egt_board.specs.declared.man.Side.{Side}
-use Rattle.egt_board.specs.declared.man.Side.TheVariants.{White, Black}
-use Rattle.egt_board.specs.declared.man.Kind.{Kind}
-use Rattle.egt_board.specs.declared.man.Kind.TheVariants.{Q, R, B, N, P, K}
-use Rattle.egt_board.specs.declared.man.Man.{Man}
-use Rattle.egt_board.specs.Man.{other_side}
-use Rattle.egt_board.specs.Images.{kind_number, side_number, stands_here, count_of}
-use Rattle.egt_board.specs.Setup.{Setup}
-use Rattle.egt_class.specs.Below.{all_below, passes_below}
-use Rattle.egt_class.specs.Material.{materials, material_of, men_in, has_equal_sides}
-use Rattle.egt_class.specs.Membership.{IsOf}
-use Rattle.egt_class.specs.Children.{men_beside, agree_at, man_of}
-use Rattle.egt_class.specs.Pair.{slot_of, kind_slot, first_slot, class_at, flip_at, AreNonKings}
+use Rattle.egt_class.specs.Prelude.{◌≡◌, ◌≢◌, ℕ, ◌+◌, ◌*◌, ◌<◌, ◌≤◌, ◌&&◌, Bool, true, false, not, cond, eqb, ltb}
+use Rattle.egt_class.specs.Prelude.{Option, Some, None, IfSome, if◌then◌else◌, refl, sym, ap, ap₂, ◌∙◌, arith, inl, inr}
+use Rattle.egt_class.specs.Prelude.{and_parts, ltb-true, eqb-true, eq-eqb, false≢true, eqb_tells, Side, White, Black}
+use Rattle.egt_class.specs.Prelude.{Kind, Q, R, B, N, P, K, Man, other_side, kind_number, side_number, stands_here}
+use Rattle.egt_class.specs.Prelude.{count_of, Setup, all_below, passes_below, materials, material_of, men_in}
+use Rattle.egt_class.specs.Prelude.{has_equal_sides, IsOf, men_beside, agree_at, man_of, slot_of, kind_slot, first_slot}
+use Rattle.egt_class.specs.Prelude.{class_at, flip_at, AreNonKings}
 use Rattle.egt_class.proofs.Agreeing.{all_agree}
 
 -- how many of this man the class has, in the one colours or the other

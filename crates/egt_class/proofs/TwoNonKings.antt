@@ -1,15 +1,9 @@
 -- The men beside the kings, counted by taking them off the board.
-use Rattle.std.proofs.Common.{◌≡◌, ◌≢◌, ℕ, zero, suc, ◌+◌, ◌<◌, Bool, true, false, Option, Some, None, IfSome, arith, refl, sym, ap, ◌∙◌, inl, inr}
-use Rattle.std.specs.Option.{option_map}
+use Rattle.egt_class.specs.Prelude.{◌≡◌, ◌≢◌, ℕ, zero, suc, ◌+◌, ◌<◌, Bool, true, false, Option, Some, None, IfSome}
+use Rattle.egt_class.specs.Prelude.{arith, refl, sym, ap, ◌∙◌, inl, inr, option_map, K, Man, HasBeside, stands_here}
+use Rattle.egt_class.specs.Prelude.{count_of, Placement, Stands, get-remove_same, get-remove_other, total, Setup}
+use Rattle.egt_class.specs.Prelude.{AreNonKings}
 use Rattle.std.specs.FinMap as placement
-use Rattle.egt_board.specs.declared.man.Kind.TheVariants.{K}
-use Rattle.egt_board.specs.declared.man.Man.{Man}
-use Rattle.egt_board.specs.AllMen.{HasBeside}
-use Rattle.egt_board.specs.Images.{stands_here, count_of}
-use Rattle.egt_board.specs.Placement.{Placement, Stands, get-remove_same, get-remove_other}
-use Rattle.egt_board.specs.SquareSet.{total}
-use Rattle.egt_board.specs.Setup.{Setup}
-use Rattle.egt_class.specs.Pair.{AreNonKings}
 use Rattle.egt_class.proofs.NonKings.{OneKing, is_king, king_told, other_told, king_stands}
 
 total_none : (f : ℕ → ℕ) (n : ℕ) → ((t : ℕ) → f t ≡ 0) → total f n ≡ 0

@@ -5,3 +5,4 @@ pub mod Children
 pub mod Listing
 pub mod Membership
 pub mod Pair
+pub mod Prelude

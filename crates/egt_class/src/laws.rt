@@ -1,21 +1,8 @@
 //! What holds of classes and positions. These functions do nothing: a caller calls one to know what it ensures.
-ghost use Rattle.std.specs.Prelude.{◌≡◌, ◌<◌, ◌↔◌, ◌⊎◌, ℕ, Bool, not, Option, IsTrue};
-ghost use Rattle.std.specs.List.{Contains};
-ghost use Rattle.std.specs.Option.{option_map};
-ghost use Rattle.std.specs.List.Sorted.{IsStrictlyIncreasing};
-ghost use Rattle.egt_board.specs.AllMen.{HasBeside};
-ghost use Rattle.egt_board.specs.Man.{other_side};
-ghost use Rattle.egt_board.specs.declared.man.Man.{Man};
-ghost use Rattle.egt_board.specs.declared.man.Side.TheVariants.{White, Black};
-ghost use Rattle.egt_board.specs.declared.man.Kind.{Kind};
-ghost use Rattle.egt_board.specs.Setup.{Setup, IsAdmissible};
-ghost use Rattle.egt_board.specs.Settled.{SettlesTo};
-ghost use Rattle.egt_board.specs.Images.{AreImages};
-ghost use Rattle.egt_class.specs.Material.{men_in, has_equal_sides};
-ghost use Rattle.egt_class.specs.Name.{name_of};
-ghost use Rattle.egt_class.specs.Membership.{IsOf};
-ghost use Rattle.egt_class.specs.Pair.{AreNonKings};
-ghost use Rattle.egt_class.specs.Children.{children_of};
+ghost use Rattle.egt_class.specs.Prelude.{◌≡◌, ◌<◌, ◌↔◌, ◌⊎◌, ℕ, Bool, not, Option, IsTrue, Contains, option_map};
+ghost use Rattle.egt_class.specs.Prelude.{IsStrictlyIncreasing, HasBeside, other_side, Man, White, Black, Kind, Setup};
+ghost use Rattle.egt_class.specs.Prelude.{IsAdmissible, SettlesTo, AreImages, men_in, has_equal_sides, name_of, IsOf};
+ghost use Rattle.egt_class.specs.Prelude.{AreNonKings, children_of};
 
 use egt_board::counting::{listed_men_are_counted, one_king_is_counted, one_square_changes};
 use egt_board::laws::images_keep_men;

@@ -1,10 +1,6 @@
 //! Of what class a position is.
-ghost use Rattle.std.specs.Prelude.{◌≡◌, ◌<◌, ◌+◌, ◌*◌, IsTrue, false};
-ghost use Rattle.std.specs.Option.{option_map};
-ghost use Rattle.egt_board.specs.Setup.{Setup};
-ghost use Rattle.egt_class.specs.Material.{has_equal_sides};
-ghost use Rattle.egt_class.specs.Membership.{IsOf};
-ghost use Rattle.egt_class.specs.Pair.{slot_of, class_at, flip_at, AreNonKings};
+ghost use Rattle.egt_class.specs.Prelude.{◌≡◌, ◌<◌, ◌+◌, ◌*◌, IsTrue, false, option_map, Setup, has_equal_sides, IsOf};
+ghost use Rattle.egt_class.specs.Prelude.{slot_of, class_at, flip_at, AreNonKings};
 
 use crate::class::Class;
 use egt_board::counting::{one_king_is_counted, one_square_changes};

@@ -1,9 +1,6 @@
 -- The tables that are there after each load.
-use Rattle.std.proofs.Common.{◌≡◌, ℕ, ◌+◌, ◌<◌, ◌⊎◌, inl, inr, sym, subst, arith}
-use Rattle.std.specs.Prelude.{IsSome}
-use Rattle.std.proofs.lemmas.Bool.{cases_lt}
-use Rattle.egt_entries.specs.Tables.{Tables}
-use Rattle.egt_commands.specs.Descent.{HasExactly}
+use Rattle.egt_commands.specs.Prelude.{◌≡◌, ℕ, ◌+◌, ◌<◌, ◌⊎◌, inl, inr, sym, subst, arith, IsSome, cases_lt, Tables}
+use Rattle.egt_commands.specs.Prelude.{HasExactly}
 
 -- a class with a table more
 pub one_more : (old new : Tables) (n : ℕ) (P : ℕ → Type 0) → P n → HasExactly old (λ d. (d < n) × P d)

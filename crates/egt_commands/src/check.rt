@@ -1,7 +1,5 @@
 //! The check of a table's file.
-ghost use Rattle.std.specs.Prelude.{OnOk};
-ghost use Rattle.egt_entries.specs.Library.{IsAccepted};
-ghost use Rattle.egt_entries.specs.Tables.{table_at};
+ghost use Rattle.egt_commands.specs.Prelude.{OnOk, IsAccepted, table_at};
 
 use crate::line::name_line;
 use crate::loading::load_whole;

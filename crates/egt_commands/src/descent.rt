@@ -1,8 +1,5 @@
 //! The classes that play can lead to.
-ghost use Rattle.std.specs.Prelude.{◌↔◌, ◌<◌, ◌⊎◌, ℕ};
-ghost use Rattle.std.specs.List.{Contains};
-ghost use Rattle.egt_class.specs.Children.{children_of};
-ghost use Rattle.egt_commands.specs.Descent.{Descends, IsMarked};
+ghost use Rattle.egt_commands.specs.Prelude.{◌↔◌, ◌<◌, ◌⊎◌, ℕ, Contains, children_of, Descends, IsMarked};
 
 use egt_class::laws::children_have_smaller_numbers;
 use egt_class::{Class, children};

@@ -1,6 +1,5 @@
 //! The classes of positions as text.
-ghost use Rattle.std.specs.Prelude.{◌≡◌, ◌++◌, IfOk, OnOk};
-ghost use Rattle.egt_commands.specs.Classes.{class_line, lines_below};
+ghost use Rattle.egt_commands.specs.Prelude.{◌≡◌, ◌++◌, IfOk, OnOk, class_line, lines_below};
 
 use crate::printer::print;
 use crate::run_fault::RunFault;

@@ -1,7 +1,5 @@
 //! Tables read from the files of a folder into a library.
-ghost use Rattle.std.specs.Prelude.{◌≡◌, ◌⊎◌, IfOk, OnOk, IsSome};
-ghost use Rattle.egt_entries.specs.Tables.{table_at};
-ghost use Rattle.egt_commands.specs.Descent.{Descends, HasExactly};
+ghost use Rattle.egt_commands.specs.Prelude.{◌≡◌, ◌⊎◌, IfOk, OnOk, IsSome, table_at, Descends, HasExactly};
 
 use crate::descent::descendants;
 use crate::run_fault::RunFault;

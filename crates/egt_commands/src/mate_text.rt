@@ -1,9 +1,6 @@
 //! The search for mate from a FEN, as text.
-ghost use Rattle.std.specs.Prelude.{◌≡◌, ◌<◌, ◌≤◌, IfOk, Err};
-ghost use Rattle.egt_fen.specs.declared.fault.FenFault.{FenFault};
-ghost use Rattle.egt_fen.specs.declared.fen.Fen.{Fen};
-ghost use Rattle.egt_fen.specs.Fen.{Spells, IsFirstFault};
-ghost use Rattle.egt_commands.specs.Mates.{TellsMate, mate_line, no_mate_line, side_name};
+ghost use Rattle.egt_commands.specs.Prelude.{◌≡◌, ◌<◌, ◌≤◌, IfOk, Err, FenFault, Fen, Spells, IsFirstFault, TellsMate};
+ghost use Rattle.egt_commands.specs.Prelude.{mate_line, no_mate_line, side_name};
 
 use crate::fault::MovesFault;
 use crate::printer::print;

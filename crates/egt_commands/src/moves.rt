@@ -1,9 +1,5 @@
 //! The legal moves of a FEN as text.
-ghost use Rattle.std.specs.Prelude.{◌≡◌, IfOk, Err};
-ghost use Rattle.egt_fen.specs.declared.fault.FenFault.{FenFault};
-ghost use Rattle.egt_fen.specs.declared.fen.Fen.{Fen};
-ghost use Rattle.egt_fen.specs.Fen.{Spells, IsFirstFault};
-ghost use Rattle.egt_commands.specs.Moves.{ListsMoves, lines_of};
+ghost use Rattle.egt_commands.specs.Prelude.{◌≡◌, IfOk, Err, FenFault, Fen, Spells, IsFirstFault, ListsMoves, lines_of};
 
 use crate::fault::MovesFault;
 use crate::printer::print;

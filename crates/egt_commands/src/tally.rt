@@ -1,9 +1,7 @@
 //! How many entries of a table show something, and the most plies.
-ghost use Rattle.std.specs.Prelude.{◌≡◌, length, count_by, max, option_map, unwrap_or};
-ghost use Rattle.egt_table.specs.Table.{HasColumn, entries_of};
-ghost use Rattle.egt_table.specs.declared.column.Column.TheVariants.{Mate};
+ghost use Rattle.egt_commands.specs.Prelude.{◌≡◌, length, count_by, max, option_map, unwrap_or, HasColumn, entries_of};
+ghost use Rattle.egt_commands.specs.Prelude.{Mate, shows, plies_of, IsLongest};
 ghost use Rattle.egt_commands.specs.declared.tally.Shown.TheVariants as kinds;
-ghost use Rattle.egt_commands.specs.Statistics.{shows, plies_of, IsLongest};
 
 use egt_index::size;
 use egt_table::{Column, Table};

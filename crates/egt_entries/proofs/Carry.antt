@@ -1,12 +1,6 @@
 -- What fits beside the successors of one position fits beside those of another that plays like it.
-use Rattle.std.proofs.Common.{ℕ, zero, suc, ◌≤◌, ◌↔◌}
-use Rattle.std.proofs.Math.Logic.{⊎_map}
-use Rattle.egt_board.specs.Setup.{Setup}
-use Rattle.egt_moves.specs.Arena.{Value, Win, Loss, Draw, SomeMove, IsStalemate}
-use Rattle.egt_moves.specs.Chess.{chess}
-use Rattle.egt_entries.specs.declared.metric.Metric.{Metric}
-use Rattle.egt_entries.specs.declared.metric.Metric.TheVariants.{Mate, Zeroing}
-use Rattle.egt_entries.specs.Fits.{Shown, Counts, FitsBeside}
+use Rattle.egt_entries.specs.Prelude.{ℕ, zero, suc, ◌≤◌, ◌↔◌, ⊎_map, Setup, Value, Win, Loss, Draw, SomeMove}
+use Rattle.egt_entries.specs.Prelude.{IsStalemate, chess, Metric, Mate, Zeroing, Shown, Counts, FitsBeside}
 
 -- the same is shown of both positions
 abbrev pub ShownAlike : Shown → Shown → Setup → Setup → Type 0

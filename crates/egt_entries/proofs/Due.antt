@@ -1,20 +1,12 @@
 -- Which entry is due, by the best score of a step.
-use Rattle.std.proofs.Common.{◌≡◌, ℕ, zero, suc, IfSome, ◌+◌, ◌<◌, ◌≤◌, ◌⊎◌, ◌↔◌, inl, inr, Bool, true, false, IsTrue, Option, Some, None, refl, sym, ap, subst, ◌∙◌, arith}
-use Rattle.std.proofs.lemmas.Bool.{cases_lt}
-use Rattle.egt_board.specs.Setup.{Setup}
-use Rattle.egt_moves.specs.Arena.{Value, Win, Loss, Draw, NoMove, SomeMove, IsStalemate, Ends}
-use Rattle.egt_moves.specs.Chess.{chess}
-use Rattle.egt_moves.specs.Standing.{StandsAs}
-use Rattle.egt_moves.specs.declared.outcome.Standing.{Standing}
-use Rattle.egt_moves.specs.declared.outcome.Standing.TheVariants.{Checkmate, Stalemate, HasMove}
-use Rattle.egt_entries.specs.declared.metric.Metric.{Metric}
-use Rattle.egt_entries.specs.declared.metric.Metric.TheVariants.{Mate, Zeroing}
-use Rattle.egt_entries.specs.declared.by_metric.ByMetric.{ByMetric}
-use Rattle.egt_entries.specs.declared.outcome.Outcome.{Outcome}
+use Rattle.egt_entries.specs.Prelude.{◌≡◌, ℕ, zero, suc, IfSome, ◌+◌, ◌<◌, ◌≤◌, ◌⊎◌, ◌↔◌, inl, inr, Bool, true, false}
+use Rattle.egt_entries.specs.Prelude.{IsTrue, Option, Some, None, refl, sym, ap, subst, ◌∙◌, arith, cases_lt, Setup}
+use Rattle.egt_entries.specs.Prelude.{Value, Win, Loss, Draw, NoMove, SomeMove, IsStalemate, Ends, chess, StandsAs}
+use Rattle.egt_entries.specs.Prelude.{Standing, Checkmate, Stalemate, HasMove, Metric, Mate, Zeroing, ByMetric, Outcome}
+use Rattle.egt_entries.specs.Prelude.{longest, IsShort, entry_of, Shown, Counts, FitsBeside, number_at, value_of, Says}
+use Rattle.egt_entries.specs.Prelude.{IsCounted, IsSaid, score_of, IsBest, loss_in, win_in, zeroing_said, IsAtEnd}
+use Rattle.egt_entries.specs.Prelude.{entry_before, IsDueDraw, IsDue}
 use Rattle.egt_entries.specs.declared.outcome.Outcome.TheVariants as outcomes
-use Rattle.egt_entries.specs.Entry.{longest, IsShort, entry_of}
-use Rattle.egt_entries.specs.Fits.{Shown, Counts, FitsBeside}
-use Rattle.egt_entries.specs.Score.{number_at, value_of, Says, IsCounted, IsSaid, score_of, IsBest, loss_in, win_in, zeroing_said, IsAtEnd, entry_before, IsDueDraw, IsDue}
 
 -- what each column shows of a position is one thing, for which an entry has room
 pub record IsOne (shows : Shown) (q : Setup) : Type 0 where

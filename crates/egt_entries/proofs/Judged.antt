@@ -1,13 +1,7 @@
 -- One index more is judged.
-use Rattle.std.proofs.Common.{◌≡◌, ℕ, ◌+◌, inl, inr, Option, Some, None, subst, arith}
-use Rattle.std.proofs.lemmas.Bool.{cases_lt}
-use Rattle.egt_entries.specs.declared.metric.Metric.{Metric}
-use Rattle.egt_entries.specs.declared.metric.Metric.TheVariants.{Mate, Zeroing}
-use Rattle.egt_table.specs.Table.{TableValue}
-use Rattle.egt_entries.specs.declared.rule.Rule.{Rule}
-use Rattle.egt_entries.specs.FirstBad.{earlier, IsFirstBad}
-use Rattle.egt_entries.specs.Rules.{Keeps, KeepsReach, IsJudged, IsJudgedBy, KeepsBelow, KeepsReachBelow}
-use Rattle.egt_entries.specs.Tables.{Tables}
+use Rattle.egt_entries.specs.Prelude.{◌≡◌, ℕ, ◌+◌, inl, inr, Option, Some, None, subst, arith, cases_lt, Metric, Mate}
+use Rattle.egt_entries.specs.Prelude.{Zeroing, TableValue, Rule, earlier, IsFirstBad, Keeps, KeepsReach, IsJudged}
+use Rattle.egt_entries.specs.Prelude.{IsJudgedBy, KeepsBelow, KeepsReachBelow, Tables}
 
 module _ (tables : Tables) (t : TableValue) where
   pub keeps_more : (metric : Metric) (n : ℕ) → KeepsBelow tables t metric n → IsJudged tables t metric n None → KeepsBelow tables t metric (n + 1)

@@ -1,20 +1,9 @@
 -- The best score grows move by move.
-use Rattle.std.proofs.Common.{◌≡◌, ℕ, ◌+◌, ◌<◌, ◌≤◌, ◌⊎◌, max, List, get_or, length, Option, Some, None, IfSome, refl, sym, ap, subst, ◌∙◌, inl, inr, arith}
-use Rattle.std.specs.Option.{IfNone}
-use Rattle.std.specs.List.{Contains}
-use Rattle.std.proofs.lemmas.Bool.{cases_lt}
-use Rattle.std.proofs.lemmas.List.{get_or_default}
-use Rattle.egt_board.specs.Setup.{Setup}
-use Rattle.egt_moves.specs.Arena.{NoMove}
-use Rattle.egt_moves.specs.Chess.{chess}
-use Rattle.egt_moves.specs.Legal.{Leads, IsLegal}
-use Rattle.egt_moves.specs.declared.chess_move.Move.{Move}
-use Rattle.egt_entries.specs.declared.metric.Metric.{Metric}
-use Rattle.egt_entries.specs.declared.metric.Metric.TheVariants.{Mate}
-use Rattle.egt_entries.specs.declared.by_metric.ByMetric.{ByMetric}
-use Rattle.egt_entries.specs.Fits.{Shown}
-use Rattle.egt_entries.specs.Raised.{AtMost, IsReached, IsRaised, best_in, AreRaised}
-use Rattle.egt_entries.specs.Score.{number_at, greater, Scores, IsBest}
+use Rattle.egt_entries.specs.Prelude.{◌≡◌, ℕ, ◌+◌, ◌<◌, ◌≤◌, ◌⊎◌, max, List, get_or, length, Option, Some, None, IfSome}
+use Rattle.egt_entries.specs.Prelude.{refl, sym, ap, subst, ◌∙◌, inl, inr, arith, IfNone, Contains, cases_lt}
+use Rattle.egt_entries.specs.Prelude.{get_or_default, Setup, NoMove, chess, Leads, IsLegal, Move, Metric, Mate}
+use Rattle.egt_entries.specs.Prelude.{ByMetric, Shown, AtMost, IsReached, IsRaised, best_in, AreRaised, number_at}
+use Rattle.egt_entries.specs.Prelude.{greater, Scores, IsBest}
 
 more : (low high : ℕ) (best : Option ℕ) → low ≤ high → AtMost high best → AtMost low best
 more low high None le h = absurd h

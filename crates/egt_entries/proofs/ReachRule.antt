@@ -1,15 +1,8 @@
 -- From what comparing finds to the first rule that an entry of the column of the nearest mates breaks.
-use Rattle.std.proofs.Common.{◌≡◌, ◌≢◌, ℕ, ◌-◌, ◌<◌, Option, Some, None, sym, subst, ◌∙◌, arith}
-use Rattle.egt_board.specs.Setup.{Setup}
-use Rattle.egt_index.specs.Code.{Spells}
-use Rattle.egt_index.specs.Index.{IsVoid}
-use Rattle.egt_table.specs.Table.{TableValue}
-use Rattle.egt_entries.specs.declared.rule.Rule.{Rule}
+use Rattle.egt_entries.specs.Prelude.{◌≡◌, ◌≢◌, ℕ, ◌-◌, ◌<◌, Option, Some, None, sym, subst, ◌∙◌, arith, Setup, Spells}
+use Rattle.egt_entries.specs.Prelude.{IsVoid, TableValue, Rule, FitsReachBeside, IsReachDue, ShowsReach, ShowsReachOf}
+use Rattle.egt_entries.specs.Prelude.{FindsReach, FitsReach, IsJudgedBy, KeepsReach, rule_place, Tables, reach_at}
 use Rattle.egt_entries.specs.declared.rule.Rule.TheVariants as rules
-use Rattle.egt_entries.specs.Reach.{FitsReachBeside, IsReachDue, ShowsReach, ShowsReachOf}
-use Rattle.egt_entries.specs.ReachJudged.{FindsReach}
-use Rattle.egt_entries.specs.Rules.{FitsReach, IsJudgedBy, KeepsReach, rule_place}
-use Rattle.egt_entries.specs.Tables.{Tables, reach_at}
 
 module _ (tables : Tables) (t : TableValue) (i : ℕ) where
   -- the rules before the n-th

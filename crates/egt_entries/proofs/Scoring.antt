@@ -1,10 +1,8 @@
 -- The scores of what entries show.
-use Rattle.std.proofs.Common.{◌≡◌, ◌≢◌, ℕ, ◌-◌, ◌/◌, ◌%◌, ◌<◌, ◌≤◌, Bool, true, false, leb, Option, Some, None, arith, refl, inl, inr}
-use Rattle.std.proofs.lemmas.Bool.{cases_eq, cases_lt, le-leb, leb-true}
-use Rattle.egt_moves.specs.Arena.{Win, Loss, Draw}
-use Rattle.egt_entries.specs.declared.outcome.Outcome.{Outcome}
+use Rattle.egt_entries.specs.Prelude.{◌≡◌, ◌≢◌, ℕ, ◌-◌, ◌/◌, ◌%◌, ◌<◌, ◌≤◌, Bool, true, false, leb, Option, Some, None}
+use Rattle.egt_entries.specs.Prelude.{arith, refl, inl, inr, cases_eq, cases_lt, le-leb, leb-true, Win, Loss, Draw}
+use Rattle.egt_entries.specs.Prelude.{Outcome, IsShownBy, is_decisive, score_of}
 use Rattle.egt_entries.specs.declared.outcome.Outcome.TheVariants as outcomes
-use Rattle.egt_entries.specs.Score.{IsShownBy, is_decisive, score_of}
 
 -- an entry from 3 to 64,003 shows something
 shows_some : (x : ℕ) → 2 < x → x ≤ 64003 → ¬ IsShownBy x None

@@ -14,3 +14,4 @@ pub mod Raised
 pub mod Judged
 pub mod Nearest
 pub mod ReachJudged
+pub mod Prelude

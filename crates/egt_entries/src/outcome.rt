@@ -1,7 +1,6 @@
 //! What entries show, and the scores of steps by what they say.
-ghost use Rattle.std.specs.Prelude.{◌≡◌, ◌<◌, ◌≤◌, true, Option, IfSome};
-ghost use Rattle.egt_entries.specs.Score.{IsShownBy, IsCounted, is_decisive, zeroing_said, score_of, entry_before};
-ghost use Rattle.egt_entries.specs.declared.outcome.Outcome.{Outcome};
+ghost use Rattle.egt_entries.specs.Prelude.{◌≡◌, ◌<◌, ◌≤◌, true, Option, IfSome, IsShownBy, IsCounted, is_decisive};
+ghost use Rattle.egt_entries.specs.Prelude.{zeroing_said, score_of, entry_before, Outcome};
 
 /// What an entry shows of a position, for the side to move: a win or a loss in so many plies, or a draw.
 #[derive(Clone, Copy)]

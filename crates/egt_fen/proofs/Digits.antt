@@ -1,13 +1,8 @@
 -- The digits of a clock.
-use Rattle.std.proofs.Common.{◌≡◌, ℕ, zero, suc, ◌+◌, ◌-◌, ◌*◌, ◌^◌, ◌<◌, ◌≤◌, true, List, [], ◌∷◌, length, take, get_or, arith, lit≤}
-use Rattle.std.specs.Char.{digit_value, is_ascii_digit}
-use Rattle.std.specs.List.{list_all}
-use Rattle.std.specs.Str.Parse.{digits_value, AllDigits}
-use Rattle.std.proofs.lemmas.Bool.{and_parts}
-use Rattle.std.proofs.lemmas.Bool.Decides.{nat_tests}
-use Rattle.std.proofs.lemmas.Int.Digits.{digits_value_more, digits_value-lt}
-use Rattle.std.proofs.lemmas.Str.Parse.{digits_value-take-le}
-use Rattle.std.proofs.Math.Nat.{pow-le-pow_right}
+use Rattle.egt_fen.specs.Prelude.{◌≡◌, ℕ, zero, suc, ◌+◌, ◌-◌, ◌*◌, ◌^◌, ◌<◌, ◌≤◌, true, List, [], ◌∷◌, length, take}
+use Rattle.egt_fen.specs.Prelude.{get_or, arith, lit≤, digit_value, is_ascii_digit, list_all, digits_value, AllDigits}
+use Rattle.egt_fen.specs.Prelude.{and_parts, nat_tests, digits_value_more, digits_value-lt, digits_value-take-le}
+use Rattle.egt_fen.specs.Prelude.{pow-le-pow_right}
 
 -- a byte whose value is below ten is a decimal digit
 pub record IsDigit (c : ℕ) : Type 0 where

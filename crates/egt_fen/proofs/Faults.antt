@@ -1,16 +1,8 @@
 -- A text has one first fault at most, and none where it spells a position.
-use Rattle.std.proofs.Common.{◌≡◌, ℕ, List, Result, Ok, Err, refl, sym, ap, ◌∙◌, subst}
-use Rattle.std.specs.Result.{MatchResult}
-use Rattle.egt_board.specs.declared.fault.PosFault.{PosFault}
-use Rattle.egt_board.specs.declared.fault.PosFault.TheVariants.{MenCount, KingCount, PawnRank, EpMismatch, WaitingInCheck}
-use Rattle.egt_board.specs.declared.man.Man.{Man}
+use Rattle.egt_fen.specs.Prelude.{◌≡◌, ℕ, List, Result, Ok, Err, refl, sym, ap, ◌∙◌, subst, MatchResult, PosFault}
+use Rattle.egt_fen.specs.Prelude.{MenCount, KingCount, PawnRank, EpMismatch, WaitingInCheck, Man, Setup, IsAdmissible}
+use Rattle.egt_fen.specs.Prelude.{FenFault, Fen, fault_of, Parts, parts_of, Spells, IsSetupFault, IsFirstFault}
 use Rattle.egt_board.specs.Listed as listed
-use Rattle.egt_board.specs.Setup.{Setup, IsAdmissible}
-use Rattle.egt_fen.specs.declared.fault.FenFault.{FenFault}
-use Rattle.egt_fen.specs.declared.fen.Fen.{Fen}
-use Rattle.egt_fen.specs.Fault.{fault_of}
-use Rattle.egt_fen.specs.Parts.{Parts, parts_of}
-use Rattle.egt_fen.specs.Fen.{Spells, IsSetupFault, IsFirstFault}
 use Rattle.egt_fen.proofs.Spelling.{parts_with, spelled_read, spelled_admits}
 
 one_setup_fault : (list : List (Man × ℕ)) (p : Setup) (a b : PosFault) → listed.IsFirstFault a list p → listed.IsFirstFault b list p → a ≡ b

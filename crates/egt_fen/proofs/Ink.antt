@@ -1,24 +1,12 @@
 -- The fields of a written text have neither spaces nor carriage returns, so they are found again.
-use Rattle.std.proofs.Common.{◌≡◌, ◌≢◌, ℕ, zero, suc, ◌+◌, ◌-◌, ◌<◌, Bool, true, false, cond, ◌&&◌, not, ltb, leb, List, [], ◌∷◌, ◌++◌, length, get_or, take, filter, Option, Some, None, arith, refl, ap, ◌∙◌}
-use Rattle.std.specs.List.{slice_split, onto_first, list_all, join_with_byte}
-use Rattle.std.specs.Char.{is_ascii_digit}
-use Rattle.std.specs.Fmt.{decimal}
-use Rattle.std.specs.Str.Parse.{AllDigits, digits_value}
-use Rattle.std.proofs.lemmas.Bool.{and_from, and_parts, ltb-true, lt-ltb, le-leb, ne_eqb}
-use Rattle.std.proofs.lemmas.Bool.Decides.{nat_tests}
-use Rattle.std.proofs.lemmas.List.Folds.{list_all-append}
-use Rattle.std.proofs.lemmas.Fmt.{decimal_is_IsNumeral, decimal_nonempty, length-decimal-le}
-use Rattle.egt_board.specs.declared.man.Side.{Side}
-use Rattle.egt_board.specs.declared.man.Side.TheVariants.{White, Black}
-use Rattle.egt_board.specs.declared.man.Kind.{Kind}
-use Rattle.egt_board.specs.declared.man.Kind.TheVariants.{Q, R, B, N, P, K}
-use Rattle.egt_board.specs.declared.man.Man.{Man}
-use Rattle.egt_board.specs.Placement.{Placement}
-use Rattle.egt_board.specs.Square.{file_of, rank_of}
-use Rattle.egt_fen.specs.Letter.{letter_of}
-use Rattle.egt_fen.specs.Fields.{line_of, is_space, has_bytes, runs_of}
-use Rattle.egt_fen.specs.Counter.{counter_of}
-use Rattle.egt_fen.specs.Canonical.{gap_text, squares_text, squares_of, rank_text, ranks_text, placement_text, side_text, target_text}
+use Rattle.egt_fen.specs.Prelude.{◌≡◌, ◌≢◌, ℕ, zero, suc, ◌+◌, ◌-◌, ◌<◌, Bool, true, false, cond, ◌&&◌, not, ltb, leb}
+use Rattle.egt_fen.specs.Prelude.{List, [], ◌∷◌, ◌++◌, length, get_or, take, filter, Option, Some, None, arith, refl}
+use Rattle.egt_fen.specs.Prelude.{ap, ◌∙◌, slice_split, onto_first, list_all, join_with_byte, is_ascii_digit, decimal}
+use Rattle.egt_fen.specs.Prelude.{AllDigits, digits_value, and_from, and_parts, ltb-true, lt-ltb, le-leb, ne_eqb}
+use Rattle.egt_fen.specs.Prelude.{nat_tests, list_all-append, decimal_is_IsNumeral, decimal_nonempty, length-decimal-le}
+use Rattle.egt_fen.specs.Prelude.{Side, White, Black, Kind, Q, R, B, N, P, K, Man, Placement, file_of, rank_of}
+use Rattle.egt_fen.specs.Prelude.{letter_of, line_of, is_space, has_bytes, runs_of, counter_of, gap_text, squares_text}
+use Rattle.egt_fen.specs.Prelude.{squares_of, rank_text, ranks_text, placement_text, side_text, target_text}
 use Rattle.egt_fen.proofs.Digits.{IsDigit, digit_is}
 
 -- above the space, and so no carriage return either

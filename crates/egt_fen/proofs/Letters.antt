@@ -1,12 +1,8 @@
 -- What a man's letter is not, and what a byte adds to a placement that is read from its front.
-use Rattle.std.proofs.Common.{◌≡◌, ℕ, ◌+◌, ◌-◌, ◌*◌, ◌<◌, Bool, true, false, cond, ◌&&◌, leb, ltb, List, [], ◌∷◌, ◌++◌, Option, Some, None, arith, refl, sym, ap, ◌∙◌}
-use Rattle.std.specs.Option.{option_map, is_some}
-use Rattle.std.proofs.lemmas.Bool.{false≢true, agree_below_at, le-leb}
-use Rattle.std.proofs.lemmas.List.{append_assoc}
-use Rattle.egt_board.specs.declared.man.Man.{Man}
-use Rattle.egt_fen.specs.Letter.{man_of}
-use Rattle.egt_fen.specs.Placement.{is_slash, width_of, on_square}
-use Rattle.egt_fen.specs.Walk.{men_left}
+use Rattle.egt_fen.specs.Prelude.{◌≡◌, ℕ, ◌+◌, ◌-◌, ◌*◌, ◌<◌, Bool, true, false, cond, ◌&&◌, leb, ltb, List, [], ◌∷◌}
+use Rattle.egt_fen.specs.Prelude.{◌++◌, Option, Some, None, arith, refl, sym, ap, ◌∙◌, option_map, is_some, false≢true}
+use Rattle.egt_fen.specs.Prelude.{agree_below_at, le-leb, append_assoc, Man, man_of, is_slash, width_of, on_square}
+use Rattle.egt_fen.specs.Prelude.{men_left}
 
 -- neither a slash nor a digit is a letter
 slash_no_letter : (c : ℕ) → c < 256 → (is_slash c && is_some (man_of c)) ≡ false

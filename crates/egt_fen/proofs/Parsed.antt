@@ -1,19 +1,10 @@
 -- The written placement, read again.
-use Rattle.std.proofs.Common.{◌≡◌, ℕ, zero, suc, ◌+◌, ◌-◌, ◌*◌, ◌<◌, ◌≤◌, Bool, false, cond, ◌&&◌, ltb, leb, List, [], ◌∷◌, ◌++◌, length, Option, Some, None, arith, refl, sym, ap, ◌∙◌}
-use Rattle.std.specs.Option.{option_map}
-use Rattle.std.proofs.Math.Nat.{add-zero}
-use Rattle.std.proofs.lemmas.Bool.{lt-ltb, le-leb}
-use Rattle.std.proofs.lemmas.List.{append_assoc, append-nil}
-use Rattle.egt_board.specs.declared.man.Side.{Side}
-use Rattle.egt_board.specs.declared.man.Side.TheVariants.{White, Black}
-use Rattle.egt_board.specs.declared.man.Kind.{Kind}
-use Rattle.egt_board.specs.declared.man.Kind.TheVariants.{Q, R, B, N, P, K}
-use Rattle.egt_board.specs.declared.man.Man.{Man}
-use Rattle.egt_board.specs.Placement.{Placement}
-use Rattle.egt_fen.specs.Letter.{man_of, letter_of}
-use Rattle.egt_fen.specs.Placement.{is_slash, width_of, on_square, placement_of}
-use Rattle.egt_fen.specs.Walk.{men_left}
-use Rattle.egt_fen.specs.Canonical.{gap_text, squares_text, squares_of, rank_text, ranks_text, placement_text}
+use Rattle.egt_fen.specs.Prelude.{◌≡◌, ℕ, zero, suc, ◌+◌, ◌-◌, ◌*◌, ◌<◌, ◌≤◌, Bool, false, cond, ◌&&◌, ltb, leb, List}
+use Rattle.egt_fen.specs.Prelude.{[], ◌∷◌, ◌++◌, length, Option, Some, None, arith, refl, sym, ap, ◌∙◌, option_map}
+use Rattle.egt_fen.specs.Prelude.{add-zero, lt-ltb, le-leb, append_assoc, append-nil, Side, White, Black, Kind, Q, R, B}
+use Rattle.egt_fen.specs.Prelude.{N, P, K, Man, Placement, man_of, letter_of, is_slash, width_of, on_square}
+use Rattle.egt_fen.specs.Prelude.{placement_of, men_left, gap_text, squares_text, squares_of, rank_text, ranks_text}
+use Rattle.egt_fen.specs.Prelude.{placement_text}
 use Rattle.egt_fen.proofs.Written.{length-squares_of}
 use Rattle.egt_fen.proofs.Letters.{men_left-letter}
 use Rattle.egt_fen.proofs.Ranks.{men_left_is}

@@ -1,15 +1,10 @@
 -- A placement read from its front is the placement read by ranks.
-use Rattle.std.proofs.Common.{◌≡◌, ◌≢◌, ℕ, zero, suc, ◌+◌, ◌-◌, ◌*◌, ◌<◌, Bool, true, false, cond, ◌&&◌, eqb, ltb, leb, List, [], ◌∷◌, ◌++◌, length, Option, Some, None, arith, refl, sym, ap, ◌∙◌, inl, inr, add_assoc}
-use Rattle.std.specs.List.{slice_split, list_all, onto_first, sum_by}
-use Rattle.std.specs.Option.{option_map}
-use Rattle.std.proofs.Math.Nat.{add-zero, zero-add}
-use Rattle.std.proofs.lemmas.Bool.{cases_Bool, lt-ltb, eqb-true, eqb-false, eq-eqb, ne_eqb, leb-false}
-use Rattle.std.proofs.lemmas.List.{append_assoc}
-use Rattle.std.proofs.lemmas.List.Sums.{sum_by-cons}
-use Rattle.egt_board.specs.declared.man.Man.{Man}
-use Rattle.egt_fen.specs.Letter.{man_of}
-use Rattle.egt_fen.specs.Placement.{is_slash, width_of, has_width, is_rank, on_square, men_from, men_of_ranks, ranks_of, placement_of}
-use Rattle.egt_fen.specs.Walk.{men_left}
+use Rattle.egt_fen.specs.Prelude.{◌≡◌, ◌≢◌, ℕ, zero, suc, ◌+◌, ◌-◌, ◌*◌, ◌<◌, Bool, true, false, cond, ◌&&◌, eqb, ltb}
+use Rattle.egt_fen.specs.Prelude.{leb, List, [], ◌∷◌, ◌++◌, length, Option, Some, None, arith, refl, sym, ap, ◌∙◌, inl}
+use Rattle.egt_fen.specs.Prelude.{inr, add_assoc, slice_split, list_all, onto_first, sum_by, option_map, add-zero}
+use Rattle.egt_fen.specs.Prelude.{zero-add, cases_Bool, lt-ltb, eqb-true, eqb-false, eq-eqb, ne_eqb, leb-false}
+use Rattle.egt_fen.specs.Prelude.{append_assoc, sum_by-cons, Man, man_of, is_slash, width_of, has_width, is_rank}
+use Rattle.egt_fen.specs.Prelude.{on_square, men_from, men_of_ranks, ranks_of, placement_of, men_left}
 
 abbrev Men : Type 0
 Men = List (Man × ℕ)

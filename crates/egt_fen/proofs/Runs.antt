@@ -1,10 +1,9 @@
 -- The runs of a text: where the first ends and the rest begins.
-use Rattle.std.proofs.Common.{◌≡◌, ◌≢◌, ℕ, suc, ◌+◌, ◌<◌, Bool, true, false, cond, not, ltb, List, [], ◌∷◌, length, take, drop, get_or, filter, Some, None, unwrap_or, arith, refl, sym, ap, ◌∙◌, subst}
-use Rattle.std.specs.List.{slice_split, position_or_len, position, onto_first}
-use Rattle.std.proofs.lemmas.Bool.{false≢true, ne_eqb, eqb-false, ltb-false}
-use Rattle.std.proofs.lemmas.List.Splits.{slice_split-cons_yes}
-use Rattle.std.proofs.lemmas.List.Sums.{prefix_len-le-length}
-use Rattle.egt_fen.specs.Fields.{is_space, is_other, has_bytes, runs_of}
+use Rattle.egt_fen.specs.Prelude.{◌≡◌, ◌≢◌, ℕ, suc, ◌+◌, ◌<◌, Bool, true, false, cond, not, ltb, List, [], ◌∷◌, length}
+use Rattle.egt_fen.specs.Prelude.{take, drop, get_or, filter, Some, None, unwrap_or, arith, refl, sym, ap, ◌∙◌, subst}
+use Rattle.egt_fen.specs.Prelude.{slice_split, position_or_len, position, onto_first, false≢true, ne_eqb, eqb-false}
+use Rattle.egt_fen.specs.Prelude.{ltb-false, slice_split-cons_yes, prefix_len-le-length, is_space, is_other, has_bytes}
+use Rattle.egt_fen.specs.Prelude.{runs_of}
 
 pub runs_of-nil : runs_of [] ≡ []
 unfolding runs_of

@@ -1,21 +1,9 @@
 -- What a text spells and what its parts say are the same.
-use Rattle.std.proofs.Common.{◌≡◌, ℕ, List, Option, Some, None, Result, Ok, Err, refl, sym, ap, ◌∙◌, subst}
-use Rattle.std.specs.Result.{IsOk, IsErr}
-use Rattle.egt_board.specs.declared.man.Side.{Side}
-use Rattle.egt_board.specs.declared.man.Man.{Man}
-use Rattle.egt_board.specs.Listed.{setup_of, FitsBoard}
-use Rattle.egt_board.specs.Setup.{Setup, IsAdmissible}
-use Rattle.egt_fen.specs.declared.fault.FenFault.{FenFault}
+use Rattle.egt_fen.specs.Prelude.{◌≡◌, ℕ, List, Option, Some, None, Result, Ok, Err, refl, sym, ap, ◌∙◌, subst, IsOk}
+use Rattle.egt_fen.specs.Prelude.{IsErr, Side, Man, setup_of, FitsBoard, Setup, IsAdmissible, FenFault, Fen, Fields}
+use Rattle.egt_fen.specs.Prelude.{fields_of, placement_of, side_of, castling_of, target_of, clocks_of, Parts, ◌>>=◌}
+use Rattle.egt_fen.specs.Prelude.{expect, parts_of, Spells}
 use Rattle.egt_fen.specs.declared.fault.FenFault.TheVariants.{FieldCount, Placement, Colour, Castling, EpField, Counter}
-use Rattle.egt_fen.specs.declared.fen.Fen.{Fen}
-use Rattle.egt_fen.specs.Fields.{Fields, fields_of}
-use Rattle.egt_fen.specs.Placement.{placement_of}
-use Rattle.egt_fen.specs.Side.{side_of}
-use Rattle.egt_fen.specs.Castling.{castling_of}
-use Rattle.egt_fen.specs.Target.{target_of}
-use Rattle.egt_fen.specs.Counter.{clocks_of}
-use Rattle.egt_fen.specs.Parts.{Parts, ◌>>=◌, expect, parts_of}
-use Rattle.egt_fen.specs.Fen.{Spells}
 
 pub not_both : {T E : Type 0} (r : Result T E) → IsErr r → IsOk r → ⊥
 not_both (Ok x) err ok = absurd (cc)

@@ -1,12 +1,9 @@
 -- The placement as it is written: a rank square by square, and the ranks one below the other.
-use Rattle.std.proofs.Common.{◌≡◌, ℕ, zero, suc, ◌+◌, ◌*◌, ◌<◌, ◌≤◌, List, [], ◌∷◌, ◌++◌, length, drop, get_or, Some, None, arith, refl, sym, ap, ◌∙◌}
+use Rattle.egt_fen.specs.Prelude.{◌≡◌, ℕ, zero, suc, ◌+◌, ◌*◌, ◌<◌, ◌≤◌, List, [], ◌∷◌, ◌++◌, length, drop, get_or}
+use Rattle.egt_fen.specs.Prelude.{Some, None, arith, refl, sym, ap, ◌∙◌, add-zero, append_assoc, append-nil}
+use Rattle.egt_fen.specs.Prelude.{at_drop_more, at_drop_all, Man, Placement, letter_of, gap_text, squares_text}
+use Rattle.egt_fen.specs.Prelude.{squares_of, rank_text, ranks_text, placement_text}
 use Rattle.std.specs.FinMap as placement
-use Rattle.std.proofs.Math.Nat.{add-zero}
-use Rattle.std.proofs.lemmas.List.{append_assoc, append-nil, at_drop_more, at_drop_all}
-use Rattle.egt_board.specs.declared.man.Man.{Man}
-use Rattle.egt_board.specs.Placement.{Placement}
-use Rattle.egt_fen.specs.Letter.{letter_of}
-use Rattle.egt_fen.specs.Canonical.{gap_text, squares_text, squares_of, rank_text, ranks_text, placement_text}
 
 -- what stands on a square of the rank
 pub squares_of-at : (men : Placement) (rank file : ℕ) → file < 8 → get_or (squares_of men rank) file None ≡ placement.get men (8 * rank + file)

@@ -12,3 +12,4 @@ pub mod Counter
 pub mod Parts
 pub mod Fen
 pub mod Canonical
+pub mod Prelude

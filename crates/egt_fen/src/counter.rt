@@ -1,10 +1,6 @@
 //! The clocks.
-ghost use Rattle.std.specs.Prelude.{◌≡◌, ◌≤◌, ◌<◌, length, IfSome, Some};
-ghost use Rattle.std.specs.Option.{option_map};
-ghost use Rattle.std.specs.Char.{is_ascii_digit};
-ghost use Rattle.std.specs.List.{list_all};
-ghost use Rattle.std.specs.Str.Parse.{digits_value, AllDigits};
-ghost use Rattle.egt_fen.specs.Counter.{counter_of, clocks_of};
+ghost use Rattle.egt_fen.specs.Prelude.{◌≡◌, ◌≤◌, ◌<◌, length, IfSome, Some, option_map, is_ascii_digit, list_all};
+ghost use Rattle.egt_fen.specs.Prelude.{digits_value, AllDigits, counter_of, clocks_of};
 
 /// The halfmove clock and the fullmove number, each below a thousand million; 0 and 1 where the fields are left out.
 /// `None` where one is not one to nine decimal digits.

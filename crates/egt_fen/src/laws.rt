@@ -1,13 +1,7 @@
 //! Laws of the texts. These functions call nothing and answer nothing: their contracts are the laws.
-ghost use Rattle.std.specs.Prelude.{◌≡◌, ℕ, List};
-ghost use Rattle.egt_board.specs.Setup.{IsAdmissible};
-ghost use Rattle.egt_fen.specs.Canonical.{canonical};
-ghost use Rattle.egt_fen.specs.declared.fen.Fen.{Fen};
-ghost use Rattle.egt_board.specs.declared.fault.PosFault.{PosFault};
+ghost use Rattle.egt_fen.specs.Prelude.{◌≡◌, ℕ, List, IsAdmissible, canonical, Fen, PosFault, number_of, name_of};
+ghost use Rattle.egt_fen.specs.Prelude.{fault_of, FenFault, Spells, IsFirstFault};
 ghost use Rattle.egt_board.specs.Fault as setup;
-ghost use Rattle.egt_fen.specs.Fault.{number_of, name_of, fault_of};
-ghost use Rattle.egt_fen.specs.declared.fault.FenFault.{FenFault};
-ghost use Rattle.egt_fen.specs.Fen.{Spells, IsFirstFault};
 
 /// The text that is written for a position with its clocks spells it: what was written is read again.
 pub fn written_is_read()

@@ -1,7 +1,5 @@
 //! The placement.
-ghost use Rattle.std.specs.Prelude.{◌≡◌};
-ghost use Rattle.std.specs.Option.{option_map};
-ghost use Rattle.egt_fen.specs.Placement.{placement_of};
+ghost use Rattle.egt_fen.specs.Prelude.{◌≡◌, option_map, placement_of};
 
 use crate::walk::Walk;
 use arrayvec::ArrayVec;

@@ -1,9 +1,5 @@
 //! A FEN text read (PGN standard of 1994, section 16.1).
-ghost use Rattle.std.specs.Prelude.{◌≡◌, ◌↔◌, IsOk, IfOk, IfErr};
-ghost use Rattle.egt_fen.specs.declared.fen.Fen.{Fen};
-ghost use Rattle.egt_fen.specs.Fen.{Spells, IsFirstFault};
-ghost use Rattle.egt_fen.specs.Parts.{parts_of};
-ghost use Rattle.egt_fen.specs.Shown.{shown_result};
+ghost use Rattle.egt_fen.specs.Prelude.{◌≡◌, ◌↔◌, IsOk, IfOk, IfErr, Fen, Spells, IsFirstFault, parts_of, shown_result};
 
 use crate::castling::castling_of;
 use crate::counter::clocks_of;

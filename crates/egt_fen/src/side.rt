@@ -1,6 +1,5 @@
 //! The side to move.
-ghost use Rattle.std.specs.Prelude.{◌≡◌};
-ghost use Rattle.egt_fen.specs.Side.{side_of};
+ghost use Rattle.egt_fen.specs.Prelude.{◌≡◌, side_of};
 
 use egt_board::Side;
 

@@ -1,6 +1,5 @@
 //! The en passant target.
-ghost use Rattle.std.specs.Prelude.{◌≡◌};
-ghost use Rattle.egt_fen.specs.Target.{target_of};
+ghost use Rattle.egt_fen.specs.Prelude.{◌≡◌, target_of};
 
 use egt_board::Square;
 

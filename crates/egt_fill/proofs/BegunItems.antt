@@ -1,20 +1,8 @@
 -- Items of which no ends are known.
-use Rattle.std.proofs.Common.{◌≡◌, ◌≢◌, ℕ, ◌+◌, ◌<◌, true, false, List, slice_index_or, arith, ap, ◌∙◌, subst}
-use Rattle.std.specs.Int.{bit_at}
-use Rattle.std.proofs.lemmas.Nat.Bits.{bit_at-zero}
-use Rattle.egt_board.specs.declared.square_set.SquareSet.{SquareSet}
-use Rattle.egt_index.specs.Scales.{kind_less}
-use Rattle.egt_index.specs.declared.shelf_codes.ShelfMen.{ShelfMen}
-use Rattle.egt_table.specs.Table.{TableValue}
-use Rattle.egt_blocks.specs.Blocks.{AreShelvesOf}
-use Rattle.egt_check.specs.MoveScores.{HoldsExits}
-use Rattle.egt_check.specs.Parts.{column_of}
-use Rattle.egt_check.specs.declared.part.Part.{Part}
-use Rattle.egt_fill.specs.Items.{IsItem, men_of, passed_shelves_of, shelves_of}
-use Rattle.egt_fill.specs.Mended.{AllEnded, no_squares}
-use Rattle.egt_fill.specs.declared.filling.Filling.{Filling}
-use Rattle.egt_fill.specs.declared.items.Item.{Item}
-use Rattle.egt_fill.specs.declared.mending.Shelf.{Shelf}
+use Rattle.egt_fill.specs.Prelude.{◌≡◌, ◌≢◌, ℕ, ◌+◌, ◌<◌, true, false, List, slice_index_or, arith, ap, ◌∙◌, subst}
+use Rattle.egt_fill.specs.Prelude.{bit_at, bit_at-zero, SquareSet, kind_less, ShelfMen, TableValue, AreShelvesOf}
+use Rattle.egt_fill.specs.Prelude.{HoldsExits, column_of, Part, IsItem, men_of, passed_shelves_of, shelves_of, AllEnded}
+use Rattle.egt_fill.specs.Prelude.{no_squares, Filling, Item, Shelf}
 
 -- there are no entries at the ends where no square is one
 none_ended : (part : Part) (t : TableValue) (shelves : Shelf) (ended : List SquareSet) → ((s : ℕ) → slice_index_or ended s no_squares ≡ no_squares) → AllEnded part t shelves ended

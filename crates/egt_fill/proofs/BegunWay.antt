@@ -1,12 +1,6 @@
 -- Before the first look.
-use Rattle.std.proofs.Common.{◌≡◌, ℕ, zero, suc, List, length, replicate, slice_index, refl, arith}
-use Rattle.std.specs.List.{All}
-use Rattle.egt_table.specs.Table.{TableValue}
-use Rattle.egt_fill.specs.Begun.{AreNumbered}
-use Rattle.egt_fill.specs.Items.{IsItem}
-use Rattle.egt_fill.specs.UnderWay.{IsUnderWay}
-use Rattle.egt_fill.specs.declared.filling.Filling.{Filling}
-use Rattle.egt_fill.specs.declared.items.Item.{Item}
+use Rattle.egt_fill.specs.Prelude.{◌≡◌, ℕ, zero, suc, List, length, replicate, slice_index, refl, arith, All}
+use Rattle.egt_fill.specs.Prelude.{TableValue, AreNumbered, IsItem, IsUnderWay, Filling, Item}
 
 pub begun_under_way : (f : Filling) (t : TableValue) (items : List Item) (places stamps : List ℕ) → All (IsItem f t) items → All (λ (item : Item). item.looked ≡ 0) items → AreNumbered items places → length stamps ≡ 8192 → ((i : ℕ) → slice_index stamps i ≡ 0)
     → IsUnderWay f t items places stamps 1

@@ -1,18 +1,8 @@
 -- Columns in which all positions are drawn have bytes of their own.
-use Rattle.std.proofs.Common.{◌≡◌, ℕ, ◌<◌, ◌∙◌, arith, ap}
-use Rattle.egt_index.specs.Index.{IsVoid}
-use Rattle.egt_index.specs.Size.{size_of}
-use Rattle.egt_table.specs.Table.{TableValue, entries_or_none}
-use Rattle.egt_entries.specs.NearTables.{near_entry}
-use Rattle.egt_entries.specs.Tables.{entry_at}
-use Rattle.egt_entries.specs.declared.metric.Metric.{Metric}
-use Rattle.egt_entries.specs.declared.metric.Metric.TheVariants.{Mate, Zeroing}
-use Rattle.egt_check.specs.Given.{AreAlike, IsKnown}
-use Rattle.egt_check.specs.Parts.{table_in}
-use Rattle.egt_check.specs.Worth.{HasBytes}
+use Rattle.egt_fill.specs.Prelude.{◌≡◌, ℕ, ◌<◌, ◌∙◌, arith, ap, IsVoid, size_of, TableValue, entries_or_none}
+use Rattle.egt_fill.specs.Prelude.{near_entry, entry_at, Metric, Mate, Zeroing, AreAlike, IsKnown, table_in, HasBytes}
+use Rattle.egt_fill.specs.Prelude.{near_at, IsDrawn, IsDrawnAt}
 use Rattle.egt_check.specs.declared.part.Part.TheVariants as parts
-use Rattle.egt_check.proofs.NearReading.{near_at}
-use Rattle.egt_fill.specs.Filled.{IsDrawn, IsDrawnAt}
 
 known : (entry : ℕ) → entry ≡ 1 → IsKnown entry
 known entry is = record { some = λ none. omega (arith, is, none); other = λ two. omega (arith, is, two); low = omega (arith, is) }

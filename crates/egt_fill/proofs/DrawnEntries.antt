@@ -1,13 +1,8 @@
 -- Entries that scores of draws tell.
-use Rattle.std.proofs.Common.{◌≡◌, ◌∙◌, ℕ, ◌<◌, List, length, map, arith, refl, ap, sym, subst, inl, inr, slice_index}
-use Rattle.egt_index.specs.Index.{IsVoid}
-use Rattle.egt_index.specs.Size.{size_of}
-use Rattle.egt_table.specs.declared.column.Column.{Column}
+use Rattle.egt_fill.specs.Prelude.{◌≡◌, ◌∙◌, ℕ, ◌<◌, List, length, map, arith, refl, ap, sym, subst, inl, inr}
+use Rattle.egt_fill.specs.Prelude.{slice_index, IsVoid, size_of, Column, TellColumn, TellsEntry, told, AreDrawnOrNone}
+use Rattle.egt_fill.specs.Prelude.{CodeScores, HasNoVoidScore, IsDrawnIndex, told_at, told_none, IsDrawn}
 use Rattle.egt_table.specs.declared.column.Column.TheVariants.{Mate, Zeroing, Reach}
-use Rattle.egt_check.specs.Found.{TellColumn, TellsEntry, told}
-use Rattle.egt_check.specs.ScoreRows.{AreDrawnOrNone, CodeScores, HasNoVoidScore, IsDrawnIndex}
-use Rattle.egt_check.proofs.FoundTold.{told_at, told_none}
-use Rattle.egt_fill.specs.Filled.{IsDrawn}
 
 draw_told : (column : Column) → told column 128 ≡ 1
 draw_told Mate = refl

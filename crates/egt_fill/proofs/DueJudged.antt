@@ -1,22 +1,8 @@
 -- Entries that are due to the greatest scores of all moves keep the rules.
-use Rattle.std.proofs.Common.{◌≡◌, ◌≢◌, ℕ, ◌+◌, Bool, true, false, inl, inr, refl, subst, arith}
-use Rattle.std.proofs.lemmas.Bool.{cases_eq}
-use Rattle.egt_board.specs.declared.man.Kind.TheVariants.{K}
-use Rattle.egt_board.specs.declared.man.Side.{Side}
-use Rattle.egt_index.specs.Numbers.{code_of}
-use Rattle.egt_index.specs.Scales.{kind_less}
-use Rattle.egt_index.specs.ShelfCodes.{number_in}
-use Rattle.egt_index.specs.declared.shelf_codes.ShelfMen.{ShelfMen}
-use Rattle.egt_table.specs.Table.{TableValue}
-use Rattle.egt_entries.specs.Tables.{Tables}
-use Rattle.egt_check.specs.MoveScores.{AreTablesOf}
-use Rattle.egt_check.specs.Parts.{four_in, tables_in}
-use Rattle.egt_check.specs.ReachScores.{AreAllScoresOf}
-use Rattle.egt_check.specs.RightBlock.{AreJudged, IsRightLane, KeepsPart}
-use Rattle.egt_check.specs.declared.move_scores.Children.{Children}
-use Rattle.egt_check.specs.declared.move_scores.FourMen.{FourMen}
-use Rattle.egt_check.specs.declared.part.Part.{Part}
-use Rattle.egt_fill.specs.Settled.{AreAllDue, AreDue}
+use Rattle.egt_fill.specs.Prelude.{◌≡◌, ◌≢◌, ℕ, ◌+◌, Bool, true, false, inl, inr, refl, subst, arith, cases_eq, K, Side}
+use Rattle.egt_fill.specs.Prelude.{code_of, kind_less, number_in, ShelfMen, TableValue, Tables, AreTablesOf, four_in}
+use Rattle.egt_fill.specs.Prelude.{tables_in, AreAllScoresOf, AreJudged, IsRightLane, KeepsPart, Children, FourMen}
+use Rattle.egt_fill.specs.Prelude.{Part, AreAllDue, AreDue}
 
 -- entries of a part that are due to the greatest scores of all moves keep the rules, one by one
 abbrev pub DueAreRight : Type 0

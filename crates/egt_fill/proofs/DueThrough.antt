@@ -1,29 +1,11 @@
 -- Entries that are due to the greatest scores of all moves stay so when entries of other kings are put that no move leads to.
-use Rattle.std.proofs.Common.{◌≡◌, ℕ, ◌+◌, ◌<◌, Bool, true, false, refl, sym, ap, ◌∙◌, inl, inr, subst, slice_index}
-use Rattle.egt_board.specs.declared.man.Side.{Side}
-use Rattle.egt_index.specs.Code.{Spells}
-use Rattle.egt_index.specs.Numbers.{code_of}
-use Rattle.egt_index.specs.Scales.{kind_less}
-use Rattle.egt_index.specs.ShelfCodes.{number_in}
-use Rattle.egt_index.specs.Size.{size_of}
-use Rattle.egt_index.specs.TellsMen.{TellsMen}
-use Rattle.egt_index.specs.declared.shelf_codes.ShelfMen.{ShelfMen}
-use Rattle.egt_table.specs.Table.{TableValue, entries_of}
-use Rattle.egt_table.specs.declared.column.Column.{Column}
+use Rattle.egt_fill.specs.Prelude.{◌≡◌, ℕ, ◌+◌, ◌<◌, Bool, true, false, refl, sym, ap, ◌∙◌, inl, inr, subst}
+use Rattle.egt_fill.specs.Prelude.{slice_index, Side, Spells, code_of, kind_less, number_in, size_of, TellsMen}
+use Rattle.egt_fill.specs.Prelude.{ShelfMen, TableValue, entries_of, Column, near_entry, stand_on, column_of}
+use Rattle.egt_fill.specs.Prelude.{IsRightLane, IsRightAtOf, IsRightEnd, IsRightReachEnd, column_score, Children}
+use Rattle.egt_fill.specs.Prelude.{FourMen, Part, Values, Reach, IsMended, IsOfKings, ReadsKings, AreAllDue, AreDue}
+use Rattle.egt_fill.specs.Prelude.{AreScoresIn}
 use Rattle.egt_table.specs.declared.column.Column.TheVariants as columns
-use Rattle.egt_entries.specs.NearTables.{near_entry}
-use Rattle.egt_steps.specs.Stands.{stand_on}
-use Rattle.egt_check.specs.Parts.{column_of}
-use Rattle.egt_check.specs.RightBlock.{IsRightLane}
-use Rattle.egt_check.specs.RightRow.{IsRightAtOf, IsRightEnd, IsRightReachEnd}
-use Rattle.egt_check.specs.Worth.{column_score}
-use Rattle.egt_check.specs.declared.move_scores.Children.{Children}
-use Rattle.egt_check.specs.declared.move_scores.FourMen.{FourMen}
-use Rattle.egt_check.specs.declared.part.Part.{Part}
-use Rattle.egt_check.specs.declared.part.Part.TheVariants.{Values, Reach}
-use Rattle.egt_fill.specs.Mended.{IsMended, IsOfKings}
-use Rattle.egt_fill.specs.Reads.{ReadsKings}
-use Rattle.egt_fill.specs.Settled.{AreAllDue, AreDue, AreScoresIn}
 use Rattle.egt_fill.proofs.KeptThrough.{score_stays}
 use Rattle.egt_fill.proofs.ScoresThrough.{scores_stay}
 use Rattle.egt_fill.proofs.ToldOnce.{kings_told, side_told}

@@ -1,23 +1,10 @@
 -- Tables whose entries keep the rules beside the true tables of the children are true.
-use Rattle.std.proofs.Common.{◌≡◌, ℕ, ◌<◌, ◌↔◌, ◌∙◌, None, Some, IsSome, IfSome, Option, List, arith, ap, refl, subst, sym, slice_index}
-use Rattle.std.specs.List.{Contains}
-use Rattle.std.proofs.lemmas.Bool.{false≢true, ne_eqb}
-use Rattle.egt_class.specs.Children.{children_of}
-use Rattle.egt_index.specs.Index.{IsIndex, IsVoid}
-use Rattle.egt_index.specs.Size.{size_of}
-use Rattle.egt_table.specs.Table.{IsTable, TableValue}
-use Rattle.egt_entries.specs.Entry.{Shows}
-use Rattle.egt_entries.specs.Library.{ReachesDown}
-use Rattle.egt_entries.specs.Rules.{KeepsReachBelow, KeepsRules}
-use Rattle.egt_entries.specs.Tables.{Tables, HasReachChildren, beside, entry_at}
-use Rattle.egt_entries.specs.Truth.{HasTrueChildren, IsTrueReach, IsTrueTable}
-use Rattle.egt_entries.specs.declared.metric.Metric.{Metric}
-use Rattle.egt_entries.specs.declared.metric.Metric.TheVariants.{Mate, Zeroing}
-use Rattle.egt_check.specs.RightBlock.{KeepsPart}
-use Rattle.egt_check.specs.declared.part.Part.{Part}
-use Rattle.egt_check.specs.declared.part.Part.TheVariants.{Reach, Values}
-use Rattle.egt_check.proofs.Finding.{beside_other, beside_own}
-use Rattle.egt_fill.specs.Filled.{IsWithReach}
+use Rattle.egt_fill.specs.Prelude.{◌≡◌, ℕ, ◌<◌, ◌↔◌, ◌∙◌, None, Some, IsSome, IfSome, Option, List, arith, ap, refl}
+use Rattle.egt_fill.specs.Prelude.{subst, sym, slice_index, Contains, false≢true, ne_eqb, children_of, IsIndex, IsVoid}
+use Rattle.egt_fill.specs.Prelude.{size_of, IsTable, TableValue, Shows, ReachesDown, KeepsReachBelow, KeepsRules}
+use Rattle.egt_fill.specs.Prelude.{Tables, HasReachChildren, beside, entry_at, HasTrueChildren, IsTrueReach}
+use Rattle.egt_fill.specs.Prelude.{IsTrueTable, Metric, Mate, Zeroing, KeepsPart, Part, Reach, Values, beside_other}
+use Rattle.egt_fill.specs.Prelude.{beside_own, IsWithReach}
 
 -- the part's entries keep the rules at all codes
 abbrev pub KeepsAll : Part → Tables → TableValue → Type 0

@@ -1,18 +1,8 @@
 -- The entries of an item, without a target and with one.
-use Rattle.std.proofs.Common.{◌≡◌, ◌≢◌, ℕ, ◌+◌, ◌<◌, Bool, true, false, List, sym, subst}
-use Rattle.std.proofs.lemmas.Bool.{false≢true}
-use Rattle.egt_board.specs.declared.square_set.SquareSet.{SquareSet}
-use Rattle.egt_index.specs.Numbers.{code_of}
-use Rattle.egt_index.specs.Scales.{kind_digits, kind_less}
-use Rattle.egt_index.specs.ShelfCodes.{number_in, stand_with}
-use Rattle.egt_index.specs.TellsMen.{TellsMen}
-use Rattle.egt_table.specs.Table.{TableValue}
-use Rattle.egt_blocks.specs.Blocks.{AreShelvesOf}
-use Rattle.egt_fill.specs.Items.{IsItem, men_of, passed_shelves_of, shelves_of}
-use Rattle.egt_fill.specs.Mended.{AllEnded, AreRightRows, IsCodeIn, IsMended, IsMendedAt, IsOfKings, IsShelf, shelf_at}
-use Rattle.egt_fill.specs.declared.filling.Filling.{Filling}
-use Rattle.egt_fill.specs.declared.items.Item.{Item}
-use Rattle.egt_fill.specs.declared.mending.Shelf.{Shelf}
+use Rattle.egt_fill.specs.Prelude.{◌≡◌, ◌≢◌, ℕ, ◌+◌, ◌<◌, Bool, true, false, List, sym, subst, false≢true, SquareSet}
+use Rattle.egt_fill.specs.Prelude.{code_of, kind_digits, kind_less, number_in, stand_with, TellsMen, TableValue}
+use Rattle.egt_fill.specs.Prelude.{AreShelvesOf, IsItem, men_of, passed_shelves_of, shelves_of, AllEnded, AreRightRows}
+use Rattle.egt_fill.specs.Prelude.{IsCodeIn, IsMended, IsMendedAt, IsOfKings, IsShelf, shelf_at, Filling, Item, Shelf}
 use Rattle.egt_fill.proofs.PutEntries.{mended_after, widened}
 use Rattle.egt_fill.proofs.RowsMended.{all_ended_stay, rows_stay}
 use Rattle.egt_fill.proofs.ShelfLanes.{codes_of_kings}

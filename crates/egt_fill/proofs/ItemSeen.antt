@@ -1,22 +1,9 @@
 -- What a look sees of an item.
-use Rattle.std.proofs.Common.{◌≡◌, ℕ, ◌+◌, ◌<◌, Bool, true, false, List, sym, ap, ◌∙◌, subst}
-use Rattle.egt_board.specs.declared.man.Side.{Side}
-use Rattle.egt_index.specs.Numbers.{code_of}
-use Rattle.egt_index.specs.Scales.{kind_digits, kind_less}
-use Rattle.egt_index.specs.Size.{size_of}
-use Rattle.egt_index.specs.declared.shelf_codes.ShelfMen.{ShelfMen}
-use Rattle.egt_lanes.specs.Blocks.{at}
-use Rattle.egt_table.specs.Table.{TableValue}
-use Rattle.egt_blocks.specs.Blocks.{AreShelvesOf, with_kings}
-use Rattle.egt_blocks.proofs.ShelfRead.{square_in}
-use Rattle.egt_check.specs.declared.move_scores.Children.{Children}
-use Rattle.egt_check.specs.declared.part.Part.{Part}
-use Rattle.egt_check.proofs.LaneRight.{right_lane}
-use Rattle.egt_fill.specs.Items.{AreBlockScores, AreItemScores, AreSeen, IsItem, IsRightItem, IsSameItem, IsSeenItem, men_of}
-use Rattle.egt_fill.specs.Mended.{AreRightRows}
-use Rattle.egt_fill.specs.declared.filling.Filling.{Filling}
-use Rattle.egt_fill.specs.declared.items.Item.{Item}
-use Rattle.egt_fill.specs.declared.looking.Scores.{Scores}
+use Rattle.egt_fill.specs.Prelude.{◌≡◌, ℕ, ◌+◌, ◌<◌, Bool, true, false, List, sym, ap, ◌∙◌, subst, Side, code_of}
+use Rattle.egt_fill.specs.Prelude.{kind_digits, kind_less, size_of, ShelfMen, at, TableValue, AreShelvesOf, with_kings}
+use Rattle.egt_fill.specs.Prelude.{square_in, Children, Part, right_lane, AreBlockScores, AreItemScores, AreSeen}
+use Rattle.egt_fill.specs.Prelude.{IsItem, IsRightItem, IsSameItem, IsSeenItem, men_of, AreRightRows, Filling, Item}
+use Rattle.egt_fill.specs.Prelude.{Scores}
 
 rows_seen : (part : Part) (passed : Bool) (old new : TableValue) (children : Children) (men : ShelfMen) (first : ℕ) (side : Side) (scores clocks : List (List ℕ)) → AreShelvesOf passed new.class men first
     → ((n : ℕ) → n < size_of new.class → code_of new.class n < size_of new.class)

@@ -1,24 +1,10 @@
 -- What was read of positions stays when entries of others are put.
-use Rattle.std.proofs.Common.{◌≡◌, ℕ, ◌/◌, ◌%◌, ◌<◌, Bool, true, false, eqb, List, [], length, Option, Some, None, IfSome, refl, sym, ap, ◌∙◌, inl, inr, slice_index_or, arith}
-use Rattle.egt_board.specs.Man.{other_side}
-use Rattle.egt_board.specs.Turned.{turned_side, turned_square}
-use Rattle.egt_board.specs.declared.man.Side.{Side}
-use Rattle.egt_board.specs.declared.man.Side.TheVariants.{White, Black}
-use Rattle.egt_index.specs.TurnedMen.{IsInEitherOrder, IsSeenBy, IsSomeTurnedCodeWith, turned_by}
-use Rattle.egt_index.specs.declared.shelf_codes.ShelfMen.{ShelfMen}
-use Rattle.egt_index.specs.declared.stand.Stand.{Stand}
-use Rattle.egt_lanes.specs.Blocks.{at}
-use Rattle.egt_lanes.specs.Raised.{IsRaised}
-use Rattle.egt_steps.specs.Stands.{stand_on}
-use Rattle.egt_table.specs.Table.{TableValue}
-use Rattle.egt_table.specs.declared.column.Column.{Column}
-use Rattle.egt_blocks.specs.Blocks.{with_kings}
-use Rattle.egt_blocks.specs.Kept.{AreKept, IsKept}
-use Rattle.egt_blocks.specs.declared.kept_blocks.BlockKey.{BlockKey}
-use Rattle.egt_check.specs.Worth.{column_score, entry_score}
-use Rattle.egt_check.specs.declared.part.Part.{Part}
-use Rattle.egt_fill.specs.Mended.{IsMended, IsOfKings}
-use Rattle.egt_fill.specs.Turns.{TakesKings, TurnsTo}
+use Rattle.egt_fill.specs.Prelude.{◌≡◌, ℕ, ◌/◌, ◌%◌, ◌<◌, Bool, true, false, eqb, List, [], length, Option, Some, None}
+use Rattle.egt_fill.specs.Prelude.{IfSome, refl, sym, ap, ◌∙◌, inl, inr, slice_index_or, arith, other_side, turned_side}
+use Rattle.egt_fill.specs.Prelude.{turned_square, Side, White, Black, IsInEitherOrder, IsSeenBy, IsSomeTurnedCodeWith}
+use Rattle.egt_fill.specs.Prelude.{turned_by, ShelfMen, Stand, at, IsRaised, stand_on, TableValue, Column, with_kings}
+use Rattle.egt_fill.specs.Prelude.{AreKept, IsKept, BlockKey, column_score, entry_score, Part, IsMended, IsOfKings}
+use Rattle.egt_fill.specs.Prelude.{TakesKings, TurnsTo}
 use Rattle.egt_fill.proofs.ToldOnce.{kings_told, side_told}
 
 -- ---- a code that is read tells the kings where a turn takes them

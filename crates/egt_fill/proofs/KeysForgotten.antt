@@ -1,26 +1,10 @@
 -- Blocks that are forgotten where entries are put: those that stay were read from others.
-use Rattle.std.proofs.Common.{◌≡◌, ◌≢◌, ◌∙◌, ℕ, ◌/◌, ◌%◌, ◌==◌, ◌<◌, Bool, true, false, List, [], length, Option, Some, None, IfSome, arith, ap, refl, sym, subst, inl, inr, slice_index_or}
-use Rattle.std.proofs.lemmas.Bool.{false≢true}
-use Rattle.egt_board.specs.Man.{other_side}
-use Rattle.egt_board.specs.Turned.{turned_square}
-use Rattle.egt_board.specs.declared.man.Side.{Side}
-use Rattle.egt_board.specs.declared.man.Side.TheVariants.{White, Black}
-use Rattle.egt_class.specs.Material.{has_equal_sides, material_of}
-use Rattle.egt_index.specs.Home.{IsTurnWith, symmetries}
-use Rattle.egt_index.specs.Size.{has_pawns}
-use Rattle.egt_index.specs.declared.shelf_codes.ShelfMen.{ShelfMen}
-use Rattle.egt_index.proofs.Best.{turn_number}
-use Rattle.egt_index.proofs.Led.{eight}
-use Rattle.egt_index.proofs.TurnedMen.{undoing, undoing_in, undone}
-use Rattle.egt_table.specs.Table.{TableValue}
-use Rattle.egt_table.specs.declared.column.Column.{Column}
-use Rattle.egt_blocks.specs.Kept.{AreKept, IsKept, IsPlaced, wide_place}
-use Rattle.egt_blocks.specs.declared.kept_blocks.BlockKey.{BlockKey}
-use Rattle.egt_check.specs.Worth.{column_score}
-use Rattle.egt_check.specs.declared.part.Part.{Part}
-use Rattle.egt_fill.specs.Forgotten.{AreFewer, AreForgotten}
-use Rattle.egt_fill.specs.Mended.{IsMended}
-use Rattle.egt_fill.specs.Turns.{TurnsTo}
+use Rattle.egt_fill.specs.Prelude.{◌≡◌, ◌≢◌, ◌∙◌, ℕ, ◌/◌, ◌%◌, ◌==◌, ◌<◌, Bool, true, false, List, [], length, Option}
+use Rattle.egt_fill.specs.Prelude.{Some, None, IfSome, arith, ap, refl, sym, subst, inl, inr, slice_index_or}
+use Rattle.egt_fill.specs.Prelude.{false≢true, other_side, turned_square, Side, White, Black, has_equal_sides}
+use Rattle.egt_fill.specs.Prelude.{material_of, IsTurnWith, symmetries, has_pawns, ShelfMen, turn_number, eight}
+use Rattle.egt_fill.specs.Prelude.{undoing, undoing_in, undone, TableValue, Column, AreKept, IsKept, IsPlaced}
+use Rattle.egt_fill.specs.Prelude.{wide_place, BlockKey, column_score, Part, AreFewer, AreForgotten, IsMended, TurnsTo}
 use Rattle.egt_fill.proofs.KeptThrough.{all_kept}
 
 other_apart : (side : Side) → side ≢ other_side side

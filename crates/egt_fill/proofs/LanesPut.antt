@@ -1,36 +1,13 @@
 -- Tables with the entries of a row's squares put anew.
-use Rattle.std.proofs.Common.{◌≡◌, ◌≢◌, ◌⊎◌, ◌∙◌, ℕ, ◌+◌, ◌*◌, ◌-◌, ◌%◌, ◌<◌, ◌==◌, if◌then◌else◌, Bool, true, false, List, arith, refl, sym, ap, inl, inr, slice_index, subst}
-use Rattle.std.proofs.lemmas.Bool.{cases_eq}
-use Rattle.std.proofs.lemmas.Bool.Decides.{nat_tests}
-use Rattle.egt_board.specs.Setup.{Setup}
-use Rattle.egt_board.specs.SquareSet.{Has}
-use Rattle.egt_board.specs.declared.square_set.SquareSet.{SquareSet}
-use Rattle.egt_index.specs.Code.{Spells}
-use Rattle.egt_index.specs.Index.{IsVoid}
-use Rattle.egt_index.specs.Numbers.{code_of}
-use Rattle.egt_index.specs.Scales.{kind_digits, kind_less}
-use Rattle.egt_index.specs.ShelfCodes.{number_in}
-use Rattle.egt_index.specs.Size.{size_of}
-use Rattle.egt_lanes.specs.Scores.{byte_score, reach_score}
-use Rattle.egt_table.specs.Table.{TableValue, entries_of}
+use Rattle.egt_fill.specs.Prelude.{◌≡◌, ◌≢◌, ◌⊎◌, ◌∙◌, ℕ, ◌+◌, ◌*◌, ◌-◌, ◌%◌, ◌<◌, ◌==◌, if◌then◌else◌, Bool, true}
+use Rattle.egt_fill.specs.Prelude.{false, List, arith, refl, sym, ap, inl, inr, slice_index, subst, cases_eq, nat_tests}
+use Rattle.egt_fill.specs.Prelude.{Setup, Has, SquareSet, Spells, IsVoid, code_of, kind_digits, kind_less, number_in}
+use Rattle.egt_fill.specs.Prelude.{size_of, byte_score, reach_score, TableValue, entries_of, near_entry, entry_at}
+use Rattle.egt_fill.specs.Prelude.{reach_at, Metric, Mate, Zeroing, IsPutIn, IsToldAt, AreAlike, IsKnown, column_of}
+use Rattle.egt_fill.specs.Prelude.{table_in, IsRightEndOf, IsLaneIn, HasBytes, column_score, Part, if_not, if_same}
+use Rattle.egt_fill.specs.Prelude.{near_at, AreOfEnd, IsEndScore, IsLaneOf, IsMendedAt, IsPutAt, Shelf}
 use Rattle.egt_table.specs.declared.column.Column.TheVariants as columns
-use Rattle.egt_entries.specs.NearTables.{near_entry}
-use Rattle.egt_entries.specs.Tables.{entry_at, reach_at}
-use Rattle.egt_entries.specs.declared.metric.Metric.{Metric}
-use Rattle.egt_entries.specs.declared.metric.Metric.TheVariants.{Mate, Zeroing}
-use Rattle.egt_check.specs.Found.{IsPutIn, IsToldAt}
-use Rattle.egt_check.specs.Given.{AreAlike, IsKnown}
-use Rattle.egt_check.specs.Parts.{column_of, table_in}
-use Rattle.egt_check.specs.RightRow.{IsRightEndOf}
-use Rattle.egt_check.specs.ScoreRows.{IsLaneIn}
-use Rattle.egt_check.specs.Worth.{HasBytes, column_score}
-use Rattle.egt_check.specs.declared.part.Part.{Part}
 use Rattle.egt_check.specs.declared.part.Part.TheVariants as parts
-use Rattle.egt_check.proofs.ByteJudged.{if_not, if_same}
-use Rattle.egt_check.proofs.NearReading.{near_at}
-use Rattle.egt_fill.specs.Ends.{AreOfEnd, IsEndScore}
-use Rattle.egt_fill.specs.Mended.{IsLaneOf, IsMendedAt, IsPutAt}
-use Rattle.egt_fill.specs.declared.mending.Shelf.{Shelf}
 use Rattle.egt_fill.proofs.PutEntries.{stays}
 
 -- what differs nowhere is the same

@@ -1,21 +1,10 @@
 -- A pass over items, one item more.
-use Rattle.std.proofs.Common.{◌≡◌, ◌≢◌, ◌∙◌, ℕ, ◌+◌, ◌<◌, Bool, true, false, List, [], None, Option, length, slice_index_or, slice_set, inl, inr, refl, ap, sym, subst, arith}
-use Rattle.std.proofs.lemmas.Bool.{cases_lt, false≢true}
-use Rattle.std.proofs.lemmas.List.{get_or_default, length-set, set-get_or}
-use Rattle.std.specs.List.{All}
-use Rattle.egt_board.specs.Man.{other_side}
-use Rattle.egt_board.specs.declared.man.Side.{Side}
-use Rattle.egt_board.specs.declared.man.Side.TheVariants.{White, Black}
-use Rattle.egt_table.specs.Table.{TableValue}
-use Rattle.egt_blocks.specs.Kept.{IsKept, IsPlaced}
-use Rattle.egt_blocks.specs.declared.kept_blocks.BlockKey.{BlockKey}
-use Rattle.egt_check.specs.Worth.{column_score}
-use Rattle.egt_fill.specs.Covered.{IsDueItem}
-use Rattle.egt_fill.specs.Mended.{IsMendedAt, IsOfKings}
-use Rattle.egt_fill.specs.Rounds.{AreAllKept, AreFreshItems, IsFreshItem, IsUntouched, IsUntouchedPass}
-use Rattle.egt_fill.specs.UnderWay.{IsLookedAt, IsStamped, IsUnderWay}
-use Rattle.egt_fill.specs.declared.filling.Filling.{Filling}
-use Rattle.egt_fill.specs.declared.items.Item.{Item}
+use Rattle.egt_fill.specs.Prelude.{◌≡◌, ◌≢◌, ◌∙◌, ℕ, ◌+◌, ◌<◌, Bool, true, false, List, [], None, Option, length}
+use Rattle.egt_fill.specs.Prelude.{slice_index_or, slice_set, inl, inr, refl, ap, sym, subst, arith, cases_lt}
+use Rattle.egt_fill.specs.Prelude.{false≢true, get_or_default, length-set, set-get_or, All, other_side, Side, White}
+use Rattle.egt_fill.specs.Prelude.{Black, TableValue, IsKept, IsPlaced, BlockKey, column_score, IsDueItem, IsMendedAt}
+use Rattle.egt_fill.specs.Prelude.{IsOfKings, AreAllKept, AreFreshItems, IsFreshItem, IsUntouched, IsUntouchedPass}
+use Rattle.egt_fill.specs.Prelude.{IsLookedAt, IsStamped, IsUnderWay, Filling, Item}
 use Rattle.egt_fill.proofs.PutEntries.{mended_after}
 use Rattle.egt_fill.proofs.StillUnderWay.{still_under_way}
 

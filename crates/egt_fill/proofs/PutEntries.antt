@@ -1,24 +1,11 @@
 -- Tables with some entries put anew.
-use Rattle.std.proofs.Common.{◌≡◌, ◌≢◌, ◌⊎◌, ℕ, ◌*◌, ◌-◌, ◌%◌, ◌<◌, Option, arith, refl, sym, ap, ◌∙◌, inl, inr, slice_index, subst, List}
-use Rattle.std.proofs.lemmas.Bool.{cases_eq}
-use Rattle.egt_index.specs.Code.{Spells}
-use Rattle.egt_index.specs.Index.{IsVoid}
-use Rattle.egt_index.specs.Size.{size_of}
-use Rattle.egt_table.specs.Table.{HasColumn, TableValue, entries_of, entries_or_none}
-use Rattle.egt_table.specs.declared.column.Column.{Column}
+use Rattle.egt_fill.specs.Prelude.{◌≡◌, ◌≢◌, ◌⊎◌, ℕ, ◌*◌, ◌-◌, ◌%◌, ◌<◌, Option, arith, refl, sym, ap, ◌∙◌, inl, inr}
+use Rattle.egt_fill.specs.Prelude.{slice_index, subst, List, cases_eq, Spells, IsVoid, size_of, HasColumn, TableValue}
+use Rattle.egt_fill.specs.Prelude.{entries_of, entries_or_none, Column, entry_at, reach_at, Metric, Mate, Zeroing}
+use Rattle.egt_fill.specs.Prelude.{byte_score, reach_score, AreAlike, IsKnown, table_in, IsRightEndOf, HasBytes, Part}
+use Rattle.egt_fill.specs.Prelude.{near_at, IsMendedAt, IsPutAt}
 use Rattle.egt_table.specs.declared.column.Column.TheVariants as columns
-use Rattle.egt_entries.specs.Tables.{entry_at, reach_at}
-use Rattle.egt_entries.specs.declared.metric.Metric.{Metric}
-use Rattle.egt_entries.specs.declared.metric.Metric.TheVariants.{Mate, Zeroing}
-use Rattle.egt_lanes.specs.Scores.{byte_score, reach_score}
-use Rattle.egt_check.specs.Given.{AreAlike, IsKnown}
-use Rattle.egt_check.specs.Parts.{table_in}
-use Rattle.egt_check.specs.RightRow.{IsRightEndOf}
-use Rattle.egt_check.specs.Worth.{HasBytes}
-use Rattle.egt_check.specs.declared.part.Part.{Part}
 use Rattle.egt_check.specs.declared.part.Part.TheVariants as parts
-use Rattle.egt_check.proofs.NearReading.{near_at}
-use Rattle.egt_fill.specs.Mended.{IsMendedAt, IsPutAt}
 
 -- nothing is put
 pub stays : (part : Part) (At : ℕ → Type 0) (t : TableValue) → HasBytes (table_in part t) → IsMendedAt part At t t

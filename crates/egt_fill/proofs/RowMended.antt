@@ -1,22 +1,10 @@
 -- A row whose entries are put where they are not due.
-use Rattle.std.proofs.Common.{◌≡◌, ◌≢◌, ◌∙◌, ℕ, ◌+◌, ◌%◌, ◌<◌, List, max, min, arith, sym, ap, inl, inr, slice_index, subst}
-use Rattle.std.specs.Int.{bit_at}
-use Rattle.std.proofs.lemmas.Bool.{cases_eq}
-use Rattle.std.proofs.lemmas.Nat.Bits.{bit_at-lt}
-use Rattle.egt_board.specs.declared.square_set.SquareSet.{SquareSet}
-use Rattle.egt_index.specs.Numbers.{code_of, number_of}
-use Rattle.egt_index.specs.Scales.{kind_digits, kind_less}
-use Rattle.egt_index.specs.ShelfCodes.{number_in}
-use Rattle.egt_index.specs.Size.{size_of}
-use Rattle.egt_lanes.specs.Scores.{due_score}
-use Rattle.egt_table.specs.Table.{TableValue}
-use Rattle.egt_check.specs.Parts.{column_of}
-use Rattle.egt_check.specs.RightRow.{IsRightAtOf, IsRightEndOf, due_in}
-use Rattle.egt_check.specs.Worth.{column_score, entry_score}
-use Rattle.egt_check.specs.declared.part.Part.{Part}
-use Rattle.egt_check.specs.declared.part.Part.TheVariants.{Values, Reach}
-use Rattle.egt_fill.specs.Mended.{AreEnded, IsCodeOf, IsLaneOf, IsMendedAt, IsPutAt, IsRightRow, IsRowSeen, IsShelf}
-use Rattle.egt_fill.specs.declared.mending.Shelf.{Shelf}
+use Rattle.egt_fill.specs.Prelude.{◌≡◌, ◌≢◌, ◌∙◌, ℕ, ◌+◌, ◌%◌, ◌<◌, List, max, min, arith, sym, ap, inl, inr}
+use Rattle.egt_fill.specs.Prelude.{slice_index, subst, bit_at, cases_eq, bit_at-lt, SquareSet, code_of, number_of}
+use Rattle.egt_fill.specs.Prelude.{kind_digits, kind_less, number_in, size_of, due_score, TableValue, column_of}
+use Rattle.egt_fill.specs.Prelude.{IsRightAtOf, IsRightEndOf, due_in, column_score, entry_score, Part, Values, Reach}
+use Rattle.egt_fill.specs.Prelude.{AreEnded, IsCodeOf, IsLaneOf, IsMendedAt, IsPutAt, IsRightRow, IsRowSeen, IsShelf}
+use Rattle.egt_fill.specs.Prelude.{Shelf}
 use Rattle.egt_fill.proofs.PutEntries.{end_stays, mended_after, put_stays, widened}
 use Rattle.egt_fill.proofs.ShelfLanes.{one_digit}
 

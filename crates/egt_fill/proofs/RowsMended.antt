@@ -1,30 +1,13 @@
 -- Rows that stay right while others are put.
-use Rattle.std.proofs.Common.{◌≡◌, ◌≢◌, ◌∙◌, ℕ, ◌+◌, ◌*◌, ◌%◌, ◌<◌, List, [], length, arith, sym, ap, inl, inr, slice_index, slice_index_or, slice_set, subst}
-use Rattle.std.proofs.lemmas.Bool.{cases_eq}
-use Rattle.std.proofs.lemmas.List.{get_or-set_other, get_or-set_same}
-use Rattle.egt_board.specs.Images.{side_number}
-use Rattle.egt_board.specs.declared.man.Kind.{Kind}
-use Rattle.egt_board.specs.declared.man.Kind.TheVariants.{Q, R, B, N, P, K}
-use Rattle.egt_board.specs.declared.square_set.SquareSet.{SquareSet}
-use Rattle.egt_index.specs.Numbers.{code_of, number_of}
-use Rattle.egt_index.specs.Scales.{kind_digits, kind_less}
-use Rattle.egt_index.specs.ShelfCodes.{number_in}
-use Rattle.egt_index.specs.Size.{size_of}
-use Rattle.egt_table.specs.Table.{TableValue, entries_of}
-use Rattle.egt_table.specs.declared.column.Column.{Column}
+use Rattle.egt_fill.specs.Prelude.{◌≡◌, ◌≢◌, ◌∙◌, ℕ, ◌+◌, ◌*◌, ◌%◌, ◌<◌, List, [], length, arith, sym, ap, inl, inr}
+use Rattle.egt_fill.specs.Prelude.{slice_index, slice_index_or, slice_set, subst, cases_eq, get_or-set_other}
+use Rattle.egt_fill.specs.Prelude.{get_or-set_same, side_number, Kind, Q, R, B, N, P, K, SquareSet, code_of, number_of}
+use Rattle.egt_fill.specs.Prelude.{kind_digits, kind_less, number_in, size_of, TableValue, entries_of, Column, ShelfMen}
+use Rattle.egt_fill.specs.Prelude.{men_on, AreShelvesOf, square_in, byte_score, reach_score, column_of, IsRightAtOf}
+use Rattle.egt_fill.specs.Prelude.{IsRightEndOf, column_score, entry_score, Part, Values, Reach, AllEnded, AreEnded}
+use Rattle.egt_fill.specs.Prelude.{AreRightRows, IsCodeIn, IsCodeOf, IsMendedAt, IsRightRow, IsShelf, no_squares}
+use Rattle.egt_fill.specs.Prelude.{shelf_at, Shelf}
 use Rattle.egt_table.specs.declared.column.Column.TheVariants as columns
-use Rattle.egt_index.specs.declared.shelf_codes.ShelfMen.{ShelfMen}
-use Rattle.egt_steps.specs.Stands.{men_on}
-use Rattle.egt_blocks.specs.Blocks.{AreShelvesOf}
-use Rattle.egt_blocks.proofs.ShelfRead.{square_in}
-use Rattle.egt_lanes.specs.Scores.{byte_score, reach_score}
-use Rattle.egt_check.specs.Parts.{column_of}
-use Rattle.egt_check.specs.RightRow.{IsRightAtOf, IsRightEndOf}
-use Rattle.egt_check.specs.Worth.{column_score, entry_score}
-use Rattle.egt_check.specs.declared.part.Part.{Part}
-use Rattle.egt_check.specs.declared.part.Part.TheVariants.{Values, Reach}
-use Rattle.egt_fill.specs.Mended.{AllEnded, AreEnded, AreRightRows, IsCodeIn, IsCodeOf, IsMendedAt, IsRightRow, IsShelf, no_squares, shelf_at}
-use Rattle.egt_fill.specs.declared.mending.Shelf.{Shelf}
 use Rattle.egt_fill.proofs.PutEntries.{end_stays, mended_after}
 use Rattle.egt_fill.proofs.ShelfLanes.{number_within}
 

@@ -1,32 +1,12 @@
 -- The greatest scores of all moves stay when entries that no move leads to are put.
-use Rattle.std.proofs.Common.{◌≡◌, ◌⊎◌, ℕ, Bool, true, false, Option, refl, sym, ap, inl, inr, subst}
-use Rattle.egt_board.specs.Man.{other_side}
-use Rattle.egt_board.specs.declared.man.Man.{Man}
-use Rattle.egt_board.specs.declared.man.Side.{Side}
-use Rattle.egt_index.specs.TurnedMen.{IsSomeTurnedCodeWith}
-use Rattle.egt_index.specs.declared.shelf_codes.ShelfMen.{ShelfMen}
-use Rattle.egt_index.specs.declared.stand.Stand.{Stand}
-use Rattle.egt_lanes.specs.Raised.{IsRaised}
-use Rattle.egt_table.specs.Table.{TableValue}
-use Rattle.egt_table.specs.declared.column.Column.{Column}
+use Rattle.egt_fill.specs.Prelude.{◌≡◌, ◌⊎◌, ℕ, Bool, true, false, Option, refl, sym, ap, inl, inr, subst, other_side}
+use Rattle.egt_fill.specs.Prelude.{Man, Side, IsSomeTurnedCodeWith, ShelfMen, Stand, IsRaised, TableValue, Column}
+use Rattle.egt_fill.specs.Prelude.{AreLeapCodes, AreStepCodes, stand_after, AreQuietCodes, IsQuietStand, IsBesideKing}
+use Rattle.egt_fill.specs.Prelude.{with_king, men_swapped, AreAllScores, AreMoveScores, AreZeroingMoves, ArePawnScores}
+use Rattle.egt_fill.specs.Prelude.{AreRaisedByPawns, IsRaisedByPawn, AreAllReachScores, AreAllScoresOf, AreReachScores}
+use Rattle.egt_fill.specs.Prelude.{column_score, Children, FourMen, Part, Values, Reach, Promotions, IsMended}
+use Rattle.egt_fill.specs.Prelude.{IsOfKings, ReadsKings, TurnsTo}
 use Rattle.egt_table.specs.declared.column.Column.TheVariants as columns
-use Rattle.egt_steps.specs.InPassing.{AreLeapCodes, AreStepCodes}
-use Rattle.egt_steps.specs.PawnMoves.{stand_after}
-use Rattle.egt_steps.specs.QuietStands.{AreQuietCodes, IsQuietStand}
-use Rattle.egt_steps.specs.Stands.{IsBesideKing, with_king}
-use Rattle.egt_blocks.specs.Taken.{men_swapped}
-use Rattle.egt_check.specs.MoveScores.{AreAllScores, AreMoveScores, AreZeroingMoves}
-use Rattle.egt_check.specs.PawnScores.{ArePawnScores, AreRaisedByPawns, IsRaisedByPawn}
-use Rattle.egt_check.specs.ReachScores.{AreAllReachScores, AreAllScoresOf, AreReachScores}
-use Rattle.egt_check.specs.Worth.{column_score}
-use Rattle.egt_check.specs.declared.move_scores.Children.{Children}
-use Rattle.egt_check.specs.declared.move_scores.FourMen.{FourMen}
-use Rattle.egt_check.specs.declared.part.Part.{Part}
-use Rattle.egt_check.specs.declared.part.Part.TheVariants.{Values, Reach}
-use Rattle.egt_check.specs.declared.pawn_scores.Promotions.{Promotions}
-use Rattle.egt_fill.specs.Mended.{IsMended, IsOfKings}
-use Rattle.egt_fill.specs.Reads.{ReadsKings}
-use Rattle.egt_fill.specs.Turns.{TurnsTo}
 use Rattle.egt_fill.proofs.KeptThrough.{raised_worth, read_of_kings, score_stays}
 
 -- ---- codes that are read

@@ -1,18 +1,8 @@
 -- The codes of a shelf.
-use Rattle.std.proofs.Common.{◌≡◌, ℕ, ◌+◌, ◌*◌, ◌<◌, arith, refl, sym, ap, subst, ◌∙◌}
-use Rattle.egt_board.specs.declared.man.Side.{Side}
-use Rattle.egt_index.specs.Numbers.{code_of, number_of}
-use Rattle.egt_index.specs.Scales.{kind_digits, kind_less}
-use Rattle.egt_index.specs.ShelfCodes.{number_in, stand_with}
-use Rattle.egt_index.specs.Size.{size_of}
-use Rattle.egt_blocks.proofs.ShelfRead.{side_few}
-use Rattle.egt_board.specs.SquareSet.{Has}
-use Rattle.egt_board.specs.declared.square_set.SquareSet.{SquareSet}
-use Rattle.egt_table.specs.Table.{TableValue}
-use Rattle.egt_check.specs.declared.part.Part.{Part}
-use Rattle.egt_fill.specs.Mended.{IsCodeOf, IsLaneOf, IsMendedAt, IsOfKings, IsShelf}
+use Rattle.egt_fill.specs.Prelude.{◌≡◌, ℕ, ◌+◌, ◌*◌, ◌<◌, arith, refl, sym, ap, subst, ◌∙◌, Side, code_of, number_of}
+use Rattle.egt_fill.specs.Prelude.{kind_digits, kind_less, number_in, stand_with, size_of, side_few, Has, SquareSet}
+use Rattle.egt_fill.specs.Prelude.{TableValue, Part, IsCodeOf, IsLaneOf, IsMendedAt, IsOfKings, IsShelf, Shelf}
 use Rattle.egt_fill.proofs.PutEntries.{mended_after}
-use Rattle.egt_fill.specs.declared.mending.Shelf.{Shelf}
 
 module _ (c : ℕ) (shelf : Shelf) (is : IsShelf c shelf) where
   pub number_within : (digit : ℕ) → digit < kind_digits shelf.men.last.kind → number_in c shelf.number shelf.side digit < size_of c

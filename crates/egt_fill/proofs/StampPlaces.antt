@@ -1,15 +1,7 @@
 -- Places of stamps, stamps that rise, and the stamps that turns lead to.
-use Rattle.std.proofs.Common.{◌≡◌, ℕ, ◌%◌, ◌<◌, ◌≤◌, List, slice_index, true, false, IsTrue, arith, refl, inl, inr}
-use Rattle.egt_board.specs.Man.{other_side}
-use Rattle.egt_board.specs.Turned.{turned_square}
-use Rattle.egt_board.specs.declared.man.Side.{Side}
-use Rattle.egt_board.specs.declared.man.Side.TheVariants.{White, Black}
-use Rattle.egt_class.specs.Material.{has_equal_sides, material_of}
-use Rattle.egt_index.specs.Home.{IsTurnWith}
-use Rattle.egt_index.specs.Size.{has_pawns}
-use Rattle.egt_index.specs.declared.shelf_codes.ShelfMen.{ShelfMen}
-use Rattle.egt_fill.specs.Stamps.{IsFresh, stamp_place}
-use Rattle.egt_fill.specs.Turns.{TurnsTo}
+use Rattle.egt_fill.specs.Prelude.{◌≡◌, ℕ, ◌%◌, ◌<◌, ◌≤◌, List, slice_index, true, false, IsTrue, arith, refl, inl, inr}
+use Rattle.egt_fill.specs.Prelude.{other_side, turned_square, Side, White, Black, has_equal_sides, material_of}
+use Rattle.egt_fill.specs.Prelude.{IsTurnWith, has_pawns, ShelfMen, IsFresh, stamp_place, TurnsTo}
 
 -- different squares and sides have different places
 pub one_place : (s r : Side) (w b x y : ℕ) → w < 64 → b < 64 → x < 64 → y < 64 → stamp_place s w b ≡ stamp_place r x y → (s ≡ r) × (w ≡ x) × (b ≡ y)

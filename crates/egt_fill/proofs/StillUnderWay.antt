@@ -1,26 +1,10 @@
 -- A look at one item leaves what holds of all.
-use Rattle.std.proofs.Common.{◌≡◌, ◌≢◌, ◌∙◌, ℕ, ◌+◌, ◌<◌, ◌≤◌, Bool, List, length, slice_index, slice_index_or, slice_set, inl, inr, refl, ap, sym, subst, arith, true, false}
-use Rattle.std.proofs.lemmas.Bool.{cases_eq}
-use Rattle.std.proofs.lemmas.List.{get_or-set_other, get_or-set_same, length-set}
-use Rattle.egt_board.specs.declared.man.Side.{Side}
-use Rattle.egt_index.specs.Numbers.{code_of}
-use Rattle.egt_index.specs.Scales.{kind_digits, kind_less}
-use Rattle.egt_index.specs.ShelfCodes.{number_in}
-use Rattle.egt_index.specs.declared.shelf_codes.ShelfMen.{ShelfMen}
-use Rattle.egt_table.specs.Table.{TableValue}
-use Rattle.egt_blocks.specs.Blocks.{AreShelvesOf}
-use Rattle.egt_check.specs.declared.move_scores.Children.{Children}
-use Rattle.egt_check.specs.declared.part.Part.{Part}
-use Rattle.egt_fill.specs.Covered.{IsDueItem}
-use Rattle.egt_fill.specs.Items.{AreSeen, IsItem, men_of, passed_shelves_of, shelves_of}
-use Rattle.egt_fill.specs.Mended.{IsMended, IsOfKings}
-use Rattle.egt_fill.specs.Reads.{ReadsKings}
-use Rattle.egt_fill.specs.Settled.{AreDue}
-use Rattle.egt_fill.specs.Stamps.{IsFresh}
-use Rattle.egt_fill.specs.UnderWay.{IsLookedAt, IsStamped, IsUnderWay, place_of}
-use Rattle.egt_fill.specs.declared.filling.Filling.{Filling}
-use Rattle.egt_fill.specs.declared.items.Item.{Item}
-use Rattle.egt_fill.specs.declared.mending.Shelf.{Shelf}
+use Rattle.egt_fill.specs.Prelude.{◌≡◌, ◌≢◌, ◌∙◌, ℕ, ◌+◌, ◌<◌, ◌≤◌, Bool, List, length, slice_index, slice_index_or}
+use Rattle.egt_fill.specs.Prelude.{slice_set, inl, inr, refl, ap, sym, subst, arith, true, false, cases_eq}
+use Rattle.egt_fill.specs.Prelude.{get_or-set_other, get_or-set_same, length-set, Side, code_of, kind_digits, kind_less}
+use Rattle.egt_fill.specs.Prelude.{number_in, ShelfMen, TableValue, AreShelvesOf, Children, Part, IsDueItem, AreSeen}
+use Rattle.egt_fill.specs.Prelude.{IsItem, men_of, passed_shelves_of, shelves_of, IsMended, IsOfKings, ReadsKings}
+use Rattle.egt_fill.specs.Prelude.{AreDue, IsFresh, IsLookedAt, IsStamped, IsUnderWay, place_of, Filling, Item, Shelf}
 use Rattle.egt_fill.proofs.DueThrough.{all_due_stay, scores_in_stay}
 use Rattle.egt_fill.proofs.ItemMended.{codes_in_kings}
 use Rattle.egt_fill.proofs.RowsMended.{all_ended_stay}

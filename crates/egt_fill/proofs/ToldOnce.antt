@@ -1,19 +1,7 @@
 -- A code tells one side to move and one square for each man.
-use Rattle.std.proofs.Common.{◌≡◌, ℕ, ◌<◌, Bool, true, false, cond, List, [], ◌∷◌, refl, sym, ap, subst, ◌∙◌, arith}
-use Rattle.egt_board.specs.Attack.{king_of}
-use Rattle.egt_board.specs.Images.{side_number}
-use Rattle.egt_board.specs.declared.man.Man.{Man}
-use Rattle.egt_board.specs.declared.man.Side.{Side}
-use Rattle.egt_board.specs.declared.man.Side.TheVariants.{White, Black}
-use Rattle.egt_class.specs.Material.{material_of}
-use Rattle.egt_index.specs.Digits.{AreDigits}
-use Rattle.egt_index.specs.Size.{has_target, men_bases}
-use Rattle.egt_index.specs.Code.{men_at}
-use Rattle.egt_index.specs.Stood.{list_of}
-use Rattle.egt_index.specs.TellsMen.{TellsMen}
-use Rattle.egt_index.specs.declared.stand.Stand.{Stand}
-use Rattle.egt_index.proofs.MixedDigits.{number_from-same}
-use Rattle.egt_blocks.proofs.ShelfRead.{side_few}
+use Rattle.egt_fill.specs.Prelude.{◌≡◌, ℕ, ◌<◌, Bool, true, false, cond, List, [], ◌∷◌, refl, sym, ap, subst, ◌∙◌}
+use Rattle.egt_fill.specs.Prelude.{arith, king_of, side_number, Man, Side, White, Black, material_of, AreDigits}
+use Rattle.egt_fill.specs.Prelude.{has_target, men_bases, men_at, list_of, TellsMen, Stand, number_from-same, side_few}
 
 flag_few : (passed : Bool) → cond passed 1 0 < 2
 flag_few true = omega arith

@@ -11,3 +11,4 @@ pub mod Rounds
 pub mod Forgotten
 pub mod Begun
 pub mod Ends
+pub mod Prelude

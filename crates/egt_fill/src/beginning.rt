@@ -1,13 +1,7 @@
 //! The items that looks begin with, one for each pair of kings' squares and side to move with entries of positions, and where the number of each stands.
-ghost use Rattle.std.specs.Prelude.{◌≡◌, ◌≢◌, ◌+◌, ◌*◌, ◌<◌, ◌≤◌, ℕ, false, true, All, IfOk, IfSome, length, slice_index_or};
-ghost use Rattle.egt_blocks.specs.Blocks.{AreShelvesOf, with_kings};
-ghost use Rattle.egt_check.specs.Parts.{IsOwnTable};
-ghost use Rattle.egt_index.specs.ShelfCodes.{AreMenOf};
-ghost use Rattle.egt_table.specs.Table.{TableValue};
-ghost use Rattle.egt_fill.specs.Begun.{AreNumbered};
-ghost use Rattle.egt_fill.specs.Items.{IsItem};
-ghost use Rattle.egt_fill.specs.Mended.{no_squares};
-ghost use Rattle.egt_fill.specs.Settled.{IsFilling};
+ghost use Rattle.egt_fill.specs.Prelude.{◌≡◌, ◌≢◌, ◌+◌, ◌*◌, ◌<◌, ◌≤◌, ℕ, false, true, All, IfOk, IfSome, length};
+ghost use Rattle.egt_fill.specs.Prelude.{slice_index_or, AreShelvesOf, with_kings, IsOwnTable, AreMenOf, TableValue};
+ghost use Rattle.egt_fill.specs.Prelude.{AreNumbered, IsItem, no_squares, IsFilling};
 
 use crate::filling::Filling;
 use crate::items::Item;

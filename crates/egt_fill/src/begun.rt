@@ -1,12 +1,7 @@
 //! Entries that are to be found, before any look: all positions are drawn in the part's columns, or dead.
-ghost use Rattle.std.specs.Prelude.{◌≡◌, ◌<◌, ℕ, None, length, IfErr, IfOk, IfSome};
-ghost use Rattle.egt_index.specs.Size.{size_of};
-ghost use Rattle.egt_table.specs.Table.{IsTable};
-ghost use Rattle.egt_check.specs.Parts.{table_in};
-ghost use Rattle.egt_check.specs.ScoreRows.{AreDrawnOrNone, HasNoVoidScore, IsDrawnIndex};
-ghost use Rattle.egt_check.specs.Worth.{HasBytes};
+ghost use Rattle.egt_fill.specs.Prelude.{◌≡◌, ◌<◌, ℕ, None, length, IfErr, IfOk, IfSome, size_of, IsTable, table_in};
+ghost use Rattle.egt_fill.specs.Prelude.{AreDrawnOrNone, HasNoVoidScore, IsDrawnIndex, HasBytes, IsWithReach};
 ghost use Rattle.egt_check.specs.declared.part.Part.TheVariants as parts;
-ghost use Rattle.egt_fill.specs.Filled.{IsWithReach};
 
 use egt_check::found::Found;
 use egt_check::score_rows::ScoreRows;

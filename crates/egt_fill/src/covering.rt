@@ -1,11 +1,6 @@
 //! Whole tables whose entries are due with the kings on all squares: of those that were looked at they are, and of the rest all are of no position.
-ghost use Rattle.std.specs.Prelude.{◌≡◌, ◌+◌, ◌<◌, ℕ, true, All, Contains};
-ghost use Rattle.egt_index.specs.Size.{size_of};
-ghost use Rattle.egt_check.specs.Parts.{IsOwnTable};
-ghost use Rattle.egt_check.specs.RightBlock.{KeepsPart};
-ghost use Rattle.egt_fill.specs.Covered.{AreAllJudged, IsDueItem, tables_with};
-ghost use Rattle.egt_fill.specs.Settled.{IsFilling};
-ghost use Rattle.egt_fill.specs.declared.items.Item.{Item};
+ghost use Rattle.egt_fill.specs.Prelude.{◌≡◌, ◌+◌, ◌<◌, ℕ, true, All, Contains, size_of, IsOwnTable, KeepsPart};
+ghost use Rattle.egt_fill.specs.Prelude.{AreAllJudged, IsDueItem, tables_with, IsFilling, Item};
 
 use crate::filling::Filling;
 use crate::items::Item;

@@ -1,7 +1,5 @@
 //! Positions without a move.
-ghost use Rattle.std.specs.Prelude.{◌≡◌, ◌<◌, ℕ, IfSome};
-ghost use Rattle.egt_index.specs.Size.{size_of};
-ghost use Rattle.egt_fill.specs.Ends.{IsEndScore};
+ghost use Rattle.egt_fill.specs.Prelude.{◌≡◌, ◌<◌, ℕ, IfSome, size_of, IsEndScore};
 
 use egt_check::row_judging::entry_without_move;
 use egt_class::Class;

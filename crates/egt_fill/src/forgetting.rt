@@ -1,14 +1,7 @@
 //! Blocks that are forgotten: those that were read from entries in whose place others were put.
-ghost use Rattle.std.specs.Prelude.{◌≡◌, ◌<◌, ◌/◌, ◌%◌, ◌==◌, ℕ, None, length, slice_index_or};
-ghost use Rattle.egt_board.specs.Man.{other_side};
-ghost use Rattle.egt_board.specs.Turned.{turned_square};
-ghost use Rattle.egt_board.specs.declared.man.Side.{Side};
-ghost use Rattle.egt_class.specs.Material.{material_of};
-ghost use Rattle.egt_index.specs.Home.{IsTurnWith};
-ghost use Rattle.egt_index.specs.Size.{has_pawns};
-ghost use Rattle.egt_blocks.specs.Kept.{wide_place};
-ghost use Rattle.egt_table.specs.declared.column.Column.{Column};
-ghost use Rattle.egt_fill.specs.Forgotten.{AreFewer, AreForgotten};
+ghost use Rattle.egt_fill.specs.Prelude.{◌≡◌, ◌<◌, ◌/◌, ◌%◌, ◌==◌, ℕ, None, length, slice_index_or, other_side};
+ghost use Rattle.egt_fill.specs.Prelude.{turned_square, Side, material_of, IsTurnWith, has_pawns, wide_place, Column};
+ghost use Rattle.egt_fill.specs.Prelude.{AreFewer, AreForgotten};
 
 use crate::turns::turns_of;
 use egt_blocks::kept_blocks::{BlockKey, wide_place};

@@ -1,21 +1,10 @@
 //! Entries that are put where they are not due to the greatest scores of the moves.
-ghost use Rattle.std.specs.Prelude.{◌≡◌, ◌≢◌, ◌+◌, ◌*◌, ◌<◌, ◌==◌, if◌then◌else◌, ℕ, true, slice_index};
-ghost use Rattle.std.specs.Int.{bit_at};
-ghost use Rattle.egt_board.specs.SquareSet.{Has};
-ghost use Rattle.egt_index.specs.Numbers.{code_of};
-ghost use Rattle.egt_index.specs.Scales.{kind_digits, kind_less};
-ghost use Rattle.egt_index.specs.ShelfCodes.{AreMenOf, number_in};
-ghost use Rattle.egt_index.specs.Size.{size_of};
-ghost use Rattle.egt_blocks.specs.Blocks.{AreShelvesOf};
-ghost use Rattle.egt_table.specs.Table.{HasColumn};
-ghost use Rattle.egt_check.specs.Parts.{column_of, table_in};
-ghost use Rattle.egt_entries.specs.declared.metric.Metric.TheVariants.{Zeroing};
-ghost use Rattle.egt_check.specs.Found.{IsToldAt};
-ghost use Rattle.egt_check.specs.RightRow.{IsRightEndOf};
-ghost use Rattle.egt_check.specs.ScoreRows.{IsMaskOf};
-ghost use Rattle.egt_check.specs.Worth.{HasBytes, score_at};
+ghost use Rattle.egt_fill.specs.Prelude.{◌≡◌, ◌≢◌, ◌+◌, ◌*◌, ◌<◌, ◌==◌, if◌then◌else◌, ℕ, true, slice_index, bit_at};
+ghost use Rattle.egt_fill.specs.Prelude.{Has, code_of, kind_digits, kind_less, AreMenOf, number_in, size_of};
+ghost use Rattle.egt_fill.specs.Prelude.{AreShelvesOf, HasColumn, column_of, table_in, Zeroing, IsToldAt, IsRightEndOf};
+ghost use Rattle.egt_fill.specs.Prelude.{IsMaskOf, HasBytes, score_at, AllEnded, AreEnded, AreRightRows, IsCodeIn};
+ghost use Rattle.egt_fill.specs.Prelude.{IsCodeOf, IsLaneOf, IsMendedAt, IsPutAt, IsRightRow, IsRowSeen, IsShelf};
 ghost use Rattle.egt_check.specs.declared.part.Part.TheVariants as parts;
-ghost use Rattle.egt_fill.specs.Mended.{AllEnded, AreEnded, AreRightRows, IsCodeIn, IsCodeOf, IsLaneOf, IsMendedAt, IsPutAt, IsRightRow, IsRowSeen, IsShelf};
 ghost use Rattle.egt_fill.specs.declared.mending.Mended.TheVariants as mends;
 
 use crate::ends::end_score;

@@ -1,17 +1,8 @@
 //! Rounds of looks: an item is looked at where something that it reads has changed since it was, until nothing has.
-ghost use Rattle.std.specs.Prelude.{◌≡◌, ◌≢◌, ◌↔◌, ℕ, length, Some, IfSome, IsTrue, false, true};
-ghost use Rattle.std.specs.List.{All};
-ghost use Rattle.egt_board.specs.Man.{other_side};
-ghost use Rattle.egt_board.specs.declared.man.Side.TheVariants.{Black, White};
-ghost use Rattle.egt_check.specs.Parts.{IsOwnTable};
-ghost use Rattle.egt_fill.specs.Covered.{IsDueItem};
-ghost use Rattle.egt_fill.specs.Items.{IsItem, men_of};
-ghost use Rattle.egt_fill.specs.Mended.{IsMended, IsMendedAt};
-ghost use Rattle.egt_fill.specs.Rounds.{AreAllKept, AreFreshItems, IsFreshItem, IsUntouched, IsUntouchedPass};
-ghost use Rattle.egt_fill.specs.Settled.{IsFilling};
-ghost use Rattle.egt_fill.specs.Stamps.{IsFresh};
-ghost use Rattle.egt_fill.specs.UnderWay.{IsLookedAt, IsStamped, IsUnderWay};
-ghost use Rattle.egt_fill.specs.declared.items.Item.{Item};
+ghost use Rattle.egt_fill.specs.Prelude.{◌≡◌, ◌≢◌, ◌↔◌, ℕ, length, Some, IfSome, IsTrue, false, true, All, other_side};
+ghost use Rattle.egt_fill.specs.Prelude.{Black, White, IsOwnTable, IsDueItem, IsItem, men_of, IsMended, IsMendedAt};
+ghost use Rattle.egt_fill.specs.Prelude.{AreAllKept, AreFreshItems, IsFreshItem, IsUntouched, IsUntouchedPass};
+ghost use Rattle.egt_fill.specs.Prelude.{IsFilling, IsFresh, IsLookedAt, IsStamped, IsUnderWay, Item};
 ghost use Rattle.egt_fill.specs.declared.rounds.Visited.TheVariants as visits;
 
 use crate::filling::Filling;

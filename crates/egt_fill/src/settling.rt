@@ -1,18 +1,8 @@
 //! Entries that are put until all are due.
-ghost use Rattle.std.specs.Prelude.{◌≡◌, ◌<◌, ℕ, true, length, slice_index, IfOk};
-ghost use Rattle.egt_board.specs.declared.man.Side.TheVariants.{Black, White};
-ghost use Rattle.egt_index.specs.Size.{size_of};
-ghost use Rattle.egt_table.specs.Table.{HasColumn};
-ghost use Rattle.egt_table.specs.declared.column.Column.{Column};
-ghost use Rattle.egt_entries.specs.Tables.{beside, table_at};
-ghost use Rattle.egt_check.specs.Parts.{IsOwnTable, table_in};
-ghost use Rattle.egt_check.specs.RightBlock.{KeepsPart};
-ghost use Rattle.egt_check.specs.Worth.{HasBytes};
+ghost use Rattle.egt_fill.specs.Prelude.{◌≡◌, ◌<◌, ℕ, true, length, slice_index, IfOk, Black, White, size_of};
+ghost use Rattle.egt_fill.specs.Prelude.{HasColumn, Column, beside, table_at, IsOwnTable, table_in, KeepsPart};
+ghost use Rattle.egt_fill.specs.Prelude.{HasBytes, IsMendedAt, AreAllKept, IsFilling, IsUnderWay};
 ghost use Rattle.egt_check.specs.declared.part.Part.TheVariants as parts;
-ghost use Rattle.egt_fill.specs.Mended.{IsMendedAt};
-ghost use Rattle.egt_fill.specs.Rounds.{AreAllKept};
-ghost use Rattle.egt_fill.specs.Settled.{IsFilling};
-ghost use Rattle.egt_fill.specs.UnderWay.{IsUnderWay};
 
 use crate::beginning::{PLACES, begun_items, places_of};
 use crate::covering::all_are_covered;

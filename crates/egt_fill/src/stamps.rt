@@ -1,12 +1,6 @@
 //! Stamps: for each pair of kings' squares and side to move, when entries of such positions last changed.
-ghost use Rattle.std.specs.Prelude.{◌≡◌, ◌<◌, ◌≤◌, ◌/◌, ◌%◌, ◌==◌, ℕ, false, length, slice_index};
-ghost use Rattle.egt_board.specs.Turned.{turned_square};
-ghost use Rattle.egt_board.specs.declared.man.Side.{Side};
-ghost use Rattle.egt_class.specs.Material.{material_of};
-ghost use Rattle.egt_index.specs.Home.{IsTurnWith};
-ghost use Rattle.egt_index.specs.Size.{has_pawns};
-ghost use Rattle.egt_fill.specs.Stamps.{IsFresh, stamp_place};
-ghost use Rattle.egt_fill.specs.Turns.{TurnsTo};
+ghost use Rattle.egt_fill.specs.Prelude.{◌≡◌, ◌<◌, ◌≤◌, ◌/◌, ◌%◌, ◌==◌, ℕ, false, length, slice_index, turned_square};
+ghost use Rattle.egt_fill.specs.Prelude.{Side, material_of, IsTurnWith, has_pawns, IsFresh, stamp_place, TurnsTo};
 
 use crate::turns::turns_of;
 use egt_blocks::king_blocks::beside_king;

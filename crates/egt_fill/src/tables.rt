@@ -1,8 +1,6 @@
 //! Tables of classes with two men beside the kings, filled beside those of their children.
-ghost use Rattle.std.specs.Prelude.{◌≡◌, None, IfOk, IfSome};
-ghost use Rattle.egt_entries.specs.Tables.{HasChildren, HasReachChildren, table_at};
-ghost use Rattle.egt_entries.specs.Truth.{HasTrueChildren, IsTrueTable};
-ghost use Rattle.egt_fill.specs.Filled.{IsReached};
+ghost use Rattle.egt_fill.specs.Prelude.{◌≡◌, None, IfOk, IfSome, HasChildren, HasReachChildren, table_at};
+ghost use Rattle.egt_fill.specs.Prelude.{HasTrueChildren, IsTrueTable, IsReached};
 
 use crate::begun::{begun_values, with_drawn_reach};
 use crate::filling::filling_of;

@@ -1,8 +1,5 @@
 //! The turns of a class, by their numbers.
-ghost use Rattle.std.specs.Prelude.{◌<◌, ◌≤◌, ℕ};
-ghost use Rattle.egt_class.specs.Material.{material_of};
-ghost use Rattle.egt_index.specs.Home.{IsTurnWith};
-ghost use Rattle.egt_index.specs.Size.{has_pawns};
+ghost use Rattle.egt_fill.specs.Prelude.{◌<◌, ◌≤◌, ℕ, material_of, IsTurnWith, has_pawns};
 
 use egt_class::Class;
 use egt_index::men::has_pawns;

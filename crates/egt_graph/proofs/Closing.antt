@@ -1,11 +1,10 @@
 -- From one round to the next.
-use Rattle.std.proofs.Common.{◌≡◌, ℕ, zero, suc, ◌+◌, Bool, true, false, cond, not, ◌&&◌, ◌||◌, eqb, List, slice_index, refl, sym, ap, ap₂, subst, ◌∙◌, inl, inr, arith, count_by}
-use Rattle.std.specs.List.{list_any, list_all}
-use Rattle.std.proofs.lemmas.Bool.{cases_Bool, ne_eqb}
-use Rattle.egt_graph.specs.Graph.{Graph, IsNode, IsGame}
-use Rattle.egt_graph.specs.Value.{is_empty, has_move, is_lost_before, is_won_before, mated_within, mates_within, mated_before, mates_before}
-use Rattle.egt_graph.specs.Frontier.{is_node}
-use Rattle.egt_graph.specs.Columns.{outs, leaves, has_moves, decided, entry_at, is_known_win, is_known_loss, waits_at, is_winning, Hold, Amid}
+use Rattle.egt_graph.specs.Prelude.{◌≡◌, ℕ, zero, suc, ◌+◌, Bool, true, false, cond, not, ◌&&◌, ◌||◌, eqb, List}
+use Rattle.egt_graph.specs.Prelude.{slice_index, refl, sym, ap, ap₂, subst, ◌∙◌, inl, inr, arith, count_by, list_any}
+use Rattle.egt_graph.specs.Prelude.{list_all, cases_Bool, ne_eqb, Graph, IsNode, IsGame, is_empty, has_move}
+use Rattle.egt_graph.specs.Prelude.{is_lost_before, is_won_before, mated_within, mates_within, mated_before}
+use Rattle.egt_graph.specs.Prelude.{mates_before, is_node, outs, leaves, has_moves, decided, entry_at, is_known_win}
+use Rattle.egt_graph.specs.Prelude.{is_known_loss, waits_at, is_winning, Hold, Amid}
 use Rattle.egt_graph.proofs.Lists.{any_same_on, count_same_on, none_fails}
 use Rattle.egt_graph.proofs.Values.{mates_before_within, mated_before_within}
 use Rattle.egt_graph.proofs.Nodes.{outs_at, leaves_at, outs_are_nodes}

@@ -1,15 +1,13 @@
 -- Entries that are due are the ranks and the numbers of the nearest mates: by the number in the entry each is reached, and by plies none is sooner.
-use Rattle.std.proofs.Common.{◌≡◌, ℕ, zero, suc, ◌+◌, ◌*◌, ◌<◌, ◌≤◌, ◌&&◌, true, false, not, List, [], ◌∷◌, Contains, length, slice_index, Option, Some, None, refl, sym, ap, subst, ◌∙◌, inl, inr, arith}
-use Rattle.std.specs.List.{list_any, list_all}
-use Rattle.std.specs.Option.{option_map}
-use Rattle.std.proofs.lemmas.Bool.{and_from, and_parts, both_ways, cases_Bool, false_from_ne_true, false≢true, lt-ltb, ltb-true, or_cases, or_from, or_left, or_right}
-use Rattle.std.proofs.lemmas.List.Elements.{All-contains}
-use Rattle.egt_graph.specs.Due.{AreDue, IsAsGood, IsAsNear, IsBest, IsDueAt, IsNext, Measure, SameNext, near_outside, nears, value_before, values}
-use Rattle.egt_graph.specs.Graph.{Graph, IsGame, IsNode}
-use Rattle.egt_graph.specs.Near.{AreNears, HasNear, IsShort, SomeFar, is_near_exit, near_entry_of, near_within}
-use Rattle.egt_graph.specs.Value.{AreRanks, HasRank, IsWithin, SomeAbove, entry_of, has_move, is_empty, is_lost_before, is_won_before, mated_within, mates_within}
-use Rattle.egt_graph.specs.declared.game.Exit.{Exit}
-use Rattle.egt_graph.specs.declared.game.Exit.TheVariants.{Win, Loss, Draw}
+use Rattle.egt_graph.specs.Prelude.{◌≡◌, ℕ, zero, suc, ◌+◌, ◌*◌, ◌<◌, ◌≤◌, ◌&&◌, true, false, not, List, [], ◌∷◌}
+use Rattle.egt_graph.specs.Prelude.{Contains, length, slice_index, Option, Some, None, refl, sym, ap, subst, ◌∙◌, inl}
+use Rattle.egt_graph.specs.Prelude.{inr, arith, list_any, list_all, option_map, and_from, and_parts, both_ways}
+use Rattle.egt_graph.specs.Prelude.{cases_Bool, false_from_ne_true, false≢true, lt-ltb, ltb-true, or_cases, or_from}
+use Rattle.egt_graph.specs.Prelude.{or_left, or_right, All-contains, AreDue, IsAsGood, IsAsNear, IsBest, IsDueAt}
+use Rattle.egt_graph.specs.Prelude.{IsNext, Measure, SameNext, near_outside, nears, value_before, values, Graph, IsGame}
+use Rattle.egt_graph.specs.Prelude.{IsNode, AreNears, HasNear, IsShort, SomeFar, is_near_exit, near_entry_of}
+use Rattle.egt_graph.specs.Prelude.{near_within, AreRanks, HasRank, IsWithin, SomeAbove, entry_of, has_move, is_empty}
+use Rattle.egt_graph.specs.Prelude.{is_lost_before, is_won_before, mated_within, mates_within, Exit, Win, Loss, Draw}
 use Rattle.egt_graph.proofs.Lists.{all_contains, any_contains, contains_all, contains_any}
 use Rattle.egt_graph.proofs.Nearby.{near_by_exit, near_by_move}
 use Rattle.egt_graph.proofs.Values.{mates_le, mated_le}

@@ -1,12 +1,10 @@
 -- Exits that fall due: those of number r count from the end of round r on.
-use Rattle.std.proofs.Common.{◌≡◌, ℕ, ◌+◌, ◌<◌, ◌≤◌, Bool, true, false, cond, not, ◌||◌, eqb, ltb, List, [], ◌∷◌, refl, sym, ap, ◌∙◌, inl, inr, arith, count_by}
-use Rattle.std.specs.List.{list_any}
-use Rattle.std.proofs.lemmas.Bool.{false≢true, lt-ltb, le-ltb, le-leb, lt-leb, eq-eqb, ne_eqb, and_right, not_from_false, cases_order}
-use Rattle.egt_graph.specs.Graph.{Graph}
-use Rattle.egt_graph.specs.Value.{is_empty, is_lost_before, is_won_before}
-use Rattle.egt_graph.specs.Columns.{outs, leaves, has_moves, count_of, is_known_loss, waits_at, is_winning, is_win_of, is_loss_of, is_win_from, later_at, Amid, Marks, TakesBack}
-use Rattle.egt_graph.specs.declared.game.Exit.{Exit}
-use Rattle.egt_graph.specs.declared.game.Exit.TheVariants.{Win, Loss, Draw}
+use Rattle.egt_graph.specs.Prelude.{◌≡◌, ℕ, ◌+◌, ◌<◌, ◌≤◌, Bool, true, false, cond, not, ◌||◌, eqb, ltb, List, [], ◌∷◌}
+use Rattle.egt_graph.specs.Prelude.{refl, sym, ap, ◌∙◌, inl, inr, arith, count_by, list_any, false≢true, lt-ltb, le-ltb}
+use Rattle.egt_graph.specs.Prelude.{le-leb, lt-leb, eq-eqb, ne_eqb, and_right, not_from_false, cases_order, Graph}
+use Rattle.egt_graph.specs.Prelude.{is_empty, is_lost_before, is_won_before, outs, leaves, has_moves, count_of}
+use Rattle.egt_graph.specs.Prelude.{is_known_loss, waits_at, is_winning, is_win_of, is_loss_of, is_win_from, later_at}
+use Rattle.egt_graph.specs.Prelude.{Amid, Marks, TakesBack, Exit, Win, Loss, Draw}
 use Rattle.egt_graph.proofs.Lists.{count_split, count_weaker, any_or, some_counts}
 use Rattle.egt_graph.proofs.Holding.{Hold-mark, Hold-take}
 

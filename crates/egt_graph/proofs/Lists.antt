@@ -1,11 +1,10 @@
 -- Counts and tests over lists.
-use Rattle.std.proofs.Common.{◌≡◌, ℕ, zero, suc, ◌+◌, ◌<◌, ◌≤◌, Bool, true, false, cond, not, ◌&&◌, ◌||◌, eqb, ltb, List, [], ◌∷◌, length, get_or, refl, sym, ap, ap₂, ◌∙◌, inl, inr, ⊎_elim, arith, count_by, All, Contains}
-use Rattle.std.specs.List.{list_any, list_all}
-use Rattle.std.specs.List.Sorted.{IsStrictlyIncreasing}
-use Rattle.egt_graph.specs.Columns.{count_of}
-use Rattle.std.proofs.lemmas.Bool.{or_cases, or_left, or_right, and_parts, and_from, false≢true, cases_Bool, lt-ltb, eqb-true, eq-eqb, ne_eqb}
-use Rattle.std.proofs.lemmas.List.Sums.{AllPass-from_list_all, list_all-from_AllPass, sum_by-cons}
-use Rattle.std.proofs.lemmas.List.Elements.{All-contains, All-contains_itself, All-head, All-tail, All-weaker}
+use Rattle.egt_graph.specs.Prelude.{◌≡◌, ℕ, zero, suc, ◌+◌, ◌<◌, ◌≤◌, Bool, true, false, cond, not, ◌&&◌, ◌||◌, eqb}
+use Rattle.egt_graph.specs.Prelude.{ltb, List, [], ◌∷◌, length, get_or, refl, sym, ap, ap₂, ◌∙◌, inl, inr, ⊎_elim}
+use Rattle.egt_graph.specs.Prelude.{arith, count_by, All, Contains, list_any, list_all, IsStrictlyIncreasing, count_of}
+use Rattle.egt_graph.specs.Prelude.{or_cases, or_left, or_right, and_parts, and_from, false≢true, cases_Bool, lt-ltb}
+use Rattle.egt_graph.specs.Prelude.{eqb-true, eq-eqb, ne_eqb, AllPass-from_list_all, list_all-from_AllPass, sum_by-cons}
+use Rattle.egt_graph.specs.Prelude.{All-contains, All-contains_itself, All-head, All-tail, All-weaker}
 
 -- ---- tests of each and of some element
 

@@ -1,17 +1,16 @@
 -- The nearest mate, ply by ply: what is found in a round is what is one ply further away, and where nothing more is found all is known.
-use Rattle.std.proofs.Common.{◌≡◌, ◌≢◌, ℕ, zero, suc, ◌+◌, ◌*◌, ◌/◌, ◌<◌, ◌≤◌, ◌⊎◌, Bool, true, false, cond, ◌||◌, eqb, ltb, List, [], ◌∷◌, ◌++◌, length, slice_index, slice_index_or, get_or, refl, sym, ap, ◌∙◌, subst, inl, inr, ⊎_elim, arith, All, Contains, count_by, Option, Some, None}
-use Rattle.std.specs.List.{list_any}
-use Rattle.std.proofs.lemmas.Bool.{false≢true, cases_Bool, cases_lt, cases_eq, cases_order, or_cases, or_left, or_right, ltb-true, lt-ltb, le-ltb, eq-eqb, ne_eqb, both_ways}
-use Rattle.std.proofs.lemmas.List.{get_or_past, get_or_default, length_push}
-use Rattle.std.proofs.lemmas.List.Elements.{All-head, All-tail, All-contains, Contains-append_left, Contains-append_right, Contains-append_cases}
-use Rattle.egt_graph.specs.Graph.{Graph, IsNode, IsGame, HasShortDistance}
-use Rattle.egt_graph.specs.Frontier.{is_node}
-use Rattle.egt_graph.specs.Columns.{leaves, count_of, decided, Marks, is_loss_of, is_win_of}
-use Rattle.egt_graph.specs.Begin.{Adds, IsFilled}
-use Rattle.egt_graph.specs.Near.{is_near_exit, near_within, near_before, HasNear, near_entry_of, IsShort, AreNears, SomeFar, near_at, IsNearing, IsNearingTo, led_from, found_by, Finds, AreFound, NoneLater, near_of_entry, AreTold, IsOver}
-use Rattle.egt_graph.specs.declared.game.Exit.{Exit}
-use Rattle.egt_graph.specs.declared.game.Exit.TheVariants.{Win, Loss, Draw}
-use Rattle.egt_graph.specs.declared.nearing.Nearing.{Nearing}
+use Rattle.egt_graph.specs.Prelude.{◌≡◌, ◌≢◌, ℕ, zero, suc, ◌+◌, ◌*◌, ◌/◌, ◌<◌, ◌≤◌, ◌⊎◌, Bool, true, false, cond, ◌||◌}
+use Rattle.egt_graph.specs.Prelude.{eqb, ltb, List, [], ◌∷◌, ◌++◌, length, slice_index, slice_index_or, get_or, refl}
+use Rattle.egt_graph.specs.Prelude.{sym, ap, ◌∙◌, subst, inl, inr, ⊎_elim, arith, All, Contains, count_by, Option, Some}
+use Rattle.egt_graph.specs.Prelude.{None, list_any, false≢true, cases_Bool, cases_lt, cases_eq, cases_order, or_cases}
+use Rattle.egt_graph.specs.Prelude.{or_left, or_right, ltb-true, lt-ltb, le-ltb, eq-eqb, ne_eqb, both_ways, get_or_past}
+use Rattle.egt_graph.specs.Prelude.{get_or_default, length_push, All-head, All-tail, All-contains, Contains-append_left}
+use Rattle.egt_graph.specs.Prelude.{Contains-append_right, Contains-append_cases, Graph, IsNode, IsGame}
+use Rattle.egt_graph.specs.Prelude.{HasShortDistance, is_node, leaves, count_of, decided, Marks, is_loss_of, is_win_of}
+use Rattle.egt_graph.specs.Prelude.{Adds, IsFilled, is_near_exit, near_within, near_before, HasNear, near_entry_of}
+use Rattle.egt_graph.specs.Prelude.{IsShort, AreNears, SomeFar, near_at, IsNearing, IsNearingTo, led_from, found_by}
+use Rattle.egt_graph.specs.Prelude.{Finds, AreFound, NoneLater, near_of_entry, AreTold, IsOver, Exit, Win, Loss, Draw}
+use Rattle.egt_graph.specs.Prelude.{Nearing}
 use Rattle.egt_graph.proofs.Beginning.{Filled_more, pushed, outside}
 use Rattle.egt_graph.proofs.Holding.{decided_open, decided_shut, decided_mark, win_is_no_draw}
 use Rattle.egt_graph.proofs.Lists.{any_weaker, any_or, some_counts, counted_contains, contains_counted}

@@ -1,13 +1,10 @@
 -- What entries say of ranks, and when no further rank can come.
-use Rattle.std.proofs.Common.{◌≡◌, ℕ, zero, suc, ◌+◌, ◌*◌, ◌<◌, ◌≤◌, Bool, true, false, cond, eqb, List, length, slice_index, refl, sym, ap, ap₂, subst, ◌∙◌, inl, inr, ⊎_elim, arith, IsFalse}
-use Rattle.std.proofs.lemmas.Bool.{cases_Bool, eq-eqb, both_ways, or_cases, or_left, or_right, cases_order, false_from_ne_true}
-use Rattle.std.proofs.lemmas.List.{ext_get_or}
-use Rattle.egt_graph.specs.Graph.{Graph, IsNode, IsGame}
-use Rattle.egt_graph.specs.Value.{mated_within, mates_within, decided_within, HasRank, IsWithin, entry_of, AreRanks, NoneAbove}
-use Rattle.egt_graph.specs.Frontier.{is_node}
-use Rattle.egt_graph.specs.Columns.{entry_at}
-use Rattle.egt_graph.specs.declared.game.Exit.{Exit}
-use Rattle.egt_graph.specs.declared.game.Exit.TheVariants.{Win, Loss, Draw}
+use Rattle.egt_graph.specs.Prelude.{◌≡◌, ℕ, zero, suc, ◌+◌, ◌*◌, ◌<◌, ◌≤◌, Bool, true, false, cond, eqb, List, length}
+use Rattle.egt_graph.specs.Prelude.{slice_index, refl, sym, ap, ap₂, subst, ◌∙◌, inl, inr, ⊎_elim, arith, IsFalse}
+use Rattle.egt_graph.specs.Prelude.{cases_Bool, eq-eqb, both_ways, or_cases, or_left, or_right, cases_order}
+use Rattle.egt_graph.specs.Prelude.{false_from_ne_true, ext_get_or, Graph, IsNode, IsGame, mated_within, mates_within}
+use Rattle.egt_graph.specs.Prelude.{decided_within, HasRank, IsWithin, entry_of, AreRanks, NoneAbove, is_node, entry_at}
+use Rattle.egt_graph.specs.Prelude.{Exit, Win, Loss, Draw}
 use Rattle.egt_graph.proofs.Values.{never_both_ever, mates_before_lt, mated_before_lt}
 use Rattle.egt_graph.proofs.Nodes.{test_from_node, node_from_test}
 use Rattle.egt_graph.proofs.Holding.{decided_open, decided_shut, win_is_no_draw, loss_is_no_draw}

@@ -12,3 +12,4 @@ pub mod Laws
 pub mod Passing
 pub mod Near
 pub mod Due
+pub mod Prelude

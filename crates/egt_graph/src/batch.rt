@@ -1,8 +1,6 @@
 //! The work of one block in one round.
-ghost use Rattle.std.specs.Prelude.{◌≡◌, ◌<◌, length, slice_index, All, IfOk};
-ghost use Rattle.std.specs.List.Sorted.{IsStrictlyIncreasing};
-ghost use Rattle.egt_graph.specs.Graph.{IsNode};
-ghost use Rattle.egt_graph.specs.Frontier.{blocks_of};
+ghost use Rattle.egt_graph.specs.Prelude.{◌≡◌, ◌<◌, length, slice_index, All, IfOk, IsStrictlyIncreasing, IsNode};
+ghost use Rattle.egt_graph.specs.Prelude.{blocks_of};
 
 use crate::game::Game;
 use std::alloc::{AllocError, Global};

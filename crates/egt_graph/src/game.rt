@@ -1,6 +1,5 @@
 //! A finite game: nodes, the moves between them, and the moves that leave it.
-ghost use Rattle.std.specs.Prelude.{◌≡◌, ◌<◌, ◌≤◌, length};
-ghost use Rattle.egt_graph.specs.Graph.{Graph, IsNode, IsGame};
+ghost use Rattle.egt_graph.specs.Prelude.{◌≡◌, ◌<◌, ◌≤◌, length, Graph, IsNode, IsGame};
 
 use arrayvec::ArrayVec;
 

@@ -1,8 +1,7 @@
 //! The nearest mate, backward and breadth first: what is kept, and one ply more.
-ghost use Rattle.std.specs.Prelude.{◌≡◌, ◌≢◌, ℕ, ◌+◌, ◌*◌, ◌^◌, ◌<◌, ◌≤◌, length, slice_index, All, IfOk, OnOk, MatchBool};
-ghost use Rattle.egt_graph.specs.Columns.{leaves};
-ghost use Rattle.egt_graph.specs.Graph.{IsNode};
-ghost use Rattle.egt_graph.specs.Near.{AreFound, AreTold, Finds, IsNearing, IsNearingTo, found_by, led_from, near_at, near_of_entry};
+ghost use Rattle.egt_graph.specs.Prelude.{◌≡◌, ◌≢◌, ℕ, ◌+◌, ◌*◌, ◌^◌, ◌<◌, ◌≤◌, length, slice_index, All, IfOk, OnOk};
+ghost use Rattle.egt_graph.specs.Prelude.{MatchBool, leaves, IsNode, AreFound, AreTold, Finds, IsNearing, IsNearingTo};
+ghost use Rattle.egt_graph.specs.Prelude.{found_by, led_from, near_at, near_of_entry};
 
 use crate::begin::schedule_exits;
 use crate::columns::{DRAW, mark_wins};

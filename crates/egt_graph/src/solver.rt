@@ -1,9 +1,6 @@
 //! A whole game by one worker.
-ghost use Rattle.std.specs.Prelude.{◌≡◌, ◌≢◌, ◌≤◌, true, length, IfOk, OnOk};
-ghost use Rattle.egt_graph.specs.Value.{AreRanks, SomeAbove};
-ghost use Rattle.egt_graph.specs.Rounds.{AllPosted, State};
-ghost use Rattle.egt_graph.specs.declared.answer.Phase.TheVariants.{Running};
-ghost use Rattle.egt_graph.specs.declared.solver.SolveFault.TheVariants.{NoMemory};
+ghost use Rattle.egt_graph.specs.Prelude.{◌≡◌, ◌≢◌, ◌≤◌, true, length, IfOk, OnOk, AreRanks, SomeAbove, AllPosted};
+ghost use Rattle.egt_graph.specs.Prelude.{State, Running, NoMemory};
 
 use crate::answer::Close;
 use crate::game::Game;

@@ -1,8 +1,7 @@
 //! What a post and a close do to the columns.
-ghost use Rattle.std.specs.Prelude.{◌≡◌, ℕ, ◌+◌, ◌<◌, ◌≤◌, true, false, List, length, slice_index, slice_index_or, slice_set, replicate, All, IsTrue, IsFalse, MatchBool};
-ghost use Rattle.egt_graph.specs.Graph.{IsAlike};
-ghost use Rattle.egt_graph.specs.Frontier.{front};
-ghost use Rattle.egt_graph.specs.Columns.{Amid, Marks, TakesBack, count_of, done_of, is_open_at};
+ghost use Rattle.egt_graph.specs.Prelude.{◌≡◌, ℕ, ◌+◌, ◌<◌, ◌≤◌, true, false, List, length, slice_index};
+ghost use Rattle.egt_graph.specs.Prelude.{slice_index_or, slice_set, replicate, All, IsTrue, IsFalse, MatchBool};
+ghost use Rattle.egt_graph.specs.Prelude.{IsAlike, front, Amid, Marks, TakesBack, count_of, done_of, is_open_at};
 
 use crate::batch::Batch;
 use crate::columns::{any_open, count_down, mark_wins, take_back};

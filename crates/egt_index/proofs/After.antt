@@ -1,35 +1,18 @@
 -- The men of a class where a turn takes them, and the code of their squares.
-use Rattle.std.proofs.Common.{◌≡◌, ◌≢◌, ℕ, ◌/◌, ◌%◌, ◌<◌, ◌≤◌, ◌&&◌, Bool, true, false, cond, ltb, eqb, List, [], ◌∷◌, ◌++◌, map, Option, Some, None, arith, refl, sym, ap, ◌∙◌, inl, inr, subst}
-use Rattle.std.specs.Prelude.{slice_index}
-use Rattle.std.specs.Option.{option_map, option_to_list}
+use Rattle.egt_index.specs.Prelude.{◌≡◌, ◌≢◌, ℕ, ◌/◌, ◌%◌, ◌<◌, ◌≤◌, ◌&&◌, Bool, true, false, cond, ltb, eqb, List, []}
+use Rattle.egt_index.specs.Prelude.{◌∷◌, ◌++◌, map, Option, Some, None, arith, refl, sym, ap, ◌∙◌, inl, inr, subst}
+use Rattle.egt_index.specs.Prelude.{slice_index, option_map, option_to_list, cases_eq, and_parts, eqb-true, ltb-true}
+use Rattle.egt_index.specs.Prelude.{map-append, White, Black, Man, Colours, king_of, side_number, men_of, Placement}
+use Rattle.egt_index.specs.Prelude.{Stands, get-remove_same, get-remove_other, IsSettled, Setup, IsAdmissible, IsKingOn}
+use Rattle.egt_index.specs.Prelude.{IsSetBy, turned_square, turned_man, turned_side, all_below, passes_below, Material}
+use Rattle.egt_index.specs.Prelude.{material_of, IsOf, king_square, placed, target_digits, target_digit, number_from}
+use Rattle.egt_index.specs.Prelude.{AreDigits, Facts, AreCounted, Picks, Goes, king_base, base_of, men_beside}
+use Rattle.egt_index.specs.Prelude.{has_pawns, has_target, IsListed, Tells, Entry, men_among, rest_of, list_of, IsOff}
+use Rattle.egt_index.specs.Prelude.{AllApart, AllStand, Stood, entry_after, IsInOrder, IsOrdered, IsStandAfter}
+use Rattle.egt_index.specs.Prelude.{HasDigit, turned_with, IsTurn, TurnCode, Stand}
 use Rattle.std.specs.FinMap as placement
-use Rattle.std.proofs.lemmas.Bool.{cases_eq, and_parts, eqb-true, ltb-true}
-use Rattle.std.proofs.lemmas.List.{map-append}
-use Rattle.egt_board.specs.declared.man.Side.TheVariants.{White, Black}
-use Rattle.egt_board.specs.declared.man.Man.{Man}
-use Rattle.egt_board.specs.declared.mirror.Mirror.TheVariants.{Colours}
-use Rattle.egt_board.specs.Attack.{king_of}
-use Rattle.egt_board.specs.Images.{side_number}
-use Rattle.egt_board.specs.Listed.{men_of}
-use Rattle.egt_board.specs.Placement.{Placement, Stands, get-remove_same, get-remove_other}
-use Rattle.egt_board.specs.Settled.{IsSettled}
-use Rattle.egt_board.specs.Setup.{Setup, IsAdmissible, IsKingOn}
 use Rattle.egt_board.specs.Symmetry.{square_if, square_of, KeepsPlay}
-use Rattle.egt_board.specs.Turned.{IsSetBy, turned_square, turned_man, turned_side}
-use Rattle.egt_class.specs.Below.{all_below, passes_below}
-use Rattle.egt_class.specs.Material.{Material, material_of}
-use Rattle.egt_class.specs.Membership.{IsOf}
-use Rattle.egt_index.specs.Code.{king_square, placed, target_digits, target_digit}
 use Rattle.egt_index.specs.Code as code_words
-use Rattle.egt_index.specs.Digits.{number_from, AreDigits}
-use Rattle.egt_index.specs.Facts.{Facts}
-use Rattle.egt_index.specs.Picked.{AreCounted, Picks, Goes}
-use Rattle.egt_index.specs.Size.{king_base, base_of, men_beside, has_pawns, has_target}
-use Rattle.egt_index.specs.Spelled.{IsListed, Tells}
-use Rattle.egt_index.specs.Stood.{Entry, men_among, rest_of, list_of, IsOff, AllApart, AllStand, Stood, entry_after, IsInOrder, IsOrdered, IsStandAfter, HasDigit}
-use Rattle.egt_index.specs.TurnedMen.{turned_with}
-use Rattle.egt_index.specs.Turns.{IsTurn, TurnCode}
-use Rattle.egt_index.specs.declared.stand.Stand.{Stand}
 use Rattle.egt_index.proofs.Classes.{image_in_colours}
 use Rattle.egt_index.proofs.Counted.{counted_rest, none_left}
 use Rattle.egt_index.proofs.Found.{code_made}

@@ -1,17 +1,7 @@
 -- What the digits of a code say.
-use Rattle.std.proofs.Common.{◌≡◌, ℕ, ◌<◌, Bool, List, true, false, Option, Some, None, IfSome, refl, sym, subst, inl, inr}
-use Rattle.egt_board.specs.declared.man.Side.{Side}
-use Rattle.egt_board.specs.declared.man.Side.TheVariants.{White, Black}
-use Rattle.egt_board.specs.declared.man.Man.{Man}
-use Rattle.egt_board.specs.Pawn.{pawn_of, ahead}
-use Rattle.egt_board.specs.Setup.{Setup}
-use Rattle.egt_class.specs.Material.{Material}
-use Rattle.egt_index.specs.Code.{Spells}
-use Rattle.egt_index.specs.Facts.{Facts}
-use Rattle.egt_index.specs.Index.{IsIndex, IsVoid}
-use Rattle.egt_index.specs.Spelled.{HasPawns, IsListed, IsTold, SpellsMen}
-use Rattle.egt_index.specs.Stood.{list_of}
-use Rattle.egt_index.specs.declared.stand.Stand.{Stand}
+use Rattle.egt_index.specs.Prelude.{◌≡◌, ℕ, ◌<◌, Bool, List, true, false, Option, Some, None, IfSome, refl, sym, subst}
+use Rattle.egt_index.specs.Prelude.{inl, inr, Side, White, Black, Man, pawn_of, ahead, Setup, Material, Spells, Facts}
+use Rattle.egt_index.specs.Prelude.{IsIndex, IsVoid, HasPawns, IsListed, IsTold, SpellsMen, list_of, Stand}
 use Rattle.egt_index.proofs.Telling.{index_or_void}
 
 -- some position is spelled by a code that is not void, and has it as its index

@@ -1,31 +1,14 @@
 -- Codes of images compared with a code that spells the position.
-use Rattle.std.proofs.Common.{◌≡◌, ◌≢◌, ℕ, ◌+◌, ◌*◌, ◌/◌, ◌%◌, ◌<◌, ◌≤◌, not, Bool, true, false, cond, eqb, List, [], ◌∷◌, ◌++◌, map, Option, Some, None, IfSome, arith, refl, sym, ap, ◌∙◌, inl, inr, subst}
+use Rattle.egt_index.specs.Prelude.{◌≡◌, ◌≢◌, ℕ, ◌+◌, ◌*◌, ◌/◌, ◌%◌, ◌<◌, ◌≤◌, not, Bool, true, false, cond, eqb, List}
+use Rattle.egt_index.specs.Prelude.{[], ◌∷◌, ◌++◌, map, Option, Some, None, IfSome, arith, refl, sym, ap, ◌∙◌, inl, inr}
+use Rattle.egt_index.specs.Prelude.{subst, option_map, cases_eq, cases_lt, Side, White, Black, Man, king_of}
+use Rattle.egt_index.specs.Prelude.{side_number, AreImages, men_of, Stands, IsSettled, Setup, IsAdmissible, KeepsPlay}
+use Rattle.egt_index.specs.Prelude.{turned_square, turned_man, Material, material_of, has_equal_sides, IsOf, Beats}
+use Rattle.egt_index.specs.Prelude.{HasKingsOn, Keeps, KeepsWith, IsBeaten, TurnBeats, TurnKeeps, Spells, king_square}
+use Rattle.egt_index.specs.Prelude.{men_at, target_digits, number_from, number_of, AreDigits, Facts, BringsHome}
+use Rattle.egt_index.specs.Prelude.{AreHome, IsTurnWith, IsIndex, base_of, bases, king_base, men_bases, men_beside}
+use Rattle.egt_index.specs.Prelude.{has_pawns, has_target, HasStand, list_of, AllStand, on_square_of, IsTurn, Stand}
 use Rattle.std.specs.FinMap as placement
-use Rattle.std.specs.Option.{option_map}
-use Rattle.std.proofs.lemmas.Bool.{cases_eq, cases_lt}
-use Rattle.egt_board.specs.declared.man.Side.{Side}
-use Rattle.egt_board.specs.declared.man.Side.TheVariants.{White, Black}
-use Rattle.egt_board.specs.declared.man.Man.{Man}
-use Rattle.egt_board.specs.Attack.{king_of}
-use Rattle.egt_board.specs.Images.{side_number, AreImages}
-use Rattle.egt_board.specs.Listed.{men_of}
-use Rattle.egt_board.specs.Placement.{Stands}
-use Rattle.egt_board.specs.Settled.{IsSettled}
-use Rattle.egt_board.specs.Setup.{Setup, IsAdmissible}
-use Rattle.egt_board.specs.Symmetry.{KeepsPlay}
-use Rattle.egt_board.specs.Turned.{turned_square, turned_man}
-use Rattle.egt_class.specs.Material.{Material, material_of, has_equal_sides}
-use Rattle.egt_class.specs.Membership.{IsOf}
-use Rattle.egt_index.specs.Beaten.{Beats, HasKingsOn, Keeps, KeepsWith, IsBeaten, TurnBeats, TurnKeeps}
-use Rattle.egt_index.specs.Code.{Spells, king_square, men_at, target_digits}
-use Rattle.egt_index.specs.Digits.{number_from, number_of, AreDigits}
-use Rattle.egt_index.specs.Facts.{Facts}
-use Rattle.egt_index.specs.Home.{BringsHome, AreHome, IsTurnWith}
-use Rattle.egt_index.specs.Index.{IsIndex}
-use Rattle.egt_index.specs.Size.{base_of, bases, king_base, men_bases, men_beside, has_pawns, has_target}
-use Rattle.egt_index.specs.Stood.{HasStand, list_of, AllStand, on_square_of}
-use Rattle.egt_index.specs.Turns.{IsTurn}
-use Rattle.egt_index.specs.declared.stand.Stand.{Stand}
 use Rattle.egt_index.proofs.Best.{code_found, turn_number, turn_of}
 use Rattle.egt_index.proofs.Classes.{image_in_colours}
 use Rattle.egt_index.proofs.Coding.{all_digits}

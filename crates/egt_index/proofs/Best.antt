@@ -1,33 +1,18 @@
 -- The least code of all images, turn by turn.
-use Rattle.std.proofs.Common.{◌≡◌, ℕ, ◌+◌, ◌/◌, ◌%◌, ◌<◌, ◌≤◌, ◌⊎◌, Bool, true, false, cond, eqb, min, List, [], ◌∷◌, Option, Some, None, arith, refl, sym, ap, ◌∙◌, inl, inr, subst}
+use Rattle.egt_index.specs.Prelude.{◌≡◌, ℕ, ◌+◌, ◌/◌, ◌%◌, ◌<◌, ◌≤◌, ◌⊎◌, Bool, true, false, cond, eqb, min, List, []}
+use Rattle.egt_index.specs.Prelude.{◌∷◌, Option, Some, None, arith, refl, sym, ap, ◌∙◌, inl, inr, subst, option_map}
+use Rattle.egt_index.specs.Prelude.{IsSome, cases_eq, cases_lt, eq-eqb, eqb_tells, White, Black, Man, king_of, Stands}
+use Rattle.egt_index.specs.Prelude.{get-remove_same, men_of, Setup, IsAdmissible, IsKingOn, IsSettled, SettlesTo}
+use Rattle.egt_index.specs.Prelude.{KeepsPlay, IsTurnedBy, turned_square, turned_man, Material, material_of, IsOf}
+use Rattle.egt_index.specs.Prelude.{AreDigits, base_of, men_bases, men_in_order, has_pawns, Spells, square_of, men_at}
+use Rattle.egt_index.specs.Prelude.{IsIndex, Least, DigitOf, Fits, IsLeastCode, CodeOf, IsTurn, Best, BestOf, CodeAfter}
+use Rattle.egt_index.specs.Prelude.{lesser, Facts, symmetries}
 use Rattle.std.specs.FinMap as placement
-use Rattle.std.specs.Option.{option_map, IsSome}
-use Rattle.std.proofs.lemmas.Bool.{cases_eq, cases_lt, eq-eqb}
-use Rattle.std.proofs.lemmas.Bool.Decides.{eqb_tells}
-use Rattle.egt_board.specs.declared.man.Side.TheVariants.{White, Black}
-use Rattle.egt_board.specs.declared.man.Man.{Man}
-use Rattle.egt_board.specs.Attack.{king_of}
-use Rattle.egt_board.specs.Placement.{Stands, get-remove_same}
-use Rattle.egt_board.specs.Listed.{men_of}
-use Rattle.egt_board.specs.Setup.{Setup, IsAdmissible, IsKingOn}
-use Rattle.egt_board.specs.Settled.{IsSettled, SettlesTo}
-use Rattle.egt_board.specs.Symmetry.{KeepsPlay}
-use Rattle.egt_board.specs.Turned.{IsTurnedBy, turned_square, turned_man}
-use Rattle.egt_class.specs.Material.{Material, material_of}
-use Rattle.egt_class.specs.Membership.{IsOf}
-use Rattle.egt_index.specs.Digits.{AreDigits}
-use Rattle.egt_index.specs.Size.{base_of, men_bases, men_in_order, has_pawns}
-use Rattle.egt_index.specs.Code.{Spells, square_of, men_at}
-use Rattle.egt_index.specs.Index.{IsIndex}
 use Rattle.egt_index.proofs.Listing.{get_here}
-use Rattle.egt_index.specs.Picked.{Least, DigitOf, Fits, IsLeastCode, CodeOf}
-use Rattle.egt_index.specs.Turns.{IsTurn, Best, BestOf, CodeAfter, lesser}
 use Rattle.egt_index.proofs.Counted.{counted_rest}
 use Rattle.egt_index.proofs.Coded.{digits_more, digits_exist, picks_code, stands_before}
-use Rattle.egt_index.specs.Facts.{Facts}
 use Rattle.egt_index.proofs.Turned.{differ, turned_class, counted_of, target_has_digit, no_pawns}
 use Rattle.egt_index.proofs.Kings.{king_turn}
-use Rattle.egt_index.specs.Home.{symmetries}
 
 -- the board without the white king
 pub fits_rest : (p : Setup) (s : ℕ) → IsAdmissible p → IsKingOn p.men White s → Fits (placement.remove p.men s)

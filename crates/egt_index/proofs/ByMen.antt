@@ -1,17 +1,7 @@
 -- What the men of a position without a target tell of it.
-use Rattle.std.proofs.Common.{◌≡◌, ℕ, None, Option, IfSome, false, Bool, refl, sym, ap, inl, subst}
-use Rattle.std.specs.Option.{option_map, is_some}
-use Rattle.egt_board.specs.declared.man.Man.{Man}
-use Rattle.egt_board.specs.declared.man.Side.{Side}
-use Rattle.egt_board.specs.Pawn.{ahead, HasPawnBeside}
-use Rattle.egt_board.specs.Man.{other_side}
-use Rattle.egt_board.specs.Settled.{IsSettled, SettlesTo}
-use Rattle.egt_board.specs.Setup.{Setup, IsAdmissible}
-use Rattle.egt_class.specs.Membership.{IsOf}
-use Rattle.egt_class.specs.Pair.{AreNonKings}
-use Rattle.egt_index.specs.Facts.{Facts}
-use Rattle.egt_index.specs.Stood.{Entry, HasStand, Stood, list_of}
-use Rattle.egt_index.specs.declared.stand.Stand.{Stand}
+use Rattle.egt_index.specs.Prelude.{◌≡◌, ℕ, None, Option, IfSome, false, Bool, refl, sym, ap, inl, subst, option_map}
+use Rattle.egt_index.specs.Prelude.{is_some, Man, Side, ahead, HasPawnBeside, other_side, IsSettled, SettlesTo, Setup}
+use Rattle.egt_index.specs.Prelude.{IsAdmissible, IsOf, AreNonKings, Facts, Entry, HasStand, Stood, list_of, Stand}
 use Rattle.egt_index.proofs.Turned.{settled_stand}
 
 -- without a target nothing is to be settled

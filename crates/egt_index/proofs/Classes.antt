@@ -1,28 +1,13 @@
 -- What a code spells is of its class, in its colours.
-use Rattle.std.proofs.Common.{eqb, ◌/◌, ◌%◌, ◌≡◌, ℕ, ◌<◌, ◌||◌, not, Bool, true, false, cond, ltb, Some, List, [], ◌∷◌, map, arith, refl, sym, ap, ◌∙◌, inl, inr, subst}
+use Rattle.egt_index.specs.Prelude.{eqb, ◌/◌, ◌%◌, ◌≡◌, ℕ, ◌<◌, ◌||◌, not, Bool, true, false, cond, ltb, Some, List, []}
+use Rattle.egt_index.specs.Prelude.{◌∷◌, map, arith, refl, sym, ap, ◌∙◌, inl, inr, subst, cases_eq, cases_lt}
+use Rattle.egt_index.specs.Prelude.{false≢true, ltb-true, Side, White, Black, P, Man, count_of, men_of, other_side}
+use Rattle.egt_index.specs.Prelude.{pawn_of, HasNoPawn, Stands, Setup, IsAdmissible, all_below, passes_below, Material}
+use Rattle.egt_index.specs.Prelude.{material_of, materials, men_in, IsOf, AreDigits, base_of, men_in_order, has_pawns}
+use Rattle.egt_index.specs.Prelude.{Spells, square_of, placed, men_at, AreCounted, Facts, IsTurn, IsInColours}
 use Rattle.std.specs.FinMap as placement
-use Rattle.std.proofs.lemmas.Bool.{cases_eq, cases_lt, false≢true, ltb-true}
-use Rattle.egt_board.specs.declared.man.Side.{Side}
-use Rattle.egt_board.specs.declared.man.Side.TheVariants.{White, Black}
-use Rattle.egt_board.specs.declared.man.Kind.TheVariants.{P}
-use Rattle.egt_board.specs.declared.man.Man.{Man}
-use Rattle.egt_board.specs.Images.{count_of}
-use Rattle.egt_board.specs.Listed.{men_of}
-use Rattle.egt_board.specs.Man.{other_side}
-use Rattle.egt_board.specs.Pawn.{pawn_of, HasNoPawn}
-use Rattle.egt_board.specs.Placement.{Stands}
-use Rattle.egt_board.specs.Setup.{Setup, IsAdmissible}
-use Rattle.egt_class.specs.Below.{all_below, passes_below}
-use Rattle.egt_class.specs.Material.{Material, material_of, materials, men_in}
-use Rattle.egt_class.specs.Membership.{IsOf}
-use Rattle.egt_index.specs.Digits.{AreDigits}
-use Rattle.egt_index.specs.Size.{base_of, men_in_order, has_pawns}
-use Rattle.egt_index.specs.Code.{Spells, square_of, placed, men_at}
-use Rattle.egt_index.specs.Picked.{AreCounted}
 use Rattle.egt_index.proofs.Listing.{AreApart, apart_of, get_here, get_later, get_none, remove_first}
 use Rattle.egt_index.proofs.Counted.{removed, counted_none, count_cons, least_below}
-use Rattle.egt_index.specs.Facts.{Facts}
-use Rattle.egt_index.specs.Turns.{IsTurn, IsInColours}
 use Rattle.egt_index.proofs.Tallied.{in_class}
 use Rattle.egt_index.proofs.Turned.{differ, turned_class}
 use Rattle.egt_index.proofs.Tested.{implied, one_of}

@@ -1,25 +1,15 @@
 -- A position whose white king is on a square of its digit has a least code.
-use Rattle.std.proofs.Common.{◌≡◌, ℕ, ◌+◌, ◌-◌, ◌*◌, ◌<◌, ◌≤◌, ◌⊎◌, Bool, true, cond, leb, List, [], ◌∷◌, ◌++◌, map, length, arith, refl, sym, ap, ◌∙◌, inl, inr, subst}
+use Rattle.egt_index.specs.Prelude.{◌≡◌, ℕ, ◌+◌, ◌-◌, ◌*◌, ◌<◌, ◌≤◌, ◌⊎◌, Bool, true, cond, leb, List, [], ◌∷◌, ◌++◌}
+use Rattle.egt_index.specs.Prelude.{map, length, arith, refl, sym, ap, ◌∙◌, inl, inr, subst, cases_eq, cases_lt}
+use Rattle.egt_index.specs.Prelude.{leb-true, Side, White, Black, Kind, Q, R, B, N, P, K, Man, king_of, side_number}
+use Rattle.egt_index.specs.Prelude.{MayStand, Placement, Stands, get-remove_same, get-remove_other, Setup, IsAdmissible}
+use Rattle.egt_index.specs.Prelude.{all_below, passes_below, Material, material_of, materials, number_from, number_of}
+use Rattle.egt_index.specs.Prelude.{AreDigits, base_of, bases, men_bases, men_in_order, has_pawns, has_target, SpellsBy}
+use Rattle.egt_index.specs.Prelude.{HasTargetDigit, placed, men_at, target_digits, Least, AreCounted, Picks, DigitOf}
+use Rattle.egt_index.specs.Prelude.{Fits, IsLeastCode}
 use Rattle.std.specs.FinMap as placement
-use Rattle.std.proofs.lemmas.Bool.{cases_eq, cases_lt, leb-true}
-use Rattle.egt_board.specs.declared.man.Side.{Side}
-use Rattle.egt_board.specs.declared.man.Side.TheVariants.{White, Black}
-use Rattle.egt_board.specs.declared.man.Kind.{Kind}
-use Rattle.egt_board.specs.declared.man.Kind.TheVariants.{Q, R, B, N, P, K}
-use Rattle.egt_board.specs.declared.man.Man.{Man}
-use Rattle.egt_board.specs.Attack.{king_of}
-use Rattle.egt_board.specs.Images.{side_number}
-use Rattle.egt_board.specs.Pawn.{MayStand}
-use Rattle.egt_board.specs.Placement.{Placement, Stands, get-remove_same, get-remove_other}
-use Rattle.egt_board.specs.Setup.{Setup, IsAdmissible}
-use Rattle.egt_class.specs.Below.{all_below, passes_below}
-use Rattle.egt_class.specs.Material.{Material, material_of, materials}
-use Rattle.egt_index.specs.Digits.{number_from, number_of, AreDigits}
-use Rattle.egt_index.specs.Size.{base_of, bases, men_bases, men_in_order, has_pawns, has_target}
-use Rattle.egt_index.specs.Code.{SpellsBy, HasTargetDigit, placed, men_at, target_digits}
 use Rattle.egt_index.proofs.MixedDigits.{number_from-lt}
 use Rattle.egt_index.proofs.Listing.{apart_of, fits_of}
-use Rattle.egt_index.specs.Picked.{Least, AreCounted, Picks, DigitOf, Fits, IsLeastCode}
 use Rattle.egt_index.proofs.Counted.{counted_rest, first_is_there}
 use Rattle.egt_index.proofs.Coding.{last_digits}
 use Rattle.egt_index.proofs.Picking.{picks_all, picks_least}

@@ -1,14 +1,8 @@
 -- A code spells one position, and is below the class's size.
-use Rattle.std.proofs.Common.{◌≡◌, ℕ, ◌<◌, Bool, true, false, cond, List, [], ◌∷◌, ◌++◌, Option, Some, None, arith, refl, sym, ap, ◌∙◌, subst}
-use Rattle.egt_board.specs.declared.man.Side.{Side}
-use Rattle.egt_board.specs.declared.man.Side.TheVariants.{White, Black}
-use Rattle.egt_board.specs.Images.{side_number}
-use Rattle.egt_board.specs.Listed.{men_of}
-use Rattle.egt_board.specs.Setup.{Setup}
-use Rattle.egt_class.specs.Material.{Material, material_of}
-use Rattle.egt_index.specs.Digits.{AreDigits, product}
-use Rattle.egt_index.specs.Size.{size_of, bases, men_bases, has_target}
-use Rattle.egt_index.specs.Code.{Spells, SpellsBy, men_at, target_digit, target_digits}
+use Rattle.egt_index.specs.Prelude.{◌≡◌, ℕ, ◌<◌, Bool, true, false, cond, List, [], ◌∷◌, ◌++◌, Option, Some, None}
+use Rattle.egt_index.specs.Prelude.{arith, refl, sym, ap, ◌∙◌, subst, Side, White, Black, side_number, men_of, Setup}
+use Rattle.egt_index.specs.Prelude.{Material, material_of, AreDigits, product, size_of, bases, men_bases, has_target}
+use Rattle.egt_index.specs.Prelude.{Spells, SpellsBy, men_at, target_digit, target_digits}
 use Rattle.egt_index.proofs.MixedDigits.{number_of-below, number_from-same}
 
 pub AreDigits-append : (bases digits others more : List ℕ) → AreDigits bases digits → AreDigits others more → AreDigits (bases ++ others) (digits ++ more)

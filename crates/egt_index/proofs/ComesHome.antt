@@ -1,13 +1,9 @@
 -- The tables of turns that bring a king home are right for each square.
-use Rattle.std.proofs.Common.{◌≡◌, ◌≢◌, ℕ, ◌+◌, ◌/◌, ◌%◌, ◌<◌, ◌⊎◌, ◌&&◌, ◌||◌, not, Bool, true, false, cond, ltb, eqb, Option, Some, None, IfSome, refl, sym, ap, ◌∙◌, inl, inr, subst}
-use Rattle.std.specs.Prelude.{slice_index}
-use Rattle.std.proofs.lemmas.Bool.{and_parts, and_from, eqb-true, eq-eqb, ltb-true, lt-ltb, false≢true}
-use Rattle.egt_board.specs.Turned.{turned_square}
-use Rattle.egt_class.specs.Below.{all_below, passes_below}
-use Rattle.egt_index.specs.Code.{king_square}
-use Rattle.egt_index.specs.Home.{symmetries, IsTurnWith, BringsHome, AreHome}
-use Rattle.egt_index.specs.Size.{king_base}
-use Rattle.egt_index.specs.declared.home.TheConstants.{FIRST, LAST}
+use Rattle.egt_index.specs.Prelude.{◌≡◌, ◌≢◌, ℕ, ◌+◌, ◌/◌, ◌%◌, ◌<◌, ◌⊎◌, ◌&&◌, ◌||◌, not, Bool, true, false, cond, ltb}
+use Rattle.egt_index.specs.Prelude.{eqb, Option, Some, None, IfSome, refl, sym, ap, ◌∙◌, inl, inr, subst, slice_index}
+use Rattle.egt_index.specs.Prelude.{and_parts, and_from, eqb-true, eq-eqb, ltb-true, lt-ltb, false≢true, turned_square}
+use Rattle.egt_index.specs.Prelude.{all_below, passes_below, king_square, symmetries, IsTurnWith, BringsHome, AreHome}
+use Rattle.egt_index.specs.Prelude.{king_base, FIRST, LAST}
 use Rattle.egt_index.proofs.Kings.{some_below, some_passes, has_digit}
 use Rattle.egt_index.proofs.Tested.{implied, one_of, not_both}
 

@@ -1,21 +1,11 @@
 -- Men counted on the squares of a placement, and taken off one by one.
-use Rattle.std.proofs.Common.{◌≡◌, ◌≢◌, ℕ, zero, suc, ◌+◌, ◌<◌, ◌≤◌, ◌⊎◌, cond, List, [], ◌∷◌, Option, Some, None, arith, refl, sym, ap, ◌∙◌, inl, inr, subst}
-use Rattle.std.specs.Prelude.{slice_index_or}
+use Rattle.egt_index.specs.Prelude.{◌≡◌, ◌≢◌, ℕ, zero, suc, ◌+◌, ◌<◌, ◌≤◌, ◌⊎◌, cond, List, [], ◌∷◌, Option, Some, None}
+use Rattle.egt_index.specs.Prelude.{arith, refl, sym, ap, ◌∙◌, inl, inr, subst, slice_index_or, cases_eq, eq-eqb}
+use Rattle.egt_index.specs.Prelude.{eqb_tells, sum_by-cons, Side, White, Black, Kind, Q, R, B, N, P, K, Man}
+use Rattle.egt_index.specs.Prelude.{kind_number, side_number, man_number, stands_here, count_of, Placement, Stands}
+use Rattle.egt_index.specs.Prelude.{same_men, get-remove_same, get-remove_other, total, is_man, tally, AreCounted}
+use Rattle.egt_index.specs.Prelude.{Least, men_of}
 use Rattle.std.specs.FinMap as placement
-use Rattle.std.proofs.lemmas.Bool.{cases_eq, eq-eqb}
-use Rattle.std.proofs.lemmas.Bool.Decides.{eqb_tells}
-use Rattle.std.proofs.lemmas.List.Sums.{sum_by-cons}
-use Rattle.egt_board.specs.declared.man.Side.{Side}
-use Rattle.egt_board.specs.declared.man.Side.TheVariants.{White, Black}
-use Rattle.egt_board.specs.declared.man.Kind.{Kind}
-use Rattle.egt_board.specs.declared.man.Kind.TheVariants.{Q, R, B, N, P, K}
-use Rattle.egt_board.specs.declared.man.Man.{Man}
-use Rattle.egt_board.specs.Images.{kind_number, side_number, man_number, stands_here, count_of}
-use Rattle.egt_board.specs.Placement.{Placement, Stands, same_men, get-remove_same, get-remove_other}
-use Rattle.egt_board.specs.SquareSet.{total}
-use Rattle.egt_board.specs.Counting.{is_man}
-use Rattle.egt_index.specs.Picked.{tally, AreCounted, Least}
-use Rattle.egt_board.specs.Listed.{men_of}
 use Rattle.egt_index.proofs.Listing.{get_none}
 
 kind_at : ℕ → Kind

@@ -1,21 +1,11 @@
 -- What the digits of a code spell.
-use Rattle.std.proofs.Common.{◌≡◌, ℕ, ◌+◌, ◌-◌, ◌<◌, Bool, true, false, cond, List, [], ◌∷◌, ◌++◌, Option, Some, None, arith, refl, sym, ap, ◌∙◌, inl, inr, subst}
-use Rattle.std.proofs.lemmas.Bool.{false≢true}
-use Rattle.egt_board.specs.declared.man.Side.{Side}
-use Rattle.egt_board.specs.declared.man.Side.TheVariants.{White, Black}
-use Rattle.egt_board.specs.declared.man.Man.{Man}
-use Rattle.egt_board.specs.Images.{side_number}
-use Rattle.egt_board.specs.Man.{other_side}
-use Rattle.egt_board.specs.Pawn.{pawn_of}
-use Rattle.egt_board.specs.Placement.{Placement, Stands}
-use Rattle.egt_board.specs.Listed.{men_of, setup_of, FitsBoard}
-use Rattle.egt_board.specs.Setup.{Setup, IsAdmissible}
-use Rattle.egt_board.specs.Target.{IsTarget, FitsTarget}
-use Rattle.egt_class.specs.Material.{Material, material_of}
-use Rattle.egt_index.specs.Digits.{number_from, number_of, AreDigits}
-use Rattle.egt_index.specs.Size.{bases, men_bases, has_target}
-use Rattle.egt_index.specs.Code.{Spells, SpellsBy, HasTargetDigit, men_at, target_digit, target_digits}
-use Rattle.egt_index.specs.Spelled.{SpellsMen, SpellsNoMen, Ends, HasPawns, IsBehind, IsTold, IsListed}
+use Rattle.egt_index.specs.Prelude.{◌≡◌, ℕ, ◌+◌, ◌-◌, ◌<◌, Bool, true, false, cond, List, [], ◌∷◌, ◌++◌, Option, Some}
+use Rattle.egt_index.specs.Prelude.{None, arith, refl, sym, ap, ◌∙◌, inl, inr, subst, false≢true, Side, White, Black}
+use Rattle.egt_index.specs.Prelude.{Man, side_number, other_side, pawn_of, Placement, Stands, men_of, setup_of}
+use Rattle.egt_index.specs.Prelude.{FitsBoard, Setup, IsAdmissible, IsTarget, FitsTarget, Material, material_of}
+use Rattle.egt_index.specs.Prelude.{number_from, number_of, AreDigits, bases, men_bases, has_target, Spells, SpellsBy}
+use Rattle.egt_index.specs.Prelude.{HasTargetDigit, men_at, target_digit, target_digits, SpellsMen, SpellsNoMen, Ends}
+use Rattle.egt_index.specs.Prelude.{HasPawns, IsBehind, IsTold, IsListed}
 use Rattle.egt_index.proofs.MixedDigits.{number_from-same}
 use Rattle.egt_index.proofs.Coding.{last_digits, side_told}
 use Rattle.egt_index.proofs.Coded.{number_append}

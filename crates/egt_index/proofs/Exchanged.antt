@@ -1,21 +1,10 @@
 -- The men of a class whose sides have the same, with colours exchanged.
-use Rattle.std.proofs.Common.{◌≡◌, ℕ, ◌<◌, ◌||◌, not, Bool, true, false, eqb, List, [], ◌∷◌, ◌++◌, Some, None, refl, sym, ap, ◌∙◌, subst}
-use Rattle.std.specs.Option.{option_to_list}
-use Rattle.std.proofs.lemmas.Bool.{false≢true, eqb-true}
-use Rattle.egt_board.specs.declared.man.Side.{Side}
-use Rattle.egt_board.specs.declared.man.Side.TheVariants.{White, Black}
-use Rattle.egt_board.specs.declared.man.Man.{Man}
-use Rattle.egt_board.specs.declared.mirror.Mirror.TheVariants.{Colours}
-use Rattle.egt_board.specs.Attack.{king_of}
-use Rattle.egt_board.specs.Images.{man_number}
-use Rattle.egt_board.specs.Mirror.{man_by, side_by}
-use Rattle.egt_board.specs.Placement.{Placement}
-use Rattle.egt_board.specs.Turned.{turned_man}
-use Rattle.egt_class.specs.Below.{all_below, passes_below}
-use Rattle.egt_class.specs.Material.{material_of, materials, has_equal_sides}
-use Rattle.egt_index.specs.Size.{men_beside, men_in_order}
-use Rattle.egt_index.specs.Stood.{Entry, men_among, list_of, AllStand, IsFilled, Stood, on_square_of}
-use Rattle.egt_index.specs.declared.stand.Stand.{Stand}
+use Rattle.egt_index.specs.Prelude.{◌≡◌, ℕ, ◌<◌, ◌||◌, not, Bool, true, false, eqb, List, [], ◌∷◌, ◌++◌, Some, None}
+use Rattle.egt_index.specs.Prelude.{refl, sym, ap, ◌∙◌, subst, option_to_list, false≢true, eqb-true, Side, White, Black}
+use Rattle.egt_index.specs.Prelude.{Man, Colours, king_of, man_number, man_by, side_by, Placement, turned_man}
+use Rattle.egt_index.specs.Prelude.{all_below, passes_below, material_of, materials, has_equal_sides, men_beside}
+use Rattle.egt_index.specs.Prelude.{men_in_order, Entry, men_among, list_of, AllStand, IsFilled, Stood, on_square_of}
+use Rattle.egt_index.specs.Prelude.{Stand}
 use Rattle.egt_index.proofs.Counted.{man_told}
 use Rattle.egt_index.proofs.Standing.{turned_back}
 use Rattle.egt_index.proofs.Tested.{implied}

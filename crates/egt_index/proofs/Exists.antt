@@ -1,21 +1,10 @@
 -- Each position of a class has one index, and positions have one index where they settle to images of one another.
-use Rattle.std.proofs.Common.{◌≡◌, ◌≢◌, ℕ, zero, suc, ◌+◌, ◌/◌, ◌%◌, ◌<◌, ◌⊎◌, Bool, true, false, eqb, Option, Some, None, arith, refl, sym, ◌∙◌, inl, inr, subst}
-use Rattle.std.proofs.lemmas.Bool.{cases_eq, false≢true}
-use Rattle.egt_board.specs.declared.man.Side.TheVariants.{White}
-use Rattle.egt_board.specs.Attack.{king_of}
-use Rattle.egt_board.specs.Setup.{Setup, IsAdmissible}
-use Rattle.egt_board.specs.Settled.{IsSettled, SettlesTo}
-use Rattle.egt_board.specs.Symmetry.{KeepsPlay}
-use Rattle.egt_board.specs.Images.{AreImages}
-use Rattle.egt_board.specs.Decided.{Decided, decided_eq, some_or_none_below}
-use Rattle.egt_class.specs.Material.{material_of, has_equal_sides}
-use Rattle.egt_class.specs.Membership.{IsOf}
-use Rattle.egt_index.specs.Size.{size_of, base_of, has_pawns}
-use Rattle.egt_index.specs.Code.{Spells, square_of}
-use Rattle.egt_index.specs.Facts.{Facts}
-use Rattle.egt_index.specs.Index.{IsIndex, SettleAlike}
-use Rattle.egt_index.specs.Picked.{CodeOf}
-use Rattle.egt_index.specs.Turns.{Best, CodeAfter, lesser}
+use Rattle.egt_index.specs.Prelude.{◌≡◌, ◌≢◌, ℕ, zero, suc, ◌+◌, ◌/◌, ◌%◌, ◌<◌, ◌⊎◌, Bool, true, false, eqb, Option}
+use Rattle.egt_index.specs.Prelude.{Some, None, arith, refl, sym, ◌∙◌, inl, inr, subst, cases_eq, false≢true, White}
+use Rattle.egt_index.specs.Prelude.{king_of, Setup, IsAdmissible, IsSettled, SettlesTo, KeepsPlay, AreImages, Decided}
+use Rattle.egt_index.specs.Prelude.{decided_eq, some_or_none_below, material_of, has_equal_sides, IsOf, size_of}
+use Rattle.egt_index.specs.Prelude.{base_of, has_pawns, Spells, square_of, Facts, IsIndex, SettleAlike, CodeOf, Best}
+use Rattle.egt_index.specs.Prelude.{CodeAfter, lesser}
 use Rattle.egt_index.proofs.Best.{code_found, code_missing, after_turn, best_none, best_after, index_found, index_there}
 use Rattle.egt_index.proofs.Classes.{pawns_there, spells_class}
 use Rattle.egt_index.proofs.Coding.{code_below}

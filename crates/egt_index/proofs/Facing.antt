@@ -1,19 +1,9 @@
 -- A man attacks the squares from which it is attacked: of a pawn the enemy's attacks his.
-use Rattle.std.proofs.Common.{◌≡◌, ◌≢◌, ◌↔◌, ◌⊎◌, ℕ, ◌-◌, ◌<◌, min, arith, refl, sym, ap, ◌∙◌, inl, inr, subst}
+use Rattle.egt_index.specs.Prelude.{◌≡◌, ◌≢◌, ◌↔◌, ◌⊎◌, ℕ, ◌-◌, ◌<◌, min, arith, refl, sym, ap, ◌∙◌, inl, inr, subst}
+use Rattle.egt_index.specs.Prelude.{bit_at, cases_eq, bit_at-lt, Man, IsAttacked, Reaches, Reaches-free, other_side}
+use Rattle.egt_index.specs.Prelude.{facing, Placement, Stands, IsFree, get-insert_same, get-insert_other, one_man}
+use Rattle.egt_index.specs.Prelude.{IsKeptFrom, PassesOver, attacks_back, sides_differ, man_of}
 use Rattle.std.specs.FinMap as map
-use Rattle.std.specs.Int.{bit_at}
-use Rattle.std.proofs.lemmas.Bool.{cases_eq}
-use Rattle.std.proofs.lemmas.Nat.Bits.{bit_at-lt}
-use Rattle.egt_board.specs.declared.man.Man.{Man}
-use Rattle.egt_board.specs.Attack.{IsAttacked}
-use Rattle.egt_board.specs.AttackLines.{Reaches, Reaches-free}
-use Rattle.egt_board.specs.Man.{other_side}
-use Rattle.egt_board.specs.Pawn.{facing}
-use Rattle.egt_board.specs.Placement.{Placement, Stands, IsFree, get-insert_same, get-insert_other, one_man}
-use Rattle.egt_board.specs.Safety.{IsKeptFrom}
-use Rattle.egt_board.proofs.Facing.{PassesOver, attacks_back}
-use Rattle.egt_board.proofs.Sides.{sides_differ}
-use Rattle.egt_index.specs.Size.{man_of}
 
 -- which squares are free does not hang on which man comes
 free_alike : (men : Placement) (t u : ℕ) (a b : Man) → IsFree (map.insert men t a) u → IsFree (map.insert men t b) u

@@ -1,24 +1,10 @@
 -- The first man of a class's name tells in what colours a position of the class is.
-use Rattle.std.proofs.Common.{◌≡◌, ℕ, ◌<◌, ◌++◌, not, Bool, true, false, eqb, List, Option, Some, None, arith, refl, ap, ◌∙◌, subst, inl, inr}
-use Rattle.std.specs.Option.{option_to_list}
-use Rattle.std.specs.Prelude.{◌↔◌, IsTrue, slice_index_or}
-use Rattle.std.proofs.lemmas.Bool.{and_parts, eqb-true, false≢true}
-use Rattle.std.proofs.lemmas.List.{get_or_default}
-use Rattle.egt_board.specs.declared.man.Man.{Man}
-use Rattle.egt_board.specs.declared.man.Side.TheVariants.{White, Black}
-use Rattle.egt_board.specs.AllMen.{HasBeside}
-use Rattle.egt_board.specs.NonKings.{StandsBeside}
-use Rattle.egt_board.specs.Man.{other_side}
-use Rattle.egt_board.specs.Placement.{Stands}
-use Rattle.egt_board.specs.Setup.{Setup, IsAdmissible}
-use Rattle.egt_class.specs.Below.{all_below, passes_below}
-use Rattle.egt_class.specs.Material.{materials, material_of, men_in, has_equal_sides}
-use Rattle.egt_class.specs.Membership.{IsOf}
-use Rattle.egt_index.specs.Facts.{Facts}
-use Rattle.egt_index.specs.First.{tells_colours}
-use Rattle.egt_index.specs.Size.{men_beside}
-use Rattle.egt_index.specs.Stood.{Entry, Holds, IsAmong}
-use Rattle.egt_index.specs.declared.men.TheConstants.{NON_KINGS}
+use Rattle.egt_index.specs.Prelude.{◌≡◌, ℕ, ◌<◌, ◌++◌, not, Bool, true, false, eqb, List, Option, Some, None, arith}
+use Rattle.egt_index.specs.Prelude.{refl, ap, ◌∙◌, subst, inl, inr, option_to_list, ◌↔◌, IsTrue, slice_index_or}
+use Rattle.egt_index.specs.Prelude.{and_parts, eqb-true, false≢true, get_or_default, Man, White, Black, HasBeside}
+use Rattle.egt_index.specs.Prelude.{StandsBeside, other_side, Stands, Setup, IsAdmissible, all_below, passes_below}
+use Rattle.egt_index.specs.Prelude.{materials, material_of, men_in, has_equal_sides, IsOf, Facts, tells_colours}
+use Rattle.egt_index.specs.Prelude.{men_beside, Entry, Holds, IsAmong, NON_KINGS}
 use Rattle.egt_index.proofs.Counted.{counted_some}
 use Rattle.egt_index.proofs.Standing.{kings_on, among_own}
 use Rattle.egt_index.proofs.Tested.{one_of}

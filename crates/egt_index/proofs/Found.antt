@@ -1,17 +1,10 @@
 -- The code that a position's digits make.
-use Rattle.std.proofs.Common.{◌≡◌, ℕ, ◌+◌, ◌*◌, ◌<◌, false, cond, List, [], ◌∷◌, ◌++◌, map, arith, sym, ap, ◌∙◌, subst}
+use Rattle.egt_index.specs.Prelude.{◌≡◌, ℕ, ◌+◌, ◌*◌, ◌<◌, false, cond, List, [], ◌∷◌, ◌++◌, map, arith, sym, ap, ◌∙◌}
+use Rattle.egt_index.specs.Prelude.{subst, White, Black, king_of, side_number, Setup, IsAdmissible, IsKingOn, IsSettled}
+use Rattle.egt_index.specs.Prelude.{Material, material_of, IsOf, number_from, number_of, king_base, base_of, bases}
+use Rattle.egt_index.specs.Prelude.{men_bases, men_beside, has_pawns, has_target, king_square, target_digits, Goes}
+use Rattle.egt_index.specs.Prelude.{IsLeastCode}
 use Rattle.std.specs.FinMap as placement
-use Rattle.egt_board.specs.declared.man.Side.TheVariants.{White, Black}
-use Rattle.egt_board.specs.Attack.{king_of}
-use Rattle.egt_board.specs.Images.{side_number}
-use Rattle.egt_board.specs.Setup.{Setup, IsAdmissible, IsKingOn}
-use Rattle.egt_board.specs.Settled.{IsSettled}
-use Rattle.egt_class.specs.Material.{Material, material_of}
-use Rattle.egt_class.specs.Membership.{IsOf}
-use Rattle.egt_index.specs.Digits.{number_from, number_of}
-use Rattle.egt_index.specs.Size.{king_base, base_of, bases, men_bases, men_beside, has_pawns, has_target}
-use Rattle.egt_index.specs.Code.{king_square, target_digits}
-use Rattle.egt_index.specs.Picked.{Goes, IsLeastCode}
 use Rattle.egt_index.proofs.Coded.{digits_more, number_append, picks_code}
 use Rattle.egt_index.proofs.Turned.{counted_of, target_has_digit}
 use Rattle.egt_index.proofs.Best.{least_king}

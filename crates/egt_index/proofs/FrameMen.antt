@@ -1,13 +1,6 @@
 -- The men of a position on the squares that its stand or its frame tells.
-use Rattle.std.proofs.Common.{◌≡◌, ℕ, Bool, false, sym, subst}
-use Rattle.std.specs.Prelude.{◌↔◌}
-use Rattle.egt_board.specs.declared.man.Side.{Side}
-use Rattle.egt_board.specs.Listed.{men_of}
-use Rattle.egt_board.specs.Placement.{Placement, IsFree}
-use Rattle.egt_board.specs.Setup.{Setup}
-use Rattle.egt_index.specs.Picked.{AreCounted}
-use Rattle.egt_index.specs.Stood.{HasStand, IsOff, list_of}
-use Rattle.egt_index.specs.declared.stand.Stand.{Stand}
+use Rattle.egt_index.specs.Prelude.{◌≡◌, ℕ, Bool, false, sym, subst, ◌↔◌, Side, men_of, Placement, IsFree, Setup}
+use Rattle.egt_index.specs.Prelude.{AreCounted, HasStand, IsOff, list_of, Stand}
 use Rattle.egt_index.proofs.After.{all_there}
 use Rattle.egt_index.proofs.Setups.{free_of, off_of}
 use Rattle.egt_index.proofs.Turned.{counted_of}

@@ -1,20 +1,10 @@
 -- The men before the last one.
-use Rattle.std.proofs.Common.{◌≡◌, ◌≢◌, ℕ, ◌<◌, ◌≤◌, Bool, List, [], ◌∷◌, ◌++◌, Option, Some, None, IfSome, arith, refl, sym, ap, ◌∙◌, subst}
+use Rattle.egt_index.specs.Prelude.{◌≡◌, ◌≢◌, ℕ, ◌<◌, ◌≤◌, Bool, List, [], ◌∷◌, ◌++◌, Option, Some, None, IfSome, arith}
+use Rattle.egt_index.specs.Prelude.{refl, sym, ap, ◌∙◌, subst, option_to_list, king_of, men_of, IsFree, Man, White}
+use Rattle.egt_index.specs.Prelude.{Black, material_of, king_square, TellsLast, IsBefore, IsNoneBefore, last_of}
+use Rattle.egt_index.specs.Prelude.{king_base, has_pawns, men_beside, Splits, Tells, AllApart, Entry, IsOff, list_of}
+use Rattle.egt_index.specs.Prelude.{before_last, with_entry, with_last, Stand}
 use Rattle.std.specs.FinMap as map
-use Rattle.std.specs.Option.{option_to_list}
-use Rattle.egt_board.specs.Attack.{king_of}
-use Rattle.egt_board.specs.Listed.{men_of}
-use Rattle.egt_board.specs.Placement.{IsFree}
-use Rattle.egt_board.specs.declared.man.Man.{Man}
-use Rattle.egt_board.specs.declared.man.Side.TheVariants.{White, Black}
-use Rattle.egt_class.specs.Material.{material_of}
-use Rattle.egt_index.specs.Code.{king_square}
-use Rattle.egt_index.specs.Front.{TellsLast, IsBefore, IsNoneBefore}
-use Rattle.egt_index.specs.Shelf.{last_of}
-use Rattle.egt_index.specs.Size.{king_base, has_pawns, men_beside}
-use Rattle.egt_index.specs.Spelled.{Splits, Tells}
-use Rattle.egt_index.specs.Stood.{AllApart, Entry, IsOff, list_of, before_last, with_entry, with_last}
-use Rattle.egt_index.specs.declared.stand.Stand.{Stand}
 use Rattle.egt_index.proofs.Boarding.{apart_before, entry_free, entry_put, off_all, one_at_most, two_at_most}
 use Rattle.egt_index.proofs.Listing.{few_listed}
 use Rattle.egt_index.proofs.Splitting.{all_told, spells_men, spells_no_men}

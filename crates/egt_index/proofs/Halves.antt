@@ -1,23 +1,11 @@
 -- Numbers of positions and the codes that they stand for.
-use Rattle.std.proofs.Common.{◌≡◌, ℕ, ◌+◌, ◌-◌, ◌*◌, ◌/◌, ◌%◌, ◌<◌, ◌≤◌, ◌==◌, nat_lt, Bool, true, false, cond, [], ◌∷◌, Option, Some, None, arith, refl, sym, ap, ◌∙◌, inl, inr, subst}
-use Rattle.std.proofs.lemmas.Bool.{cases_lt, eqb-true, false≢true, lt-ltb}
-use Rattle.std.proofs.lemmas.Bool.Decides.{nat_tests}
-use Rattle.std.proofs.Math.Nat.{mul-le-mul_right}
-use Rattle.egt_board.specs.Images.{side_number}
-use Rattle.egt_board.specs.declared.man.Kind.{Kind}
-use Rattle.egt_board.specs.declared.man.Kind.TheVariants.{Q, R, B, N, P, K}
-use Rattle.egt_board.specs.declared.man.Man.{Man}
-use Rattle.egt_board.specs.declared.man.Side.{Side}
-use Rattle.egt_board.specs.declared.man.Side.TheVariants.{White, Black}
-use Rattle.egt_class.specs.Below.{all_below, passes_below}
-use Rattle.egt_class.specs.Material.{Material, material_of, materials}
-use Rattle.egt_index.specs.Digits.{number_from, product}
+use Rattle.egt_index.specs.Prelude.{◌≡◌, ℕ, ◌+◌, ◌-◌, ◌*◌, ◌/◌, ◌%◌, ◌<◌, ◌≤◌, ◌==◌, nat_lt, Bool, true, false, cond}
+use Rattle.egt_index.specs.Prelude.{[], ◌∷◌, Option, Some, None, arith, refl, sym, ap, ◌∙◌, inl, inr, subst, cases_lt}
+use Rattle.egt_index.specs.Prelude.{eqb-true, false≢true, lt-ltb, nat_tests, mul-le-mul_right, side_number, Kind, Q, R}
+use Rattle.egt_index.specs.Prelude.{B, N, P, K, Man, Side, White, Black, all_below, passes_below, Material, material_of}
+use Rattle.egt_index.specs.Prelude.{materials, number_from, product, digits_at, kind_digits, last_of, IsShelfBehind}
+use Rattle.egt_index.specs.Prelude.{number_in, bases, has_target, men_beside, size_of, Ends}
 use Rattle.egt_index.specs.Numbers.{code_of, half_of, number_of, places}
-use Rattle.egt_index.specs.Scales.{digits_at, kind_digits}
-use Rattle.egt_index.specs.Shelf.{last_of}
-use Rattle.egt_index.specs.ShelfCodes.{IsShelfBehind, number_in}
-use Rattle.egt_index.specs.Size.{bases, has_target, men_beside, size_of}
-use Rattle.egt_index.specs.Spelled.{Ends}
 use Rattle.egt_index.proofs.OnePosition.{one_pawn_each}
 
 pub of_targets : {A : Type 0} (c : ℕ) → (has_target (material_of c) ≡ false → A) → (has_target (material_of c) ≡ true → A) → A

@@ -1,9 +1,6 @@
 -- What all men add to an index is the index without its last digits.
-use Rattle.std.proofs.Common.{◌≡◌, ℕ, ◌<◌, Bool, true, ltb, refl}
-use Rattle.std.proofs.lemmas.Bool.{ltb-true}
-use Rattle.egt_class.specs.Below.{all_below, passes_below}
-use Rattle.egt_class.specs.Material.{material_of, materials}
-use Rattle.egt_index.specs.Size.{size_of}
+use Rattle.egt_index.specs.Prelude.{◌≡◌, ℕ, ◌<◌, Bool, true, ltb, refl, ltb-true, all_below, passes_below, material_of}
+use Rattle.egt_index.specs.Prelude.{materials, size_of}
 
 is_few : ℕ → Bool
 is_few c = ltb (size_of c) 268435456

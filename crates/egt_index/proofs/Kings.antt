@@ -1,11 +1,7 @@
 -- Some turn brings a king to a square of the white king's digit.
-use Rattle.std.proofs.Common.{◌≡◌, ℕ, zero, suc, ◌<◌, ◌||◌, Bool, true, false, eqb, arith, refl}
-use Rattle.std.proofs.lemmas.Bool.{false≢true, eqb-true}
-use Rattle.egt_board.specs.Turned.{turned_square}
-use Rattle.egt_class.specs.Below.{all_below, passes_below}
-use Rattle.egt_index.specs.Size.{king_base}
-use Rattle.egt_index.specs.Code.{king_square}
-use Rattle.egt_index.specs.Home.{symmetries}
+use Rattle.egt_index.specs.Prelude.{◌≡◌, ℕ, zero, suc, ◌<◌, ◌||◌, Bool, true, false, eqb, arith, refl, false≢true}
+use Rattle.egt_index.specs.Prelude.{eqb-true, turned_square, all_below, passes_below, king_base, king_square}
+use Rattle.egt_index.specs.Prelude.{symmetries}
 
 -- some number below n passes
 unfoldable pub some_below : (ℕ → Bool) → ℕ → Bool

@@ -1,19 +1,10 @@
 -- The least code over the turns that bring the white king home, which is that over all.
-use Rattle.std.proofs.Common.{◌≡◌, ◌≢◌, ℕ, ◌/◌, ◌%◌, ◌<◌, ◌≤◌, ◌⊎◌, not, Bool, true, false, cond, eqb, min, Option, Some, None, IfSome, arith, refl, sym, ap, ◌∙◌, inl, inr, subst}
-use Rattle.std.proofs.lemmas.Bool.{cases_eq, cases_lt, false≢true}
-use Rattle.egt_board.specs.declared.man.Side.TheVariants.{White, Black}
-use Rattle.egt_board.specs.Attack.{king_of}
-use Rattle.egt_board.specs.Placement.{Stands}
-use Rattle.egt_board.specs.Setup.{Setup, IsAdmissible}
-use Rattle.egt_board.specs.Symmetry.{KeepsPlay}
-use Rattle.egt_board.specs.Turned.{turned_man, turned_square}
-use Rattle.egt_class.specs.Material.{material_of, has_equal_sides}
-use Rattle.egt_class.specs.Membership.{IsOf}
-use Rattle.egt_index.specs.Code.{Spells}
-use Rattle.egt_index.specs.Facts.{Facts}
-use Rattle.egt_index.specs.Home.{symmetries, AreHome, FlipCode, LeastWith}
-use Rattle.egt_index.specs.Size.{has_pawns}
-use Rattle.egt_index.specs.Turns.{IsTurn, TurnCode, CodeAfter, Best, BestOf, lesser, IsInColours}
+use Rattle.egt_index.specs.Prelude.{◌≡◌, ◌≢◌, ℕ, ◌/◌, ◌%◌, ◌<◌, ◌≤◌, ◌⊎◌, not, Bool, true, false, cond, eqb, min}
+use Rattle.egt_index.specs.Prelude.{Option, Some, None, IfSome, arith, refl, sym, ap, ◌∙◌, inl, inr, subst, cases_eq}
+use Rattle.egt_index.specs.Prelude.{cases_lt, false≢true, White, Black, king_of, Stands, Setup, IsAdmissible, KeepsPlay}
+use Rattle.egt_index.specs.Prelude.{turned_man, turned_square, material_of, has_equal_sides, IsOf, Spells, Facts}
+use Rattle.egt_index.specs.Prelude.{symmetries, AreHome, FlipCode, LeastWith, has_pawns, IsTurn, TurnCode, CodeAfter}
+use Rattle.egt_index.specs.Prelude.{Best, BestOf, lesser, IsInColours}
 use Rattle.egt_index.proofs.Best.{king_after, none_after}
 use Rattle.egt_index.proofs.Classes.{image_in_others, pawns_there}
 use Rattle.egt_index.proofs.Turned.{no_pawns}

@@ -1,6 +1,5 @@
 -- The index after the white king went, whom a turn brings home from there, by the square of the last man.
-use Rattle.std.proofs.Common.{ℕ, ◌<◌, Bool, true, false, arith}
-use Rattle.egt_index.specs.Home.{symmetries}
+use Rattle.egt_index.specs.Prelude.{ℕ, ◌<◌, Bool, true, false, arith, symmetries}
 
 -- ---- the symmetry that undoes another
 

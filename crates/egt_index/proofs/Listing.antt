@@ -1,15 +1,10 @@
 -- Placements given by a list of men.
-use Rattle.std.proofs.Common.{◌≡◌, ◌≢◌, ℕ, zero, suc, ◌+◌, ◌<◌, ◌≤◌, true, false, List, [], ◌∷◌, ◌++◌, length, map, cond, Some, None, arith, sym, ap, ◌∙◌, inl, inr, subst}
-use Rattle.std.specs.Prelude.{slice_index}
-use Rattle.std.specs.Ordering.{nat_cmp}
-use Rattle.std.specs.Cmp.{nat_cmp_total}
+use Rattle.egt_index.specs.Prelude.{◌≡◌, ◌≢◌, ℕ, zero, suc, ◌+◌, ◌<◌, ◌≤◌, true, false, List, [], ◌∷◌, ◌++◌, length}
+use Rattle.egt_index.specs.Prelude.{map, cond, Some, None, arith, sym, ap, ◌∙◌, inl, inr, subst, slice_index, nat_cmp}
+use Rattle.egt_index.specs.Prelude.{nat_cmp_total, cases_eq, map-append, Man, Placement, Stands, IsFree, same_men, tied}
+use Rattle.egt_index.specs.Prelude.{untied, get-remove_same, get-remove_other, get-insert_same, get-insert_other}
+use Rattle.egt_index.specs.Prelude.{men_of, entry_of, squares_of, IsListed}
 use Rattle.std.specs.FinMap as placement
-use Rattle.std.proofs.lemmas.Bool.{cases_eq}
-use Rattle.std.proofs.lemmas.List.{map-append}
-use Rattle.egt_board.specs.declared.man.Man.{Man}
-use Rattle.egt_board.specs.Placement.{Placement, Stands, IsFree, same_men, tied, untied, get-remove_same, get-remove_other, get-insert_same, get-insert_other}
-use Rattle.egt_board.specs.Listed.{men_of, entry_of, squares_of}
-use Rattle.egt_index.specs.Spelled.{IsListed}
 
 -- no two men on one square: none of those behind stands where one does
 abbrev pub AreApart : List (Man × ℕ) → Type 0

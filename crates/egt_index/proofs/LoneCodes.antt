@@ -1,21 +1,10 @@
 -- The codes of a class with one man beside the kings.
-use Rattle.std.proofs.Common.{◌≡◌, ℕ, ◌+◌, ◌-◌, ◌*◌, ◌<◌, ◌≤◌, ◌&&◌, Bool, true, false, cond, List, [], ◌∷◌, ◌++◌, map, None, arith, refl, sym, ap, ◌∙◌, subst}
-use Rattle.egt_board.specs.Images.{side_number}
-use Rattle.egt_board.specs.declared.man.Kind.{Kind}
-use Rattle.egt_board.specs.declared.man.Kind.TheVariants.{Q, R, B, N, P, K}
-use Rattle.egt_board.specs.declared.man.Man.{Man}
-use Rattle.egt_board.specs.declared.man.Side.{Side}
-use Rattle.egt_board.specs.declared.man.Side.TheVariants.{White, Black}
-use Rattle.egt_class.specs.Material.{Material, material_of}
-use Rattle.egt_index.specs.Code.{king_square}
-use Rattle.egt_index.specs.Digits.{number_from, number_of, product}
-use Rattle.egt_index.specs.LoneCodes.{IsLoneMan, IsLoneRow, lone_stand}
-use Rattle.egt_index.specs.Scales.{kind_digits, kind_less}
-use Rattle.egt_index.specs.Size.{bases, has_pawn, has_pawns, has_target, king_base, man_of, men_bases, men_beside, size_of}
-use Rattle.egt_index.specs.Spelled.{SpellsMen, Tells}
-use Rattle.egt_index.specs.TellsMen.{TellsMen}
-use Rattle.egt_index.specs.Stood.{list_of, rest_of}
-use Rattle.egt_index.specs.declared.stand.Stand.{Stand}
+use Rattle.egt_index.specs.Prelude.{◌≡◌, ℕ, ◌+◌, ◌-◌, ◌*◌, ◌<◌, ◌≤◌, ◌&&◌, Bool, true, false, cond, List, [], ◌∷◌, ◌++◌}
+use Rattle.egt_index.specs.Prelude.{map, None, arith, refl, sym, ap, ◌∙◌, subst, side_number, Kind, Q, R, B, N, P, K}
+use Rattle.egt_index.specs.Prelude.{Man, Side, White, Black, Material, material_of, king_square, number_from, number_of}
+use Rattle.egt_index.specs.Prelude.{product, IsLoneMan, IsLoneRow, lone_stand, kind_digits, kind_less, bases, has_pawn}
+use Rattle.egt_index.specs.Prelude.{has_pawns, has_target, king_base, man_of, men_bases, men_beside, size_of, SpellsMen}
+use Rattle.egt_index.specs.Prelude.{Tells, TellsMen, list_of, rest_of, Stand}
 use Rattle.egt_index.proofs.Coding.{AreDigits-append, last_digits}
 use Rattle.egt_index.proofs.Decoded.{code_of_parts}
 use Rattle.egt_index.proofs.MixedDigits.{number_of-below}

@@ -1,21 +1,9 @@
 -- The number of the digits of men on their squares.
-use Rattle.std.proofs.Common.{◌≡◌, ◌≢◌, ℕ, ◌+◌, ◌-◌, ◌*◌, ◌/◌, ◌<◌, ◌≤◌, Bool, [], ◌++◌, Some, None, IfSome, arith, refl, sym, ap, ◌∙◌, subst}
-use Rattle.std.proofs.lemmas.List.{map-append}
-use Rattle.std.specs.Option.{option_to_list}
-use Rattle.egt_board.specs.declared.man.Kind.{Kind}
-use Rattle.egt_board.specs.declared.man.Kind.TheVariants.{Q, R, B, N, P, K}
-use Rattle.egt_board.specs.declared.man.Man.{Man}
-use Rattle.egt_board.specs.declared.man.Side.{Side}
-use Rattle.egt_board.specs.declared.man.Side.TheVariants.{White, Black}
-use Rattle.egt_board.specs.Attack.{king_of}
-use Rattle.egt_board.specs.Images.{side_number, kind_number}
-use Rattle.egt_board.specs.Pawn.{MayStand}
-use Rattle.egt_index.specs.Code.{square_by_digit}
-use Rattle.egt_index.specs.Scales.{kind_digits, kind_less}
-use Rattle.egt_index.specs.Size.{base_by}
-use Rattle.egt_index.specs.Spelled.{Splits, Tells}
-use Rattle.egt_index.specs.Stood.{Entry, HasDigit, men_among, rest_of}
-use Rattle.egt_index.specs.declared.stand.Stand.{Stand}
+use Rattle.egt_index.specs.Prelude.{◌≡◌, ◌≢◌, ℕ, ◌+◌, ◌-◌, ◌*◌, ◌/◌, ◌<◌, ◌≤◌, Bool, [], ◌++◌, Some, None, IfSome}
+use Rattle.egt_index.specs.Prelude.{arith, refl, sym, ap, ◌∙◌, subst, map-append, option_to_list, Kind, Q, R, B, N, P}
+use Rattle.egt_index.specs.Prelude.{K, Man, Side, White, Black, king_of, side_number, kind_number, MayStand}
+use Rattle.egt_index.specs.Prelude.{square_by_digit, kind_digits, kind_less, base_by, Splits, Tells, Entry, HasDigit}
+use Rattle.egt_index.specs.Prelude.{men_among, rest_of, Stand}
 use Rattle.egt_index.proofs.Splitting.{all_told, tells_one}
 
 -- the digit of a square

@@ -1,20 +1,10 @@
 -- The table of the men beside the kings, and what the classes' numbers tell of pawns.
-use Rattle.std.proofs.Common.{◌≡◌, ℕ, ◌<◌, ◌++◌, Bool, true, false, eqb, List, map, Option, Some, None, IfSome, ◌≢◌, ◌&&◌, not, arith, ◌+◌, refl, sym, ap, ◌∙◌, subst}
-use Rattle.std.specs.Prelude.{slice_index_or}
-use Rattle.std.specs.List.{range_with_len}
-use Rattle.std.specs.Option.{option_to_list}
-use Rattle.std.proofs.Math.ListN.{get_or-map}
-use Rattle.std.proofs.lemmas.List.{get_or_default}
-use Rattle.std.proofs.lemmas.Bool.{false≢true, eq-eqb, and_parts}
-use Rattle.std.proofs.lemmas.List.FromFn.{get_or-map-range_with_len}
-use Rattle.egt_board.specs.declared.man.Man.{Man}
-use Rattle.egt_board.specs.Images.{man_number}
-use Rattle.egt_board.specs.Attack.{king_of}
-use Rattle.egt_board.specs.declared.man.Side.TheVariants.{White}
-use Rattle.egt_class.specs.Below.{all_below, passes_below}
-use Rattle.egt_class.specs.Material.{material_of, materials, has_equal_sides}
-use Rattle.egt_index.specs.Size.{men_beside, has_pawns, has_target}
-use Rattle.egt_index.specs.declared.men.TheConstants.{NON_KINGS, PAWNS, EQUAL_SIDES}
+use Rattle.egt_index.specs.Prelude.{◌≡◌, ℕ, ◌<◌, ◌++◌, Bool, true, false, eqb, List, map, Option, Some, None, IfSome}
+use Rattle.egt_index.specs.Prelude.{◌≢◌, ◌&&◌, not, arith, ◌+◌, refl, sym, ap, ◌∙◌, subst, slice_index_or}
+use Rattle.egt_index.specs.Prelude.{range_with_len, option_to_list, get_or-map, get_or_default, false≢true, eq-eqb}
+use Rattle.egt_index.specs.Prelude.{and_parts, get_or-map-range_with_len, Man, man_number, king_of, White, all_below}
+use Rattle.egt_index.specs.Prelude.{passes_below, material_of, materials, has_equal_sides, men_beside, has_pawns}
+use Rattle.egt_index.specs.Prelude.{has_target, NON_KINGS, PAWNS, EQUAL_SIDES}
 use Rattle.egt_index.proofs.Tested.{not_both}
 
 men_of_row : Option Man × Option Man → List Man

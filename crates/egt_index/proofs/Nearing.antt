@@ -1,24 +1,10 @@
 -- Codes after a turn that the kings' squares, their highest digits, tell to be void.
-use Rattle.std.proofs.Common.{◌≡◌, ◌≢◌, ◌⊎◌, ℕ, ◌+◌, ◌*◌, ◌/◌, ◌%◌, ◌<◌, ◌≤◌, not, Bool, true, eqb, min, Option, Some, None, IfSome, arith, refl, sym, ap, ◌∙◌, subst, inl, inr}
-use Rattle.std.proofs.lemmas.Bool.{cases_eq, cases_lt}
-use Rattle.egt_board.specs.declared.man.Side.{Side}
-use Rattle.egt_board.specs.declared.man.Side.TheVariants.{White, Black}
-use Rattle.egt_board.specs.Attack.{king_of}
-use Rattle.egt_board.specs.Placement.{Stands}
-use Rattle.egt_board.specs.Setup.{IsAdmissible, Setup}
-use Rattle.egt_board.specs.Turned.{turned_square}
-use Rattle.egt_class.specs.Material.{has_equal_sides, material_of}
-use Rattle.egt_index.specs.Code.{Spells}
-use Rattle.egt_index.specs.Facts.{Facts}
-use Rattle.egt_index.specs.Home.{IsTurnWith, BringsHome, AreHome}
-use Rattle.egt_index.specs.Index.{IsIndex}
-use Rattle.egt_index.specs.Nearer.{KingsHome, AreNearest, IsVoidAfter}
-use Rattle.egt_index.specs.Size.{has_pawns}
-use Rattle.egt_index.specs.Stood.{AreNear, HasStand}
-use Rattle.egt_index.specs.TurnedMen.{IsTurnedCodeWith, seen_across}
-use Rattle.egt_index.specs.Turns.{IsTurn}
-use Rattle.egt_index.specs.Went.{AreOnBoard}
-use Rattle.egt_index.specs.declared.stand.Stand.{Stand}
+use Rattle.egt_index.specs.Prelude.{◌≡◌, ◌≢◌, ◌⊎◌, ℕ, ◌+◌, ◌*◌, ◌/◌, ◌%◌, ◌<◌, ◌≤◌, not, Bool, true, eqb, min, Option}
+use Rattle.egt_index.specs.Prelude.{Some, None, IfSome, arith, refl, sym, ap, ◌∙◌, subst, inl, inr, cases_eq, cases_lt}
+use Rattle.egt_index.specs.Prelude.{Side, White, Black, king_of, Stands, IsAdmissible, Setup, turned_square}
+use Rattle.egt_index.specs.Prelude.{has_equal_sides, material_of, Spells, Facts, IsTurnWith, BringsHome, AreHome}
+use Rattle.egt_index.specs.Prelude.{IsIndex, KingsHome, AreNearest, IsVoidAfter, has_pawns, AreNear, HasStand}
+use Rattle.egt_index.specs.Prelude.{IsTurnedCodeWith, seen_across, IsTurn, AreOnBoard, Stand}
 use Rattle.egt_index.proofs.Beating.{has_exchanged, kings_less, spelled_home, stands_after}
 use Rattle.egt_index.proofs.Exists.{index_settled}
 use Rattle.egt_index.proofs.LeastTurn.{keeps_play, none_away}

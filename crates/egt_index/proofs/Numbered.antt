@@ -1,35 +1,13 @@
 -- Which codes of the numbers of a shelf are indexes.
-use Rattle.std.proofs.Common.{◌≡◌, ◌≢◌, ◌↔◌, ℕ, ◌+◌, ◌*◌, ◌/◌, ◌<◌, Bool, true, false, if◌then◌else◌, Some, None, arith, refl, sym, ap, ◌∙◌, subst, inl, inr}
-use Rattle.std.specs.Int.{bit_at}
-use Rattle.std.proofs.lemmas.Bool.{cases_eq, cases_lt}
-use Rattle.std.proofs.lemmas.Nat.Bits.{bit_at-zero}
-use Rattle.egt_board.specs.Attack.{king_of}
-use Rattle.egt_board.specs.Images.{side_number}
-use Rattle.egt_board.specs.Pawn.{pawn_of}
-use Rattle.egt_board.specs.Settled.{IsSettled}
-use Rattle.egt_board.specs.Setup.{IsAdmissible, Setup}
-use Rattle.egt_board.specs.declared.man.Man.{Man}
-use Rattle.egt_board.specs.declared.man.Side.{Side}
-use Rattle.egt_board.specs.declared.man.Side.TheVariants.{White, Black}
-use Rattle.egt_class.specs.Material.{Material, material_of}
-use Rattle.egt_index.specs.Beaten.{AreBehind, SpellsAt}
-use Rattle.egt_index.specs.Code.{Spells}
-use Rattle.egt_index.specs.Facts.{Facts}
-use Rattle.egt_index.specs.Front.{TellsLast, IsFront, IsVoidFront}
-use Rattle.egt_index.specs.Index.{IsIndex, IsVoid}
-use Rattle.egt_index.specs.Numbers.{IsNumbered, code_of, places}
-use Rattle.egt_index.specs.Places.{AreInOrder, AreMade, IsMade, TellsIndex}
-use Rattle.egt_index.specs.Shelf.{row_len}
-use Rattle.egt_index.specs.Scales.{kind_digits, kind_less}
-use Rattle.egt_index.specs.Shelf.{last_of}
-use Rattle.egt_index.specs.ShelfCodes.{AreIndexed, AreIndexes, IsShelfBehind, IsWithin, PassesNothing}
-use Rattle.egt_index.specs.Size.{has_target, men_beside, size_of}
-use Rattle.egt_index.specs.Spelled.{Ends}
-use Rattle.egt_index.specs.TellsMen.{TellsMen}
-use Rattle.egt_index.specs.Stood.{Entry, HasStand, IsInOrder, list_of, with_last}
-use Rattle.egt_index.specs.declared.front.Front.{Front}
-use Rattle.egt_index.specs.declared.places.Places.{Places}
-use Rattle.egt_index.specs.declared.stand.Stand.{Stand}
+use Rattle.egt_index.specs.Prelude.{◌≡◌, ◌≢◌, ◌↔◌, ℕ, ◌+◌, ◌*◌, ◌/◌, ◌<◌, Bool, true, false, if◌then◌else◌, Some, None}
+use Rattle.egt_index.specs.Prelude.{arith, refl, sym, ap, ◌∙◌, subst, inl, inr, bit_at, cases_eq, cases_lt, bit_at-zero}
+use Rattle.egt_index.specs.Prelude.{king_of, side_number, pawn_of, IsSettled, IsAdmissible, Setup, Man, Side, White}
+use Rattle.egt_index.specs.Prelude.{Black, Material, material_of, AreBehind, SpellsAt, Spells, Facts, TellsLast}
+use Rattle.egt_index.specs.Prelude.{IsFront, IsVoidFront, IsIndex, IsVoid, IsNumbered, code_of, places, AreInOrder}
+use Rattle.egt_index.specs.Prelude.{AreMade, IsMade, TellsIndex, row_len, kind_digits, kind_less, last_of, AreIndexed}
+use Rattle.egt_index.specs.Prelude.{AreIndexes, IsShelfBehind, IsWithin, PassesNothing, has_target, men_beside, size_of}
+use Rattle.egt_index.specs.Prelude.{Ends, TellsMen, Entry, HasStand, IsInOrder, list_of, with_last, Front, Places}
+use Rattle.egt_index.specs.Prelude.{Stand}
 use Rattle.egt_index.proofs.Beating.{no_index}
 use Rattle.egt_index.proofs.Decoded.{list_spelled}
 use Rattle.egt_index.proofs.Exists.{index_settled, index_spelled}

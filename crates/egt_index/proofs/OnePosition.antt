@@ -1,24 +1,11 @@
 -- A code spells one position.
-use Rattle.std.proofs.Common.{◌≡◌, ℕ, ◌+◌, ◌-◌, ◌⊎◌, ◌||◌, ◌==◌, not, Bool, true, false, cond, IsTrue, List, [], ◌∷◌, Option, Some, None, arith, refl, sym, ap, ◌∙◌, inl, inr, subst}
-use Rattle.std.proofs.lemmas.Bool.{false≢true, cases_lt, eqb-true}
-use Rattle.egt_board.specs.declared.man.Side.{Side}
-use Rattle.egt_board.specs.declared.man.Side.TheVariants.{White, Black}
-use Rattle.egt_board.specs.declared.man.Kind.TheVariants.{P}
-use Rattle.egt_board.specs.declared.man.Man.{Man}
-use Rattle.egt_board.specs.Man.{other_side}
-use Rattle.egt_board.specs.Attack.{king_of}
-use Rattle.egt_board.specs.Pawn.{pawn_of}
-use Rattle.egt_board.specs.Placement.{Placement, Stands}
-use Rattle.egt_board.specs.Listed.{men_of}
-use Rattle.egt_board.specs.Setup.{Setup}
-use Rattle.egt_board.specs.Target.{IsTarget, FitsTarget}
-use Rattle.egt_class.specs.Below.{all_below, passes_below}
-use Rattle.egt_class.specs.Material.{Material, material_of, materials, beside}
-use Rattle.egt_index.specs.Digits.{AreDigits}
-use Rattle.egt_index.specs.Size.{men_bases, has_target}
-use Rattle.egt_index.specs.Code.{Spells, HasTargetDigit, men_at, target_digit, target_digits}
+use Rattle.egt_index.specs.Prelude.{◌≡◌, ℕ, ◌+◌, ◌-◌, ◌⊎◌, ◌||◌, ◌==◌, not, Bool, true, false, cond, IsTrue, List, []}
+use Rattle.egt_index.specs.Prelude.{◌∷◌, Option, Some, None, arith, refl, sym, ap, ◌∙◌, inl, inr, subst, false≢true}
+use Rattle.egt_index.specs.Prelude.{cases_lt, eqb-true, Side, White, Black, P, Man, other_side, king_of, pawn_of}
+use Rattle.egt_index.specs.Prelude.{Placement, Stands, men_of, Setup, IsTarget, FitsTarget, all_below, passes_below}
+use Rattle.egt_index.specs.Prelude.{Material, material_of, materials, beside, AreDigits, men_bases, has_target, Spells}
+use Rattle.egt_index.specs.Prelude.{HasTargetDigit, men_at, target_digit, target_digits, IsListed}
 use Rattle.egt_index.proofs.Listing.{listed}
-use Rattle.egt_index.specs.Spelled.{IsListed}
 use Rattle.egt_index.proofs.Coding.{SameSpelling, spells_same}
 use Rattle.egt_index.proofs.Tested.{implied}
 use Rattle.egt_index.proofs.Past.{past}

@@ -1,36 +1,14 @@
 -- Positions with a target that the last man makes with the men before him.
-use Rattle.std.proofs.Common.{◌≡◌, ◌≢◌, ◌↔◌, ◌⊎◌, ℕ, ◌+◌, ◌-◌, ◌*◌, ◌<◌, ◌≤◌, Bool, true, false, List, [], ◌∷◌, ◌++◌, Option, Some, None, IfSome, if◌then◌else◌, arith, refl, sym, ap, ◌∙◌, subst, inl, inr}
-use Rattle.std.specs.Int.{bit_at}
-use Rattle.std.specs.Option.{IsSome, is_some, option_to_list}
-use Rattle.std.proofs.lemmas.Bool.{false≢true}
-use Rattle.std.proofs.lemmas.Nat.Bits.{bit_at-zero}
-use Rattle.egt_board.specs.Attack.{king_of}
-use Rattle.egt_board.specs.Images.{side_number}
-use Rattle.egt_board.specs.Listed.{men_of, setup_of}
-use Rattle.egt_board.specs.Man.{other_side}
-use Rattle.egt_board.specs.Pawn.{HasPawnBeside, IsBeside, PawnsFit, ahead, pawn_of}
-use Rattle.egt_board.specs.Placement.{IsFree, Placement, Stands}
-use Rattle.egt_board.specs.Settled.{IsSettled}
-use Rattle.egt_board.specs.Setup.{Setup, IsAdmissible}
-use Rattle.egt_board.specs.Square.{file_of, rank_of}
-use Rattle.egt_board.specs.Target.{FitsTarget, IsTarget}
-use Rattle.egt_board.specs.declared.man.Man.{Man}
-use Rattle.egt_board.specs.declared.man.Side.{Side}
-use Rattle.egt_board.specs.declared.man.Side.TheVariants.{White, Black}
-use Rattle.egt_class.specs.Material.{Material, material_of}
-use Rattle.egt_index.specs.Code.{Spells}
-use Rattle.egt_index.specs.Digits.{number_from}
-use Rattle.egt_index.specs.Front.{IsBefore}
-use Rattle.egt_index.specs.Places.{IsFrontBefore, IsMade, IsNewDigit, taking_rank}
-use Rattle.egt_index.specs.Scales.{kind_digits, kind_less}
-use Rattle.egt_index.specs.Shelf.{last_of}
-use Rattle.egt_index.specs.ShelfCodes.{PassesNothing}
-use Rattle.egt_index.specs.Size.{has_target, men_beside}
-use Rattle.egt_index.specs.Spelled.{HasPawns, IsListed, IsTold, SpellsMen}
-use Rattle.egt_index.specs.TellsMen.{TellsMen}
-use Rattle.egt_index.specs.Stood.{AllApart, Entry, HasStand, IsFilled, IsOff, before_last, list_of, with_entry, with_last}
-use Rattle.egt_index.specs.declared.front.Front.{Front}
-use Rattle.egt_index.specs.declared.stand.Stand.{Stand}
+use Rattle.egt_index.specs.Prelude.{◌≡◌, ◌≢◌, ◌↔◌, ◌⊎◌, ℕ, ◌+◌, ◌-◌, ◌*◌, ◌<◌, ◌≤◌, Bool, true, false, List, [], ◌∷◌}
+use Rattle.egt_index.specs.Prelude.{◌++◌, Option, Some, None, IfSome, if◌then◌else◌, arith, refl, sym, ap, ◌∙◌, subst}
+use Rattle.egt_index.specs.Prelude.{inl, inr, bit_at, IsSome, is_some, option_to_list, false≢true, bit_at-zero, king_of}
+use Rattle.egt_index.specs.Prelude.{side_number, men_of, setup_of, other_side, HasPawnBeside, IsBeside, PawnsFit, ahead}
+use Rattle.egt_index.specs.Prelude.{pawn_of, IsFree, Placement, Stands, IsSettled, Setup, IsAdmissible, file_of}
+use Rattle.egt_index.specs.Prelude.{rank_of, FitsTarget, IsTarget, Man, Side, White, Black, Material, material_of}
+use Rattle.egt_index.specs.Prelude.{Spells, number_from, IsBefore, IsFrontBefore, IsMade, IsNewDigit, taking_rank}
+use Rattle.egt_index.specs.Prelude.{kind_digits, kind_less, last_of, PassesNothing, has_target, men_beside, HasPawns}
+use Rattle.egt_index.specs.Prelude.{IsListed, IsTold, SpellsMen, TellsMen, AllApart, Entry, HasStand, IsFilled, IsOff}
+use Rattle.egt_index.specs.Prelude.{before_last, list_of, with_entry, with_last, Front, Stand}
 use Rattle.egt_index.proofs.Decoded.{has_pawns_list, spelled_setup}
 use Rattle.egt_index.proofs.FrameMen.{men_are}
 use Rattle.egt_index.proofs.Fronts.{all_apart, apart_all, board_with, free_before}

@@ -1,7 +1,5 @@
 -- Numbers past those of the classes.
-use Rattle.std.proofs.Common.{◌≡◌, ℕ, ◌≤◌, []}
-use Rattle.std.proofs.lemmas.List.{get_or_past}
-use Rattle.egt_class.specs.Material.{material_of, materials, beside}
+use Rattle.egt_index.specs.Prelude.{◌≡◌, ℕ, ◌≤◌, [], get_or_past, material_of, materials, beside}
 
 -- they have no men beside the kings
 pub past : (c : ℕ) → 36 ≤ c → material_of c ≡ beside [] []

@@ -1,21 +1,12 @@
 -- The least code of a position: each man in turn on the least square that is left to it.
-use Rattle.std.proofs.Common.{◌≡◌, ℕ, ◌+◌, ◌*◌, ◌<◌, ◌⊎◌, Bool, true, false, ltb, List, [], ◌∷◌, map, arith, refl, sym, ap, ◌∙◌, inl, inr, subst}
+use Rattle.egt_index.specs.Prelude.{◌≡◌, ℕ, ◌+◌, ◌*◌, ◌<◌, ◌⊎◌, Bool, true, false, ltb, List, [], ◌∷◌, map, arith, refl}
+use Rattle.egt_index.specs.Prelude.{sym, ap, ◌∙◌, inl, inr, subst, cases_eq, cases_lt, ltb-true, Side, White, Black}
+use Rattle.egt_index.specs.Prelude.{Kind, Q, R, B, N, P, K, Man, Placement, Stands, get-remove_same, get-remove_other}
+use Rattle.egt_index.specs.Prelude.{men_of, all_below, passes_below, number_from, AreDigits, base_by, base_of}
+use Rattle.egt_index.specs.Prelude.{king_square, square_by_digit, square_of, placed, AreCounted, Picks}
 use Rattle.std.specs.FinMap as placement
-use Rattle.std.proofs.lemmas.Bool.{cases_eq, cases_lt, ltb-true}
-use Rattle.egt_board.specs.declared.man.Side.{Side}
-use Rattle.egt_board.specs.declared.man.Side.TheVariants.{White, Black}
-use Rattle.egt_board.specs.declared.man.Kind.{Kind}
-use Rattle.egt_board.specs.declared.man.Kind.TheVariants.{Q, R, B, N, P, K}
-use Rattle.egt_board.specs.declared.man.Man.{Man}
-use Rattle.egt_board.specs.Placement.{Placement, Stands, get-remove_same, get-remove_other}
-use Rattle.egt_board.specs.Listed.{men_of}
-use Rattle.egt_class.specs.Below.{all_below, passes_below}
-use Rattle.egt_index.specs.Digits.{number_from, AreDigits}
-use Rattle.egt_index.specs.Size.{base_by, base_of}
-use Rattle.egt_index.specs.Code.{king_square, square_by_digit, square_of, placed}
 use Rattle.egt_index.proofs.MixedDigits.{number_from-lt}
 use Rattle.egt_index.proofs.Listing.{AreApart, first_back, remove_first, get_here}
-use Rattle.egt_index.specs.Picked.{AreCounted, Picks}
 use Rattle.egt_index.proofs.Counted.{counted_rest, none_left}
 
 rises : ℕ → Bool

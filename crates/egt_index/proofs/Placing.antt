@@ -1,34 +1,16 @@
 -- Which codes of a shelf are positions' indexes, by where the last man may stand.
-use Rattle.std.proofs.Common.{◌≡◌, ◌≢◌, ◌↔◌, ℕ, ◌+◌, ◌-◌, ◌*◌, ◌/◌, ◌%◌, ◌^◌, ◌<◌, ◌≤◌, Bool, false, if◌then◌else◌, List, [], ◌∷◌, Option, Some, None, bit_and, min, arith, refl, sym, ap, ◌∙◌, subst, inl, inr}
+use Rattle.egt_index.specs.Prelude.{◌≡◌, ◌≢◌, ◌↔◌, ℕ, ◌+◌, ◌-◌, ◌*◌, ◌/◌, ◌%◌, ◌^◌, ◌<◌, ◌≤◌, Bool, false}
+use Rattle.egt_index.specs.Prelude.{if◌then◌else◌, List, [], ◌∷◌, Option, Some, None, bit_and, min, arith, refl, sym}
+use Rattle.egt_index.specs.Prelude.{ap, ◌∙◌, subst, inl, inr, bit_at, option_to_list, cases_eq, cases_lt, bit_at-lt}
+use Rattle.egt_index.specs.Prelude.{bit_at_above, bit_at_and, bit_at_cat_high, bit_at_mask_below, bit_at_mask_inside}
+use Rattle.egt_index.specs.Prelude.{bit_at_ones, bit_at_ones_above, ones_shl, IsAttacked, IsInCheck, king_of}
+use Rattle.egt_index.specs.Prelude.{side_number, men_of, setup_of, other_side, Placement, Stands, IsFree}
+use Rattle.egt_index.specs.Prelude.{get-insert_other, IsKeptFrom, IsAdmissible, Kind, Q, R, B, N, P, K, Man, Side}
+use Rattle.egt_index.specs.Prelude.{White, Black, Material, material_of, square_by_digit, number_from, TellsLast}
+use Rattle.egt_index.specs.Prelude.{IsFront, IsMade, IsPlaced, waiting, kind_digits, kind_less, last_of, base_by}
+use Rattle.egt_index.specs.Prelude.{has_target, man_of, men_beside, Splits, SpellsMen, Tells, AllApart, AreEqual, Entry}
+use Rattle.egt_index.specs.Prelude.{IsInOrder, IsOff, list_of, with_last, Front, Stand}
 use Rattle.std.specs.FinMap as map
-use Rattle.std.specs.Int.{bit_at}
-use Rattle.std.specs.Option.{option_to_list}
-use Rattle.std.proofs.lemmas.Bool.{cases_eq, cases_lt}
-use Rattle.std.proofs.lemmas.Nat.Bits.{bit_at-lt, bit_at_above, bit_at_and, bit_at_cat_high, bit_at_mask_below, bit_at_mask_inside, bit_at_ones, bit_at_ones_above, ones_shl}
-use Rattle.egt_board.specs.Attack.{IsAttacked, IsInCheck, king_of}
-use Rattle.egt_board.specs.Images.{side_number}
-use Rattle.egt_board.specs.Listed.{men_of, setup_of}
-use Rattle.egt_board.specs.Man.{other_side}
-use Rattle.egt_board.specs.Placement.{Placement, Stands, IsFree, get-insert_other}
-use Rattle.egt_board.specs.Safety.{IsKeptFrom}
-use Rattle.egt_board.specs.Setup.{IsAdmissible}
-use Rattle.egt_board.specs.declared.man.Kind.{Kind}
-use Rattle.egt_board.specs.declared.man.Kind.TheVariants.{Q, R, B, N, P, K}
-use Rattle.egt_board.specs.declared.man.Man.{Man}
-use Rattle.egt_board.specs.declared.man.Side.{Side}
-use Rattle.egt_board.specs.declared.man.Side.TheVariants.{White, Black}
-use Rattle.egt_class.specs.Material.{Material, material_of}
-use Rattle.egt_index.specs.Code.{square_by_digit}
-use Rattle.egt_index.specs.Digits.{number_from}
-use Rattle.egt_index.specs.Front.{TellsLast, IsFront}
-use Rattle.egt_index.specs.Places.{IsMade, IsPlaced, waiting}
-use Rattle.egt_index.specs.Scales.{kind_digits, kind_less}
-use Rattle.egt_index.specs.Shelf.{last_of}
-use Rattle.egt_index.specs.Size.{base_by, has_target, man_of, men_beside}
-use Rattle.egt_index.specs.Spelled.{Splits, SpellsMen, Tells}
-use Rattle.egt_index.specs.Stood.{AllApart, AreEqual, Entry, IsInOrder, IsOff, list_of, with_last}
-use Rattle.egt_index.specs.declared.front.Front.{Front}
-use Rattle.egt_index.specs.declared.stand.Stand.{Stand}
 use Rattle.egt_index.proofs.FrameMen.{men_are}
 use Rattle.egt_index.proofs.Fronts.{all_apart, board_with, few_with, free_before, list_before}
 use Rattle.egt_index.proofs.After.{all_apart as stood_apart}

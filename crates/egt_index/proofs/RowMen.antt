@@ -1,23 +1,9 @@
 -- The codes of a row spell the same men.
-use Rattle.std.proofs.Common.{◌≡◌, ℕ, ◌/◌, ◌%◌, ◌<◌, Bool, true, false, cond, [], ◌∷◌, arith, refl, sym, ap, ◌∙◌, inl, inr, subst}
-use Rattle.std.specs.Option.{is_some}
-use Rattle.std.proofs.lemmas.Bool.{cases_eq, false≢true}
-use Rattle.egt_board.specs.declared.man.Side.{Side}
-use Rattle.egt_board.specs.declared.man.Side.TheVariants.{White, Black}
-use Rattle.egt_board.specs.Images.{side_number}
-use Rattle.egt_board.specs.Listed.{men_of, FitsBoard}
-use Rattle.egt_board.specs.Settled.{IsSettled}
-use Rattle.egt_board.specs.Setup.{Setup}
-use Rattle.egt_class.specs.Material.{Material, material_of}
-use Rattle.egt_index.specs.Beaten.{SpellsAt}
-use Rattle.egt_index.specs.Code.{Spells}
-use Rattle.egt_index.specs.Digits.{number_from}
-use Rattle.egt_index.specs.Scales.{ends_of}
-use Rattle.egt_index.specs.Shelf.{row_len}
-use Rattle.egt_index.specs.Size.{has_target}
-use Rattle.egt_index.specs.Spelled.{Ends, SpellsMen, SpellsNoMen}
-use Rattle.egt_index.specs.Stood.{AllApart, HasStand, list_of}
-use Rattle.egt_index.specs.declared.stand.Stand.{Stand}
+use Rattle.egt_index.specs.Prelude.{◌≡◌, ℕ, ◌/◌, ◌%◌, ◌<◌, Bool, true, false, cond, [], ◌∷◌, arith, refl, sym, ap, ◌∙◌}
+use Rattle.egt_index.specs.Prelude.{inl, inr, subst, is_some, cases_eq, false≢true, Side, White, Black, side_number}
+use Rattle.egt_index.specs.Prelude.{men_of, FitsBoard, IsSettled, Setup, Material, material_of, SpellsAt, Spells}
+use Rattle.egt_index.specs.Prelude.{number_from, ends_of, row_len, has_target, Ends, SpellsMen, SpellsNoMen, AllApart}
+use Rattle.egt_index.specs.Prelude.{HasStand, list_of, Stand}
 use Rattle.egt_index.proofs.Classes.{spells_class}
 use Rattle.egt_index.proofs.Decoded.{list_spelled, no_men}
 use Rattle.egt_index.proofs.Setups.{fits_apart, stood_spelled}

@@ -1,27 +1,13 @@
 -- The men that a number spells, as a board and as a setup.
-use Rattle.std.proofs.Common.{◌≡◌, ◌≢◌, ℕ, ◌<◌, ◌&&◌, not, Bool, true, false, eqb, List, [], ◌∷◌, ◌++◌, length, map, Option, Some, None, arith, refl, sym, ap, ◌∙◌, inl, inr, subst}
-use Rattle.std.specs.Option.{option_to_list, is_some}
-use Rattle.std.proofs.lemmas.Bool.{and_parts, eq-eqb}
-use Rattle.egt_board.specs.declared.man.Side.{Side}
-use Rattle.egt_board.specs.declared.man.Side.TheVariants.{White, Black}
-use Rattle.egt_board.specs.declared.man.Kind.{Kind}
-use Rattle.egt_board.specs.declared.man.Kind.TheVariants.{Q, R, B, N, P, K}
-use Rattle.egt_board.specs.declared.man.Man.{Man}
-use Rattle.egt_board.specs.Attack.{king_of}
-use Rattle.egt_board.specs.Images.{kind_number, side_number}
-use Rattle.egt_board.specs.Listed.{men_of, setup_of, FitsBoard}
-use Rattle.egt_board.specs.Pawn.{MayStand, PawnsFit}
-use Rattle.egt_board.specs.Placement.{Placement, Stands, IsFree}
-use Rattle.egt_board.specs.Settled.{IsSettled}
-use Rattle.egt_board.specs.Setup.{Setup, IsAdmissible, IsKingOn}
-use Rattle.egt_class.specs.Below.{all_below, passes_below}
-use Rattle.egt_class.specs.Material.{material_of, materials}
-use Rattle.egt_index.specs.Code.{Spells, square_by_digit, placed}
-use Rattle.egt_index.specs.Digits.{AreDigits}
-use Rattle.egt_index.specs.Size.{base_by, base_of, men_beside, men_in_order, has_pawns}
-use Rattle.egt_index.specs.Spelled.{SpellsMen, Ends, IsListed, IsTold}
-use Rattle.egt_index.specs.Stood.{men_among, rest_of, list_of, IsOff, AllApart, AllStand, Stood, HasStand}
-use Rattle.egt_index.specs.declared.stand.Stand.{Stand}
+use Rattle.egt_index.specs.Prelude.{◌≡◌, ◌≢◌, ℕ, ◌<◌, ◌&&◌, not, Bool, true, false, eqb, List, [], ◌∷◌, ◌++◌, length}
+use Rattle.egt_index.specs.Prelude.{map, Option, Some, None, arith, refl, sym, ap, ◌∙◌, inl, inr, subst, option_to_list}
+use Rattle.egt_index.specs.Prelude.{is_some, and_parts, eq-eqb, Side, White, Black, Kind, Q, R, B, N, P, K, Man}
+use Rattle.egt_index.specs.Prelude.{king_of, kind_number, side_number, men_of, setup_of, FitsBoard, MayStand, PawnsFit}
+use Rattle.egt_index.specs.Prelude.{Placement, Stands, IsFree, IsSettled, Setup, IsAdmissible, IsKingOn, all_below}
+use Rattle.egt_index.specs.Prelude.{passes_below, material_of, materials, Spells, square_by_digit, placed, AreDigits}
+use Rattle.egt_index.specs.Prelude.{base_by, base_of, men_beside, men_in_order, has_pawns, SpellsMen, Ends, IsListed}
+use Rattle.egt_index.specs.Prelude.{IsTold, men_among, rest_of, list_of, IsOff, AllApart, AllStand, Stood, HasStand}
+use Rattle.egt_index.specs.Prelude.{Stand}
 use Rattle.egt_index.proofs.Classes.{spells_class}
 use Rattle.egt_index.proofs.Coded.{few_men, placed_few}
 use Rattle.egt_index.proofs.Decoded.{decoded_spells}

@@ -1,28 +1,12 @@
 -- The men of a shelf's codes.
-use Rattle.std.proofs.Common.{◌≡◌, ◌≢◌, ◌↔◌, ℕ, ◌+◌, ◌-◌, ◌*◌, ◌%◌, ◌<◌, ◌≤◌, Bool, true, false, cond, inl, inr, List, [], ◌∷◌, ◌++◌, Option, Some, None, IfSome, arith, refl, sym, ap, ◌∙◌, subst}
-use Rattle.std.specs.Option.{option_to_list}
-use Rattle.std.proofs.lemmas.Bool.{cases_lt}
-use Rattle.egt_board.specs.Attack.{king_of}
-use Rattle.egt_board.specs.Pawn.{MayStand}
-use Rattle.egt_board.specs.declared.man.Kind.{Kind}
-use Rattle.egt_board.specs.declared.man.Kind.TheVariants.{Q, R, B, N, P, K}
-use Rattle.egt_board.specs.declared.man.Man.{Man}
-use Rattle.egt_board.specs.declared.man.Side.{Side}
-use Rattle.egt_board.specs.declared.man.Side.TheVariants.{White, Black}
-use Rattle.egt_class.specs.Material.{material_of}
-use Rattle.egt_index.specs.Code.{king_square}
-use Rattle.egt_index.specs.Digits.{number_from}
-use Rattle.egt_index.specs.Front.{IsBefore}
-use Rattle.egt_index.specs.Scales.{kind_digits, kind_less}
-use Rattle.egt_index.specs.Numbers.{code_of, half_of, places}
-use Rattle.egt_index.specs.Shelf.{last_of}
-use Rattle.egt_index.specs.ShelfCodes.{AreMenOf, IsShelf, IsShelfBehind, IsShelfOf, number_in, stand_with}
-use Rattle.egt_index.specs.Size.{has_pawns, has_target, king_base, men_beside, men_in_order}
-use Rattle.egt_index.specs.Spelled.{SpellsMen, Tells}
-use Rattle.egt_index.specs.TellsMen.{TellsMen}
-use Rattle.egt_index.specs.Stood.{Entry, list_of, rest_of, with_last}
-use Rattle.egt_index.specs.declared.shelf_codes.ShelfMen.{ShelfMen}
-use Rattle.egt_index.specs.declared.stand.Stand.{Stand}
+use Rattle.egt_index.specs.Prelude.{◌≡◌, ◌≢◌, ◌↔◌, ℕ, ◌+◌, ◌-◌, ◌*◌, ◌%◌, ◌<◌, ◌≤◌, Bool, true, false, cond, inl, inr}
+use Rattle.egt_index.specs.Prelude.{List, [], ◌∷◌, ◌++◌, Option, Some, None, IfSome, arith, refl, sym, ap, ◌∙◌, subst}
+use Rattle.egt_index.specs.Prelude.{option_to_list, cases_lt, king_of, MayStand, Kind, Q, R, B, N, P, K, Man, Side}
+use Rattle.egt_index.specs.Prelude.{White, Black, material_of, king_square, number_from, IsBefore, kind_digits}
+use Rattle.egt_index.specs.Prelude.{kind_less, code_of, half_of, places, last_of, AreMenOf, IsShelf, IsShelfBehind}
+use Rattle.egt_index.specs.Prelude.{IsShelfOf, number_in, stand_with, has_pawns, has_target, king_base, men_beside}
+use Rattle.egt_index.specs.Prelude.{men_in_order, SpellsMen, Tells, TellsMen, Entry, list_of, rest_of, with_last}
+use Rattle.egt_index.specs.Prelude.{ShelfMen, Stand}
 use Rattle.egt_index.proofs.Halves.{code_high, code_low, places_of_last}
 use Rattle.egt_index.proofs.Numbered.{ends}
 use Rattle.egt_index.proofs.Opposed.{may_stand}

@@ -1,23 +1,11 @@
 -- Which shelves a class with two men beside the kings has: one behind each number of their digits before the last one.
-use Rattle.std.proofs.Common.{◌≡◌, ◌≢◌, ℕ, ◌+◌, ◌*◌, ◌/◌, ◌%◌, ◌<◌, ◌≤◌, Bool, true, false, cond, List, [], ◌∷◌, ◌++◌, map, Some, None, arith, refl, sym, ap, ◌∙◌}
-use Rattle.std.proofs.lemmas.Nat.{div-add-mod'}
-use Rattle.std.proofs.Math.Nat.{div-lt_iff_lt-mul, lt_of_mul-lt-mul_left, mod-lt, mul-le-mul_right}
-use Rattle.egt_board.specs.Attack.{king_of}
-use Rattle.egt_board.specs.declared.man.Man.{Man}
-use Rattle.egt_board.specs.declared.man.Side.TheVariants.{White, Black}
-use Rattle.egt_class.specs.Material.{material_of}
-use Rattle.egt_index.specs.Code.{king_square}
-use Rattle.egt_index.specs.Digits.{product}
-use Rattle.egt_index.specs.Front.{IsBefore, IsNoneBefore, TellsLast}
-use Rattle.egt_index.specs.Numbers.{half_of, places}
-use Rattle.egt_index.specs.Scales.{kind_digits, kind_less}
-use Rattle.egt_index.specs.Shelf.{last_of}
-use Rattle.egt_index.specs.ShelfCodes.{AreMenOf, IsShelfBehind, IsWithin, stand_with}
-use Rattle.egt_index.specs.Size.{base_of, has_pawns, has_target, king_base, men_beside, size_of}
-use Rattle.egt_index.specs.Spelled.{SpellsMen}
-use Rattle.egt_index.specs.Stood.{Entry, list_of}
-use Rattle.egt_index.specs.declared.shelf_codes.ShelfMen.{ShelfMen}
-use Rattle.egt_index.specs.declared.stand.Stand.{Stand}
+use Rattle.egt_index.specs.Prelude.{◌≡◌, ◌≢◌, ℕ, ◌+◌, ◌*◌, ◌/◌, ◌%◌, ◌<◌, ◌≤◌, Bool, true, false, cond, List, [], ◌∷◌}
+use Rattle.egt_index.specs.Prelude.{◌++◌, map, Some, None, arith, refl, sym, ap, ◌∙◌, div-add-mod', div-lt_iff_lt-mul}
+use Rattle.egt_index.specs.Prelude.{lt_of_mul-lt-mul_left, mod-lt, mul-le-mul_right, king_of, Man, White, Black}
+use Rattle.egt_index.specs.Prelude.{material_of, king_square, product, IsBefore, IsNoneBefore, TellsLast, half_of}
+use Rattle.egt_index.specs.Prelude.{places, kind_digits, kind_less, last_of, AreMenOf, IsShelfBehind, IsWithin}
+use Rattle.egt_index.specs.Prelude.{stand_with, base_of, has_pawns, has_target, king_base, men_beside, size_of}
+use Rattle.egt_index.specs.Prelude.{SpellsMen, Entry, list_of, ShelfMen, Stand}
 use Rattle.egt_index.proofs.Halves.{digits_some, half_plain, half_twice, of_targets, places_of_last, places_some}
 use Rattle.egt_index.proofs.Opposed.{may_stand}
 use Rattle.egt_index.proofs.Placing.{digit_on, tells, within}

@@ -1,11 +1,6 @@
 -- The table of sizes is right at each class.
-use Rattle.std.proofs.Common.{◌≡◌, ℕ, ◌<◌, ◌==◌, Bool, true, refl}
-use Rattle.std.specs.Prelude.{slice_index}
-use Rattle.std.proofs.lemmas.Bool.{eqb-true}
-use Rattle.egt_class.specs.Below.{all_below, passes_below}
-use Rattle.egt_class.specs.Material.{materials, material_of}
-use Rattle.egt_index.specs.Size.{size_of}
-use Rattle.egt_index.specs.declared.sizes.TheConstants.{SIZES}
+use Rattle.egt_index.specs.Prelude.{◌≡◌, ℕ, ◌<◌, ◌==◌, Bool, true, refl, slice_index, eqb-true, all_below, passes_below}
+use Rattle.egt_index.specs.Prelude.{materials, material_of, size_of, SIZES}
 
 abbrev is_right : ℕ → Bool
 is_right c = slice_index SIZES c == size_of c

@@ -1,17 +1,9 @@
 -- Digits taken off a number.
-use Rattle.std.proofs.Common.{◌≡◌, ℕ, ◌+◌, ◌*◌, ◌/◌, ◌%◌, ◌<◌, ◌≤◌, Bool, List, [], ◌∷◌, ◌++◌, map, arith, refl, sym, ap, ◌∙◌, subst}
-use Rattle.std.proofs.lemmas.List.{map-append}
-use Rattle.egt_board.specs.declared.man.Side.{Side}
-use Rattle.egt_board.specs.declared.man.Side.TheVariants.{White, Black}
-use Rattle.egt_board.specs.declared.man.Kind.{Kind}
-use Rattle.egt_board.specs.declared.man.Kind.TheVariants.{P}
-use Rattle.egt_board.specs.declared.man.Man.{Man}
-use Rattle.egt_index.specs.Digits.{number_from, AreDigits}
-use Rattle.egt_index.specs.Size.{king_base, base_by, base_of, has_pawns, men_beside}
-use Rattle.egt_index.specs.Code.{king_square, square_by_digit, square_of, placed}
-use Rattle.egt_index.specs.Spelled.{Splits, Tells, SpellsMen, SpellsNoMen}
-use Rattle.egt_board.specs.Attack.{king_of}
-use Rattle.egt_class.specs.Material.{Material}
+use Rattle.egt_index.specs.Prelude.{◌≡◌, ℕ, ◌+◌, ◌*◌, ◌/◌, ◌%◌, ◌<◌, ◌≤◌, Bool, List, [], ◌∷◌, ◌++◌, map, arith, refl}
+use Rattle.egt_index.specs.Prelude.{sym, ap, ◌∙◌, subst, map-append, Side, White, Black, Kind, P, Man, number_from}
+use Rattle.egt_index.specs.Prelude.{AreDigits, king_base, base_by, base_of, has_pawns, men_beside, king_square}
+use Rattle.egt_index.specs.Prelude.{square_by_digit, square_of, placed, Splits, Tells, SpellsMen, SpellsNoMen, king_of}
+use Rattle.egt_index.specs.Prelude.{Material}
 use Rattle.egt_index.proofs.MixedDigits.{number_from-same}
 use Rattle.egt_index.proofs.Coding.{AreDigits-append}
 use Rattle.egt_index.proofs.Coded.{number_append}

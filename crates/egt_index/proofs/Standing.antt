@@ -1,28 +1,12 @@
 -- The men of a class found on their squares.
-use Rattle.std.proofs.Common.{◌≡◌, ◌≢◌, ◌⊎◌, ℕ, ◌<◌, Bool, true, false, cond, List, [], ◌∷◌, ◌++◌, map, Option, Some, None, arith, refl, sym, ap, ◌∙◌, inl, inr, subst}
-use Rattle.std.specs.Option.{option_to_list, option_map}
-use Rattle.std.specs.Prelude.{◌↔◌, IsTrue}
+use Rattle.egt_index.specs.Prelude.{◌≡◌, ◌≢◌, ◌⊎◌, ℕ, ◌<◌, Bool, true, false, cond, List, [], ◌∷◌, ◌++◌, map, Option}
+use Rattle.egt_index.specs.Prelude.{Some, None, arith, refl, sym, ap, ◌∙◌, inl, inr, subst, option_to_list, option_map}
+use Rattle.egt_index.specs.Prelude.{◌↔◌, IsTrue, cases_eq, false≢true, Side, White, Black, Kind, K, Man, king_of}
+use Rattle.egt_index.specs.Prelude.{HasBeside, StandsBeside, is_man, man_number, side_number, other_side, Placement}
+use Rattle.egt_index.specs.Prelude.{Stands, one_man, get-remove_same, get-remove_other, Setup, IsAdmissible, IsKingOn}
+use Rattle.egt_index.specs.Prelude.{turned_man, material_of, men_in, IsOf, tally, AreCounted, men_in_order, men_beside}
+use Rattle.egt_index.specs.Prelude.{Entry, Stood, Holds, IsOn, IsAmong, IsFirst, IsInNameOrder}
 use Rattle.std.specs.FinMap as placement
-use Rattle.std.proofs.lemmas.Bool.{cases_eq, false≢true}
-use Rattle.egt_board.specs.declared.man.Side.{Side}
-use Rattle.egt_board.specs.declared.man.Side.TheVariants.{White, Black}
-use Rattle.egt_board.specs.declared.man.Kind.{Kind}
-use Rattle.egt_board.specs.declared.man.Kind.TheVariants.{K}
-use Rattle.egt_board.specs.declared.man.Man.{Man}
-use Rattle.egt_board.specs.Attack.{king_of}
-use Rattle.egt_board.specs.AllMen.{HasBeside}
-use Rattle.egt_board.specs.NonKings.{StandsBeside}
-use Rattle.egt_board.specs.Counting.{is_man}
-use Rattle.egt_board.specs.Images.{man_number, side_number}
-use Rattle.egt_board.specs.Man.{other_side}
-use Rattle.egt_board.specs.Placement.{Placement, Stands, one_man, get-remove_same, get-remove_other}
-use Rattle.egt_board.specs.Setup.{Setup, IsAdmissible, IsKingOn}
-use Rattle.egt_board.specs.Turned.{turned_man}
-use Rattle.egt_class.specs.Material.{material_of, men_in}
-use Rattle.egt_class.specs.Membership.{IsOf}
-use Rattle.egt_index.specs.Picked.{tally, AreCounted}
-use Rattle.egt_index.specs.Size.{men_in_order, men_beside}
-use Rattle.egt_index.specs.Stood.{Entry, Stood, Holds, IsOn, IsAmong, IsFirst, IsInNameOrder}
 use Rattle.egt_index.proofs.Counted.{man_told, count_cons, counted_rest, first_is_there}
 use Rattle.egt_index.proofs.Tallied.{tests_alike, in_class}
 

@@ -1,23 +1,11 @@
 -- The digits of equal men in order make the least code of a position, and in the other order one that is not.
-use Rattle.std.proofs.Common.{◌≡◌, ℕ, ◌<◌, Bool, false, cond, List, [], ◌∷◌, ◌++◌, map, Option, Some, None, arith, refl, sym, ap, ◌∙◌, inr, subst}
-use Rattle.std.specs.Option.{option_map, option_to_list}
-use Rattle.egt_board.specs.declared.man.Side.TheVariants.{White, Black}
-use Rattle.egt_board.specs.declared.man.Man.{Man}
-use Rattle.egt_board.specs.Attack.{king_of}
-use Rattle.egt_board.specs.Images.{side_number}
-use Rattle.egt_board.specs.Listed.{men_of}
-use Rattle.egt_board.specs.Setup.{Setup, IsAdmissible}
-use Rattle.egt_class.specs.Material.{Material, material_of}
-use Rattle.egt_class.specs.Membership.{IsOf}
-use Rattle.egt_index.specs.Beaten.{SpellsAt, Beats, Keeps, AreBehind}
-use Rattle.egt_index.specs.Code.{Spells, square_of, placed, men_at, target_digits}
-use Rattle.egt_index.specs.Digits.{number_from, number_of, AreDigits}
-use Rattle.egt_index.specs.Facts.{Facts}
-use Rattle.egt_index.specs.Picked.{IsLeastCode, Picks, AreCounted}
-use Rattle.egt_index.specs.Size.{base_of, bases, men_bases, men_in_order, has_pawns, has_target}
-use Rattle.egt_index.specs.Stood.{Entry, list_of, rest_of, men_among, AllStand, IsInOrder}
-use Rattle.egt_index.specs.Turns.{IsTurn}
-use Rattle.egt_index.specs.declared.stand.Stand.{Stand}
+use Rattle.egt_index.specs.Prelude.{◌≡◌, ℕ, ◌<◌, Bool, false, cond, List, [], ◌∷◌, ◌++◌, map, Option, Some, None, arith}
+use Rattle.egt_index.specs.Prelude.{refl, sym, ap, ◌∙◌, inr, subst, option_map, option_to_list, White, Black, Man}
+use Rattle.egt_index.specs.Prelude.{king_of, side_number, men_of, Setup, IsAdmissible, Material, material_of, IsOf}
+use Rattle.egt_index.specs.Prelude.{SpellsAt, Beats, Keeps, AreBehind, Spells, square_of, placed, men_at, target_digits}
+use Rattle.egt_index.specs.Prelude.{number_from, number_of, AreDigits, Facts, IsLeastCode, Picks, AreCounted, base_of}
+use Rattle.egt_index.specs.Prelude.{bases, men_bases, men_in_order, has_pawns, has_target, Entry, list_of, rest_of}
+use Rattle.egt_index.specs.Prelude.{men_among, AllStand, IsInOrder, IsTurn, Stand}
 use Rattle.egt_index.proofs.After.{AreSorted, all_there, listed_there, ordered, picks_sorted, sorted_rest}
 use Rattle.egt_index.proofs.Coded.{few_men, number_append, picks_code, placed_few}
 use Rattle.egt_index.proofs.Coding.{last_digits}

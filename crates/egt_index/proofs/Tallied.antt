@@ -1,18 +1,8 @@
 -- The men of a class in order are those that its sides have.
-use Rattle.std.proofs.Common.{◌≡◌, ℕ, ◌+◌, ◌*◌, ◌<◌, false, cond, eqb, List, [], ◌∷◌, ◌++◌, map, count_by, arith, refl, sym, ap, ◌∙◌, inl, inr}
-use Rattle.std.proofs.lemmas.Bool.{eq-eqb}
-use Rattle.std.proofs.lemmas.Bool.Decides.{eqb_tells}
-use Rattle.std.proofs.lemmas.List.Sums.{sum_by-cons, sum_by-append}
-use Rattle.egt_board.specs.declared.man.Side.{Side}
-use Rattle.egt_board.specs.declared.man.Side.TheVariants.{White, Black}
-use Rattle.egt_board.specs.declared.man.Kind.{Kind}
-use Rattle.egt_board.specs.declared.man.Kind.TheVariants.{Q, R, B, N, P, K}
-use Rattle.egt_board.specs.declared.man.Man.{Man}
-use Rattle.egt_board.specs.Images.{kind_number, side_number}
-use Rattle.egt_class.specs.Material.{Material, material_of, is_kind, kinds_of, men_in}
-use Rattle.egt_index.specs.Size.{men_in_order, man_of}
-use Rattle.egt_board.specs.Counting.{is_man}
-use Rattle.egt_index.specs.Picked.{tally}
+use Rattle.egt_index.specs.Prelude.{◌≡◌, ℕ, ◌+◌, ◌*◌, ◌<◌, false, cond, eqb, List, [], ◌∷◌, ◌++◌, map, count_by, arith}
+use Rattle.egt_index.specs.Prelude.{refl, sym, ap, ◌∙◌, inl, inr, eq-eqb, eqb_tells, sum_by-cons, sum_by-append, Side}
+use Rattle.egt_index.specs.Prelude.{White, Black, Kind, Q, R, B, N, P, K, Man, kind_number, side_number, Material}
+use Rattle.egt_index.specs.Prelude.{material_of, is_kind, kinds_of, men_in, men_in_order, man_of, is_man, tally}
 
 -- equal tests of what is equal alike
 pub tests_alike : (a b x y : ℕ) → (a ≡ b → x ≡ y) → (x ≡ y → a ≡ b) → eqb a b ≡ eqb x y

@@ -1,13 +1,6 @@
 -- A code is the index of the position that it spells, or void.
-use Rattle.std.proofs.Common.{ℕ, ◌<◌, ◌⊎◌, false, subst, inl, inr}
-use Rattle.std.proofs.lemmas.Bool.{cases_eq}
-use Rattle.egt_board.specs.Decided.{Decided}
-use Rattle.egt_board.specs.Setup.{Setup}
-use Rattle.egt_class.specs.Material.{material_of}
-use Rattle.egt_index.specs.Code.{Spells}
-use Rattle.egt_index.specs.DecidedSpelled.{decided_spelled}
-use Rattle.egt_index.specs.Facts.{Facts}
-use Rattle.egt_index.specs.Index.{IsIndex, IsVoid}
+use Rattle.egt_index.specs.Prelude.{ℕ, ◌<◌, ◌⊎◌, false, subst, inl, inr, cases_eq, Decided, Setup, material_of, Spells}
+use Rattle.egt_index.specs.Prelude.{decided_spelled, Facts, IsIndex, IsVoid}
 use Rattle.egt_index.proofs.Classes.{spells_class}
 use Rattle.egt_index.proofs.Exists.{index_exists, index_spelled, one_index}
 

@@ -1,6 +1,5 @@
 -- What tests tell.
-use Rattle.std.proofs.Common.{◌≡◌, ◌⊎◌, ◌||◌, not, Bool, true, false, refl, inl, inr}
-use Rattle.std.proofs.lemmas.Bool.{false≢true}
+use Rattle.egt_index.specs.Prelude.{◌≡◌, ◌⊎◌, ◌||◌, not, Bool, true, false, refl, inl, inr, false≢true}
 
 pub implied : (a b : Bool) → a ≡ true → (not a || b) ≡ true → b ≡ true
 implied true b h e = e

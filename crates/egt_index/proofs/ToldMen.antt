@@ -1,22 +1,9 @@
 -- What a code that tells some men spells has these men, and a position with these men is what it spells.
-use Rattle.std.proofs.Common.{◌≡◌, ℕ, ◌+◌, ◌-◌, Bool, true, false, List, Option, Some, None, IfSome, arith, refl, sym, ap, ◌∙◌, subst}
-use Rattle.std.specs.Option.{is_some}
-use Rattle.std.proofs.lemmas.Bool.{false≢true}
-use Rattle.egt_board.specs.Listed.{FitsBoard, men_of, setup_of}
-use Rattle.egt_board.specs.Man.{other_side}
-use Rattle.egt_board.specs.Pawn.{HasPawnBeside, ahead, pawn_of}
-use Rattle.egt_board.specs.Placement.{Placement, Stands}
-use Rattle.egt_board.specs.Settled.{IsSettled}
-use Rattle.egt_board.specs.Setup.{Setup}
-use Rattle.egt_board.specs.Target.{FitsTarget, IsTarget}
-use Rattle.egt_board.specs.declared.man.Man.{Man}
-use Rattle.egt_board.specs.declared.man.Side.{Side}
-use Rattle.egt_board.specs.declared.man.Side.TheVariants.{White, Black}
-use Rattle.egt_index.specs.Code.{Spells}
-use Rattle.egt_index.specs.Spelled.{HasPawns, IsTold}
-use Rattle.egt_index.specs.TellsMen.{TellsMen}
-use Rattle.egt_index.specs.Stood.{HasStand, list_of}
-use Rattle.egt_index.specs.declared.stand.Stand.{Stand}
+use Rattle.egt_index.specs.Prelude.{◌≡◌, ℕ, ◌+◌, ◌-◌, Bool, true, false, List, Option, Some, None, IfSome, arith, refl}
+use Rattle.egt_index.specs.Prelude.{sym, ap, ◌∙◌, subst, is_some, false≢true, FitsBoard, men_of, setup_of, other_side}
+use Rattle.egt_index.specs.Prelude.{HasPawnBeside, ahead, pawn_of, Placement, Stands, IsSettled, Setup, FitsTarget}
+use Rattle.egt_index.specs.Prelude.{IsTarget, Man, Side, White, Black, Spells, HasPawns, IsTold, TellsMen, HasStand}
+use Rattle.egt_index.specs.Prelude.{list_of, Stand}
 use Rattle.egt_index.proofs.After.{all_apart}
 use Rattle.egt_index.proofs.AtIndex.{target_exists}
 use Rattle.egt_index.proofs.Decoded.{has_pawns_list, spelled_setup}

@@ -1,20 +1,8 @@
 -- Kings on neighbouring squares attack one another, so no code spells a position with them there.
-use Rattle.std.proofs.Common.{◌≡◌, ◌≢◌, ◌⊎◌, ℕ, ◌+◌, ◌<◌, ◌≤◌, ◌%◌, ◌/◌, Bool, true, false, arith, refl, sym, subst, inl, inr}
-use Rattle.std.proofs.lemmas.Bool.{cases_eq}
-use Rattle.egt_board.specs.declared.man.Side.{Side}
-use Rattle.egt_board.specs.declared.man.Side.TheVariants.{White, Black}
-use Rattle.egt_board.specs.declared.step.Step.{Step}
-use Rattle.egt_board.specs.Attack.{king_of, IsInCheck}
-use Rattle.egt_board.specs.AttackLines.{Reaches, Rides}
-use Rattle.egt_board.specs.Placement.{Placement, IsFree, Stands}
-use Rattle.egt_board.specs.Setup.{HasKings, IsKingOn, Setup}
-use Rattle.egt_board.specs.Step.{Away}
-use Rattle.egt_class.specs.Material.{material_of}
-use Rattle.egt_index.specs.Code.{Spells}
-use Rattle.egt_index.specs.Shelf.{row_len}
-use Rattle.egt_index.specs.Spelled.{SpellsMen}
-use Rattle.egt_index.specs.Stood.{AllStand, AreNear, HasStand, list_of}
-use Rattle.egt_index.specs.declared.stand.Stand.{Stand}
+use Rattle.egt_index.specs.Prelude.{◌≡◌, ◌≢◌, ◌⊎◌, ℕ, ◌+◌, ◌<◌, ◌≤◌, ◌%◌, ◌/◌, Bool, true, false, arith, refl, sym}
+use Rattle.egt_index.specs.Prelude.{subst, inl, inr, cases_eq, Side, White, Black, Step, king_of, IsInCheck, Reaches}
+use Rattle.egt_index.specs.Prelude.{Rides, Placement, IsFree, Stands, HasKings, IsKingOn, Setup, Away, material_of}
+use Rattle.egt_index.specs.Prelude.{Spells, row_len, SpellsMen, AllStand, AreNear, HasStand, list_of, Stand}
 use Rattle.egt_index.proofs.RowMen.{apart_in_row, men_on_row}
 use Rattle.egt_index.proofs.Setups.{kings_spelled}
 

@@ -1,9 +1,7 @@
 -- The table of turned squares is right at each square and turn.
-use Rattle.std.proofs.Common.{◌≡◌, ℕ, zero, suc, ◌+◌, ◌*◌, ◌/◌, ◌%◌, ◌<◌, ◌&&◌, ◌==◌, Bool, true, ltb, eqb, List, [], ◌∷◌, length, get_or, arith, refl, ap, ◌∙◌, subst}
-use Rattle.std.specs.Prelude.{slice_index}
-use Rattle.std.proofs.lemmas.Bool.{and_parts, eqb-true, ltb-true}
-use Rattle.egt_board.specs.Turned.{turned_square}
-use Rattle.egt_index.specs.declared.turning.TheConstants.{TURNED}
+use Rattle.egt_index.specs.Prelude.{◌≡◌, ℕ, zero, suc, ◌+◌, ◌*◌, ◌/◌, ◌%◌, ◌<◌, ◌&&◌, ◌==◌, Bool, true, ltb, eqb, List}
+use Rattle.egt_index.specs.Prelude.{[], ◌∷◌, length, get_or, arith, refl, ap, ◌∙◌, subst, slice_index, and_parts}
+use Rattle.egt_index.specs.Prelude.{eqb-true, ltb-true, turned_square, TURNED}
 
 is_turned : ℕ → ℕ → Bool
 is_turned i n = ltb n 64 && eqb n (turned_square ((i / 64) % 8) ((i / 64) / 8 == 1) (i % 64))

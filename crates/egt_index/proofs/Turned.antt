@@ -1,32 +1,12 @@
 -- The code of each image of a settled position, in the colours of the class.
-use Rattle.std.proofs.Common.{◌≡◌, ℕ, ◌<◌, ◌≤◌, ◌⊎◌, ◌&&◌, ◌||◌, not, Bool, true, false, cond, ltb, eqb, Option, Some, None, IfSome, arith, refl, sym, ap, ◌∙◌, inl, inr, subst}
-use Rattle.std.specs.Option.{is_some}
-use Rattle.std.proofs.lemmas.Bool.{cases_lt, false≢true, lt-ltb, and_from, and_parts, eqb-true}
-use Rattle.egt_board.specs.declared.man.Side.{Side}
-use Rattle.egt_board.specs.declared.man.Side.TheVariants.{White, Black}
-use Rattle.egt_board.specs.declared.man.Kind.{Kind}
-use Rattle.egt_board.specs.declared.man.Kind.TheVariants.{P}
-use Rattle.egt_board.specs.declared.man.Man.{Man}
-use Rattle.egt_board.specs.declared.mirror.Mirror.TheVariants.{Colours}
-use Rattle.egt_board.specs.Man.{other_side}
-use Rattle.egt_board.specs.Mirror.{man_by}
-use Rattle.egt_board.specs.Pawn.{pawn_of, ahead, HasPawnBeside, HasNoPawn}
-use Rattle.egt_board.specs.Placement.{Placement, Stands}
-use Rattle.egt_board.specs.Setup.{Setup, IsAdmissible}
-use Rattle.egt_board.specs.Settled.{IsSettled, SettlesTo}
-use Rattle.egt_board.specs.Target.{FitsTarget, IsTarget}
-use Rattle.egt_board.specs.Symmetry.{KeepsPlay}
-use Rattle.egt_board.specs.Images.{SameMen, ExchangedMen, count_of}
-use Rattle.egt_board.specs.Turned.{IsTurnedBy, turned_side}
-use Rattle.egt_class.specs.Below.{all_below, passes_below}
-use Rattle.egt_class.specs.Material.{material_of, materials, kinds_of, count_in, men_in}
-use Rattle.egt_class.specs.Membership.{IsOf}
-use Rattle.egt_index.specs.Size.{men_in_order, has_pawns, has_target}
-use Rattle.egt_index.specs.Code.{HasTargetDigit}
-use Rattle.egt_index.specs.Picked.{AreCounted}
-use Rattle.egt_index.specs.Facts.{Facts}
-use Rattle.egt_index.specs.Stood.{HasStand, Stood, list_of}
-use Rattle.egt_index.specs.declared.stand.Stand.{Stand}
+use Rattle.egt_index.specs.Prelude.{◌≡◌, ℕ, ◌<◌, ◌≤◌, ◌⊎◌, ◌&&◌, ◌||◌, not, Bool, true, false, cond, ltb, eqb, Option}
+use Rattle.egt_index.specs.Prelude.{Some, None, IfSome, arith, refl, sym, ap, ◌∙◌, inl, inr, subst, is_some, cases_lt}
+use Rattle.egt_index.specs.Prelude.{false≢true, lt-ltb, and_from, and_parts, eqb-true, Side, White, Black, Kind, P, Man}
+use Rattle.egt_index.specs.Prelude.{Colours, other_side, man_by, pawn_of, ahead, HasPawnBeside, HasNoPawn, Placement}
+use Rattle.egt_index.specs.Prelude.{Stands, Setup, IsAdmissible, IsSettled, SettlesTo, FitsTarget, IsTarget, KeepsPlay}
+use Rattle.egt_index.specs.Prelude.{SameMen, ExchangedMen, count_of, IsTurnedBy, turned_side, all_below, passes_below}
+use Rattle.egt_index.specs.Prelude.{material_of, materials, kinds_of, count_in, men_in, IsOf, men_in_order, has_pawns}
+use Rattle.egt_index.specs.Prelude.{has_target, HasTargetDigit, AreCounted, Facts, HasStand, Stood, list_of, Stand}
 use Rattle.egt_index.proofs.Counted.{counted_some}
 use Rattle.egt_index.proofs.Tallied.{in_class}
 use Rattle.egt_index.proofs.Tested.{implied}

@@ -1,38 +1,17 @@
 -- The codes that tell the men of a position where turns take them.
-use Rattle.std.proofs.Common.{◌≡◌, ℕ, ◌/◌, ◌%◌, ◌<◌, ◌⊎◌, ◌&&◌, not, Bool, true, false, cond, ltb, eqb, IsTrue, List, [], ◌∷◌, ◌++◌, map, Option, Some, None, IfSome, arith, refl, sym, ap, ◌∙◌, inl, inr, subst}
-use Rattle.std.specs.Prelude.{slice_index}
-use Rattle.std.specs.Option.{is_some, option_map, option_to_list}
+use Rattle.egt_index.specs.Prelude.{◌≡◌, ℕ, ◌/◌, ◌%◌, ◌<◌, ◌⊎◌, ◌&&◌, not, Bool, true, false, cond, ltb, eqb, IsTrue}
+use Rattle.egt_index.specs.Prelude.{List, [], ◌∷◌, ◌++◌, map, Option, Some, None, IfSome, arith, refl, sym, ap, ◌∙◌}
+use Rattle.egt_index.specs.Prelude.{inl, inr, subst, slice_index, is_some, option_map, option_to_list, and_parts}
+use Rattle.egt_index.specs.Prelude.{eqb-true, ltb-true, false≢true, king_of, AreImages, side_number, men_of, MayStand}
+use Rattle.egt_index.specs.Prelude.{Placement, Stands, IsSettled, Setup, KeepsPlay, IsSetBy, IsTurnedBy, turned_man}
+use Rattle.egt_index.specs.Prelude.{turned_side, turned_square, Man, Side, White, Black, all_below, passes_below}
+use Rattle.egt_index.specs.Prelude.{has_equal_sides, material_of, IsOf, Spells, men_at, placed, target_digit, AreDigits}
+use Rattle.egt_index.specs.Prelude.{number_from, number_of, Facts, symmetries, IsIndex, AreCounted, base_of, has_pawns}
+use Rattle.egt_index.specs.Prelude.{has_target, men_bases, men_in_order, Ends, IsListed, SpellsMen, TellsMen, AllApart}
+use Rattle.egt_index.specs.Prelude.{AllStand, Entry, HasStand, IsFilled, IsOff, Stood, entry_after, list_of, men_among}
+use Rattle.egt_index.specs.Prelude.{on_square_of, IsInEitherOrder, IsSeenBy, IsSomeTurnedCodeWith, IsTurnedCodeWith}
+use Rattle.egt_index.specs.Prelude.{seen_across, swapped, turned_by, turned_with, IsTurn, AreOnBoard, Stand}
 use Rattle.std.specs.FinMap as placement
-use Rattle.std.proofs.lemmas.Bool.{and_parts, eqb-true, ltb-true, false≢true}
-use Rattle.egt_board.specs.Attack.{king_of}
-use Rattle.egt_board.specs.Images.{AreImages, side_number}
-use Rattle.egt_board.specs.Listed.{men_of}
-use Rattle.egt_board.specs.Pawn.{MayStand}
-use Rattle.egt_board.specs.Placement.{Placement, Stands}
-use Rattle.egt_board.specs.Settled.{IsSettled}
-use Rattle.egt_board.specs.Setup.{Setup}
-use Rattle.egt_board.specs.Symmetry.{KeepsPlay}
-use Rattle.egt_board.specs.Turned.{IsSetBy, IsTurnedBy, turned_man, turned_side, turned_square}
-use Rattle.egt_board.specs.declared.man.Man.{Man}
-use Rattle.egt_board.specs.declared.man.Side.{Side}
-use Rattle.egt_board.specs.declared.man.Side.TheVariants.{White, Black}
-use Rattle.egt_class.specs.Below.{all_below, passes_below}
-use Rattle.egt_class.specs.Material.{has_equal_sides, material_of}
-use Rattle.egt_class.specs.Membership.{IsOf}
-use Rattle.egt_index.specs.Code.{Spells, men_at, placed, target_digit}
-use Rattle.egt_index.specs.Digits.{AreDigits, number_from, number_of}
-use Rattle.egt_index.specs.Facts.{Facts}
-use Rattle.egt_index.specs.Home.{symmetries}
-use Rattle.egt_index.specs.Index.{IsIndex}
-use Rattle.egt_index.specs.Picked.{AreCounted}
-use Rattle.egt_index.specs.Size.{base_of, has_pawns, has_target, men_bases, men_in_order}
-use Rattle.egt_index.specs.Spelled.{Ends, IsListed, SpellsMen}
-use Rattle.egt_index.specs.TellsMen.{TellsMen}
-use Rattle.egt_index.specs.Stood.{AllApart, AllStand, Entry, HasStand, IsFilled, IsOff, Stood, entry_after, list_of, men_among, on_square_of}
-use Rattle.egt_index.specs.TurnedMen.{IsInEitherOrder, IsSeenBy, IsSomeTurnedCodeWith, IsTurnedCodeWith, seen_across, swapped, turned_by, turned_with}
-use Rattle.egt_index.specs.Turns.{IsTurn}
-use Rattle.egt_index.specs.Went.{AreOnBoard}
-use Rattle.egt_index.specs.declared.stand.Stand.{Stand}
 use Rattle.egt_index.proofs.After.{all_there, both_to_list, inverse, ordered, ordered_men, stood_by, turn_one, turned_men}
 use Rattle.egt_index.proofs.Beating.{has_exchanged}
 use Rattle.egt_index.proofs.Best.{turn_number}

@@ -1,15 +1,7 @@
 //! The code of men on their squares.
-ghost use Rattle.std.specs.Prelude.{◌≡◌, ◌≢◌, ◌+◌, ◌*◌, ◌^◌, ◌<◌, Bool, [], ◌∷◌, if◌then◌else◌};
-ghost use Rattle.std.specs.Option.{option_to_list};
-ghost use Rattle.egt_board.specs.Attack.{king_of};
-ghost use Rattle.egt_board.specs.Images.{side_number};
-ghost use Rattle.egt_board.specs.Pawn.{MayStand};
-ghost use Rattle.egt_board.specs.declared.man.Side.TheVariants.{White, Black};
-ghost use Rattle.egt_class.specs.Material.{material_of};
-ghost use Rattle.egt_index.specs.Digits.{number_from};
-ghost use Rattle.egt_index.specs.Size.{has_target};
-ghost use Rattle.egt_index.specs.Spelled.{Splits, Tells};
-ghost use Rattle.egt_index.specs.Stood.{HasDigit, men_among, rest_of};
+ghost use Rattle.egt_index.specs.Prelude.{◌≡◌, ◌≢◌, ◌+◌, ◌*◌, ◌^◌, ◌<◌, Bool, [], ◌∷◌, if◌then◌else◌, option_to_list};
+ghost use Rattle.egt_index.specs.Prelude.{king_of, side_number, MayStand, White, Black, material_of, number_from};
+ghost use Rattle.egt_index.specs.Prelude.{has_target, Splits, Tells, HasDigit, men_among, rest_of};
 
 use crate::digits::{base, digit};
 use crate::men::has_target;

@@ -1,9 +1,5 @@
 //! The position of a code.
-ghost use Rattle.std.specs.Prelude.{IfSome, IfNone};
-ghost use Rattle.egt_board.specs.Settled.{IsSettled};
-ghost use Rattle.egt_board.specs.Setup.{Setup};
-ghost use Rattle.egt_index.specs.Code.{Spells};
-ghost use Rattle.egt_index.specs.Index.{IsIndex, IsVoid};
+ghost use Rattle.egt_index.specs.Prelude.{IfSome, IfNone, IsSettled, Setup, Spells, IsIndex, IsVoid};
 
 use crate::facts::facts;
 use crate::indexing::index;

@@ -1,11 +1,6 @@
 //! The digits of men on their squares.
-ghost use Rattle.std.specs.Prelude.{◌≡◌, ◌≢◌, ℕ, ◌-◌, ◌<◌, ◌≤◌, Bool, false, IfSome, IfNone};
-ghost use Rattle.egt_board.specs.Attack.{king_of};
-ghost use Rattle.egt_board.specs.Pawn.{MayStand};
-ghost use Rattle.egt_board.specs.declared.man.Side.TheVariants.{White};
-ghost use Rattle.egt_index.specs.Code.{king_square, square_of};
-ghost use Rattle.egt_index.specs.Scales.{kind_less};
-ghost use Rattle.egt_index.specs.Size.{king_base, base_of};
+ghost use Rattle.egt_index.specs.Prelude.{◌≡◌, ◌≢◌, ℕ, ◌-◌, ◌<◌, ◌≤◌, Bool, false, IfSome, IfNone, king_of, MayStand};
+ghost use Rattle.egt_index.specs.Prelude.{White, king_square, square_of, kind_less, king_base, base_of};
 
 use egt_board::{Kind, Man, Square};
 

@@ -1,8 +1,6 @@
 //! What the men before the last one tell of all codes that differ by no more than his square, the side to move and the target: such
 //! codes follow one another.
-ghost use Rattle.std.specs.Prelude.{IfSome, IfNone};
-ghost use Rattle.egt_index.specs.Front.{IsFront, IsFrontOf};
-ghost use Rattle.egt_index.specs.ShelfCodes.{SpellsNothing};
+ghost use Rattle.egt_index.specs.Prelude.{IfSome, IfNone, IsFront, IsFrontOf, SpellsNothing};
 
 use crate::facts::facts;
 use crate::least_code::{Leastness, leastness_in_order};

@@ -1,8 +1,6 @@
 //! The turns that bring a king to a square of the white king's digit.
-ghost use Rattle.std.specs.Prelude.{◌≡◌, ℕ, ◌<◌, ◌+◌, false, slice_index, None, IfSome, if◌then◌else◌};
-ghost use Rattle.egt_index.specs.Code.{king_square};
-ghost use Rattle.egt_index.specs.Home.{AreHome};
-ghost use Rattle.egt_index.specs.Size.{king_base};
+ghost use Rattle.egt_index.specs.Prelude.{◌≡◌, ℕ, ◌<◌, ◌+◌, false, slice_index, None, IfSome, if◌then◌else◌};
+ghost use Rattle.egt_index.specs.Prelude.{king_square, AreHome, king_base};
 
 use egt_board::Square;
 

@@ -1,17 +1,7 @@
 //! The index of a position.
-ghost use Rattle.std.specs.Prelude.{◌≡◌, ◌<◌, ◌%◌, ◌/◌, ◌==◌, Bool, true, None};
-ghost use Rattle.std.specs.Option.{is_some};
-ghost use Rattle.egt_board.specs.AllMen.{HasAllMen};
-ghost use Rattle.egt_board.specs.Setup.{Setup, IsAdmissible};
-ghost use Rattle.egt_board.specs.Settled.{SettlesTo};
-ghost use Rattle.egt_board.specs.Symmetry.{KeepsPlay};
-ghost use Rattle.egt_board.specs.Turned.{turned_side};
-ghost use Rattle.egt_class.specs.Material.{has_equal_sides};
-ghost use Rattle.egt_class.specs.Membership.{IsOf};
-ghost use Rattle.egt_index.specs.Home.{LeastWith};
-ghost use Rattle.egt_index.specs.Index.{IsIndex};
-ghost use Rattle.egt_index.specs.Stood.{HasStand};
-ghost use Rattle.egt_index.specs.Turns.{Best, CodeAfter, lesser};
+ghost use Rattle.egt_index.specs.Prelude.{◌≡◌, ◌<◌, ◌%◌, ◌/◌, ◌==◌, Bool, true, None, is_some, HasAllMen, Setup};
+ghost use Rattle.egt_index.specs.Prelude.{IsAdmissible, SettlesTo, KeepsPlay, turned_side, has_equal_sides, IsOf};
+ghost use Rattle.egt_index.specs.Prelude.{LeastWith, IsIndex, HasStand, Best, CodeAfter, lesser};
 
 use crate::codes::{number_behind, with_side};
 use crate::digits::king_digit;

@@ -1,25 +1,10 @@
 //! What holds of codes and indexes. These functions do nothing: a caller calls one to know what it ensures.
-ghost use Rattle.std.specs.Prelude.{◌≡◌, ◌↔◌, ◌⊎◌, ℕ, ◌*◌, ◌<◌, ◌≤◌, Bool, false, true};
-ghost use Rattle.egt_board.specs.declared.man.Man.{Man};
-ghost use Rattle.egt_board.specs.declared.man.Side.{Side};
-ghost use Rattle.egt_board.specs.Pawn.{HasNoPawn, MayStand};
-ghost use Rattle.egt_board.specs.Settled.{IsSettled};
-ghost use Rattle.egt_board.specs.Setup.{Setup, IsAdmissible};
-ghost use Rattle.egt_class.specs.Material.{material_of};
-ghost use Rattle.egt_class.specs.Membership.{IsOf};
-ghost use Rattle.egt_index.specs.Code.{Spells};
-ghost use Rattle.egt_board.specs.Images.{AreImages};
-ghost use Rattle.egt_index.specs.Index.{IsIndex, IsVoid, SettleAlike};
+ghost use Rattle.egt_index.specs.Prelude.{◌≡◌, ◌↔◌, ◌⊎◌, ℕ, ◌*◌, ◌<◌, ◌≤◌, Bool, false, true, Man, Side, HasNoPawn};
+ghost use Rattle.egt_index.specs.Prelude.{MayStand, IsSettled, Setup, IsAdmissible, material_of, IsOf, Spells};
+ghost use Rattle.egt_index.specs.Prelude.{AreImages, IsIndex, IsVoid, SettleAlike, IsShelf, ShelfMen, has_pawns};
+ghost use Rattle.egt_index.specs.Prelude.{has_target, size_of, TellsMen, HasStand, IsFilled, list_of};
+ghost use Rattle.egt_index.specs.Prelude.{IsSomeTurnedCodeWith, IsListed, AreOnBoard, Stand};
 ghost use Rattle.egt_index.specs.Numbers.{code_of, half_of, number_of, places};
-ghost use Rattle.egt_index.specs.ShelfCodes.{IsShelf};
-ghost use Rattle.egt_index.specs.declared.shelf_codes.ShelfMen.{ShelfMen};
-ghost use Rattle.egt_index.specs.Size.{has_pawns, has_target, size_of};
-ghost use Rattle.egt_index.specs.TellsMen.{TellsMen};
-ghost use Rattle.egt_index.specs.Stood.{HasStand, IsFilled, list_of};
-ghost use Rattle.egt_index.specs.TurnedMen.{IsSomeTurnedCodeWith};
-ghost use Rattle.egt_index.specs.Spelled.{IsListed};
-ghost use Rattle.egt_index.specs.Went.{AreOnBoard};
-ghost use Rattle.egt_index.specs.declared.stand.Stand.{Stand};
 
 use crate::facts::facts;
 

@@ -1,10 +1,7 @@
 //! Whether codes are the least of all images of the positions that they spell, as the kings alone tell: their digits are the highest.
-ghost use Rattle.std.specs.Prelude.{◌≡◌, ◌⊎◌, ◌+◌, ◌*◌, ◌<◌, true, false, if◌then◌else◌};
-ghost use Rattle.egt_class.specs.Material.{has_equal_sides};
-ghost use Rattle.egt_index.specs.Beaten.{AllSpelled, HasKingsOn, IsBeaten, KeepsWith, TurnBeats, TurnKeeps};
-ghost use Rattle.egt_index.specs.Index.{IsIndex};
-ghost use Rattle.egt_index.specs.Stood.{IsInOrder};
-ghost use Rattle.egt_index.specs.declared.stand.Stand.{Stand};
+ghost use Rattle.egt_index.specs.Prelude.{◌≡◌, ◌⊎◌, ◌+◌, ◌*◌, ◌<◌, true, false, if◌then◌else◌, has_equal_sides};
+ghost use Rattle.egt_index.specs.Prelude.{AllSpelled, HasKingsOn, IsBeaten, KeepsWith, TurnBeats, TurnKeeps, IsIndex};
+ghost use Rattle.egt_index.specs.Prelude.{IsInOrder, Stand};
 ghost use Rattle.egt_index.specs.declared.least_code.Leastness.TheVariants.{Beaten, Least, Tied};
 
 use crate::facts::facts;

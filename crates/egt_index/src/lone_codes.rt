@@ -1,10 +1,5 @@
 //! The codes of a class with one man beside the kings, by the squares of the kings.
-ghost use Rattle.std.specs.Prelude.{IfSome, IfNone};
-ghost use Rattle.egt_board.specs.declared.man.Man.{Man};
-ghost use Rattle.egt_class.specs.Material.{material_of};
-ghost use Rattle.egt_index.specs.Home.{IsAtHome};
-ghost use Rattle.egt_index.specs.LoneCodes.{IsLoneMan, IsLoneRow};
-ghost use Rattle.egt_index.specs.Size.{has_pawns};
+ghost use Rattle.egt_index.specs.Prelude.{IfSome, IfNone, Man, material_of, IsAtHome, IsLoneMan, IsLoneRow, has_pawns};
 
 use crate::digits::king_digit;
 use crate::men::{has_pawns, non_kings};

@@ -1,11 +1,7 @@
 //! The men of each class, in the order of its name.
-ghost use Rattle.std.specs.Prelude.{◌≡◌, ◌≢◌, ◌++◌, Option, None, true, IfSome};
-ghost use Rattle.std.specs.Option.{option_to_list};
-ghost use Rattle.egt_board.specs.Attack.{king_of};
-ghost use Rattle.egt_board.specs.declared.man.Side.TheVariants.{White};
-ghost use Rattle.egt_class.specs.Material.{material_of, has_equal_sides};
-ghost use Rattle.egt_index.specs.First.{tells_colours};
-ghost use Rattle.egt_index.specs.Size.{men_beside, has_pawns, has_target};
+ghost use Rattle.egt_index.specs.Prelude.{◌≡◌, ◌≢◌, ◌++◌, Option, None, true, IfSome, option_to_list, king_of, White};
+ghost use Rattle.egt_index.specs.Prelude.{material_of, has_equal_sides, tells_colours, men_beside, has_pawns};
+ghost use Rattle.egt_index.specs.Prelude.{has_target};
 
 use egt_board::{Kind, Man, Side};
 use egt_class::Class;

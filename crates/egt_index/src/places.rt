@@ -1,18 +1,8 @@
 //! Which numbers of a shelf stand for positions' indexes, told of all of them at once by sets of squares.
-ghost use Rattle.std.specs.Prelude.{◌≡◌, ℕ, ◌+◌, ◌<◌, ◌↔◌, true, false, Some, IfSome};
-ghost use Rattle.std.specs.Int.{bit_at};
-ghost use Rattle.egt_board.specs.Placement.{Stands};
-ghost use Rattle.egt_board.specs.Safety.{IsKeptFrom};
-ghost use Rattle.egt_board.specs.SquareSet.{Has};
-ghost use Rattle.egt_board.specs.declared.man.Man.{Man};
-ghost use Rattle.egt_class.specs.Material.{material_of};
-ghost use Rattle.egt_index.specs.Front.{IsFront, IsFrontOf};
-ghost use Rattle.egt_index.specs.Numbers.{code_of};
-ghost use Rattle.egt_index.specs.Places.{AreInOrder, AreMade, IsFrontBefore, IsPlaced, TellsIndex, waiting};
-ghost use Rattle.egt_index.specs.Scales.{kind_digits, kind_less};
-ghost use Rattle.egt_index.specs.ShelfCodes.{AreIndexes, IsShelfBehind, IsWithin};
-ghost use Rattle.egt_index.specs.Size.{has_target, size_of};
-ghost use Rattle.egt_index.specs.Stood.{IsInOrder};
+ghost use Rattle.egt_index.specs.Prelude.{◌≡◌, ℕ, ◌+◌, ◌<◌, ◌↔◌, true, false, Some, IfSome, bit_at, Stands, IsKeptFrom};
+ghost use Rattle.egt_index.specs.Prelude.{Has, Man, material_of, IsFront, IsFrontOf, code_of, AreInOrder, AreMade};
+ghost use Rattle.egt_index.specs.Prelude.{IsFrontBefore, IsPlaced, TellsIndex, waiting, kind_digits, kind_less};
+ghost use Rattle.egt_index.specs.Prelude.{AreIndexes, IsShelfBehind, IsWithin, has_target, size_of, IsInOrder};
 
 use crate::decoding::position;
 use crate::digits::digit;

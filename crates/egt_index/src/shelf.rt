@@ -1,8 +1,5 @@
 //! How many digits men have.
-ghost use Rattle.std.specs.Prelude.{◌≡◌, ◌*◌, ◌%◌, ◌<◌, ◌≤◌};
-ghost use Rattle.egt_index.specs.Numbers.{places};
-ghost use Rattle.egt_index.specs.Scales.{kind_digits};
-ghost use Rattle.egt_index.specs.Size.{size_of};
+ghost use Rattle.egt_index.specs.Prelude.{◌≡◌, ◌*◌, ◌%◌, ◌<◌, ◌≤◌, places, kind_digits, size_of};
 
 use crate::men::non_kings;
 use egt_board::{Kind, Man};

@@ -1,10 +1,7 @@
 //! The men of a shelf of numbers: but for the last one they stand on the same squares in all of its positions. A code tells its men by their digits,
 //! whether it is the least for its position or not, so what is told here needs no comparison of codes.
-ghost use Rattle.std.specs.Prelude.{◌≡◌, ◌+◌, ◌-◌, ◌*◌, ◌<◌, Some, IfSome, IfNone};
-ghost use Rattle.egt_board.specs.Pawn.{MayStand};
-ghost use Rattle.egt_board.specs.declared.man.Man.{Man};
-ghost use Rattle.egt_index.specs.Scales.{kind_digits, kind_less};
-ghost use Rattle.egt_index.specs.ShelfCodes.{AreMenOf, HasShelf, HasTwoBeside, IsShelf, IsShelfOf, IsWithin};
+ghost use Rattle.egt_index.specs.Prelude.{◌≡◌, ◌+◌, ◌-◌, ◌*◌, ◌<◌, Some, IfSome, IfNone, MayStand, Man, kind_digits};
+ghost use Rattle.egt_index.specs.Prelude.{kind_less, AreMenOf, HasShelf, HasTwoBeside, IsShelf, IsShelfOf, IsWithin};
 
 use crate::digits::king_digit;
 use crate::men::{has_pawns, non_kings};

@@ -1,6 +1,5 @@
 //! How many codes each class has.
-ghost use Rattle.std.specs.Prelude.{◌≡◌};
-ghost use Rattle.egt_index.specs.Size.{size_of};
+ghost use Rattle.egt_index.specs.Prelude.{◌≡◌, size_of};
 
 use egt_class::Class;
 

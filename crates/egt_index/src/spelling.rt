@@ -1,22 +1,11 @@
 //! What the digits of a code spell, and the position of a code that is known to be an index.
-ghost use Rattle.std.specs.Prelude.{◌≡◌, ◌≢◌, ◌*◌, ◌/◌, ◌∷◌, [], ◌<◌, ◌≤◌, ◌↔◌, Option, Bool, true, false, IsTrue, IsSome, IfSome, IfNone, None};
+ghost use Rattle.egt_index.specs.Prelude.{◌≡◌, ◌≢◌, ◌*◌, ◌/◌, ◌∷◌, [], ◌<◌, ◌≤◌, ◌↔◌, Option, Bool, true, false};
+ghost use Rattle.egt_index.specs.Prelude.{IsTrue, IsSome, IfSome, IfNone, None, king_of, men_of, PawnsFit, IsFree};
+ghost use Rattle.egt_index.specs.Prelude.{IsSettled, Setup, IsAdmissible, IsKingOn, White, Black, material_of, Spells};
+ghost use Rattle.egt_index.specs.Prelude.{king_square, TellsLast, IsBefore, IsNoneBefore, IsIndex, IsVoid, king_base};
+ghost use Rattle.egt_index.specs.Prelude.{has_pawns, has_target, option_to_list, Splits, Tells, SpellsMen, SpellsNoMen};
+ghost use Rattle.egt_index.specs.Prelude.{Ends, HasPawns, IsTold, TellsMen, AllApart, IsFilled, list_of, with_entry};
 ghost use Rattle.std.specs.FinMap as map;
-ghost use Rattle.egt_board.specs.Attack.{king_of};
-ghost use Rattle.egt_board.specs.Listed.{men_of};
-ghost use Rattle.egt_board.specs.Pawn.{PawnsFit};
-ghost use Rattle.egt_board.specs.Placement.{IsFree};
-ghost use Rattle.egt_board.specs.Settled.{IsSettled};
-ghost use Rattle.egt_board.specs.Setup.{Setup, IsAdmissible, IsKingOn};
-ghost use Rattle.egt_board.specs.declared.man.Side.TheVariants.{White, Black};
-ghost use Rattle.egt_class.specs.Material.{material_of};
-ghost use Rattle.egt_index.specs.Code.{Spells, king_square};
-ghost use Rattle.egt_index.specs.Front.{TellsLast, IsBefore, IsNoneBefore};
-ghost use Rattle.egt_index.specs.Index.{IsIndex, IsVoid};
-ghost use Rattle.egt_index.specs.Size.{king_base, has_pawns, has_target};
-ghost use Rattle.std.specs.Option.{option_to_list};
-ghost use Rattle.egt_index.specs.Spelled.{Splits, Tells, SpellsMen, SpellsNoMen, Ends, HasPawns, IsTold};
-ghost use Rattle.egt_index.specs.TellsMen.{TellsMen};
-ghost use Rattle.egt_index.specs.Stood.{AllApart, IsFilled, list_of, with_entry};
 
 use crate::digits::TRIANGLE_SQUARES;
 use crate::facts::facts;

@@ -1,13 +1,10 @@
 //! The men of a class on their squares.
-ghost use Rattle.std.specs.Prelude.{◌≡◌, ◌<◌, ◌%◌, ◌/◌, ◌==◌, ◌++◌, ◌↔◌, IsTrue, IfSome, Bool, true, false, None, if◌then◌else◌};
-ghost use Rattle.std.specs.Option.{option_to_list, option_map};
-ghost use Rattle.egt_board.specs.AllMen.{HasAllMen};
-ghost use Rattle.egt_board.specs.Setup.{Setup, IsAdmissible};
-ghost use Rattle.egt_board.specs.Turned.{turned_man};
-ghost use Rattle.egt_class.specs.Material.{material_of};
-ghost use Rattle.egt_class.specs.Membership.{IsOf};
-ghost use Rattle.egt_index.specs.Size.{men_beside};
-ghost use Rattle.egt_index.specs.Stood.{Stood, Holds, IsOn, IsAmong, IsFirst, list_of, before_last, with_last, IsOff, AllApart, AreNear, entry_after, on_square_of, IsInOrder, IsOrdered, AreExchanged, IsTurned, IsStandAfter};
+ghost use Rattle.egt_index.specs.Prelude.{◌≡◌, ◌<◌, ◌%◌, ◌/◌, ◌==◌, ◌++◌, ◌↔◌, IsTrue, IfSome, Bool, true, false, None};
+ghost use Rattle.egt_index.specs.Prelude.{if◌then◌else◌, option_to_list, option_map, HasAllMen, Setup, IsAdmissible};
+ghost use Rattle.egt_index.specs.Prelude.{turned_man, material_of, IsOf, men_beside, Stood, Holds, IsOn, IsAmong};
+ghost use Rattle.egt_index.specs.Prelude.{IsFirst, list_of, before_last, with_last, IsOff, AllApart, AreNear};
+ghost use Rattle.egt_index.specs.Prelude.{entry_after, on_square_of, IsInOrder, IsOrdered, AreExchanged, IsTurned};
+ghost use Rattle.egt_index.specs.Prelude.{IsStandAfter};
 
 use crate::facts::facts;
 use crate::men::non_kings;

@@ -1,6 +1,5 @@
 //! Where the turns take squares.
-ghost use Rattle.std.specs.Prelude.{◌≡◌, ◌<◌, ◌==◌, ◌/◌, ◌%◌, slice_index};
-ghost use Rattle.egt_board.specs.Turned.{turned_square};
+ghost use Rattle.egt_index.specs.Prelude.{◌≡◌, ◌<◌, ◌==◌, ◌/◌, ◌%◌, slice_index, turned_square};
 
 use egt_board::Square;
 

@@ -1,16 +1,8 @@
 -- Rows raised by a pawn's advances.
-use Rattle.std.proofs.Common.{◌≡◌, ℕ, ◌<◌, ◌≤◌, ◌==◌, ◌⊎◌, if◌then◌else◌, Bool, true, false, eqb, cond, max, List, get_or, refl, ap, ◌∙◌, subst, inl, inr, arith, eqb-true}
-use Rattle.std.proofs.lemmas.Bool.{cases_eq, eqb-false, false≢true}
-use Rattle.std.specs.Int.{bit_at}
-use Rattle.egt_board.specs.AttackLines.{Rides}
-use Rattle.egt_board.specs.Pawn.{Advances, forward, home_rank}
-use Rattle.egt_board.specs.Square.{rank_of}
-use Rattle.egt_board.specs.Step.{Away}
-use Rattle.egt_board.specs.declared.man.Side.{Side}
-use Rattle.egt_board.specs.declared.man.Side.TheVariants.{White, Black}
-use Rattle.egt_board.specs.declared.step.Step.{Step}
-use Rattle.egt_lanes.specs.Advances.{AdvancesBy}
-use Rattle.egt_lanes.specs.Raised.{IsRaised}
+use Rattle.egt_lanes.specs.Prelude.{◌≡◌, ℕ, ◌<◌, ◌≤◌, ◌==◌, ◌⊎◌, if◌then◌else◌, Bool, true, false, eqb, cond, max, List}
+use Rattle.egt_lanes.specs.Prelude.{get_or, refl, ap, ◌∙◌, subst, inl, inr, arith, eqb-true, cases_eq, eqb-false}
+use Rattle.egt_lanes.specs.Prelude.{false≢true, bit_at, Rides, Advances, forward, home_rank, rank_of, Away, Side, White}
+use Rattle.egt_lanes.specs.Prelude.{Black, Step, AdvancesBy, IsRaised}
 use Rattle.egt_lanes.proofs.Raising.{raised_again, raised_among, raised_as, raised_by_none, raised_is}
 use Rattle.egt_lanes.proofs.Rays.{IsRidden}
 use Rattle.egt_lanes.proofs.Riding.{HasBit, IsShifted, more_ends, one_ride, raised_over, ride_one, ridden_first}

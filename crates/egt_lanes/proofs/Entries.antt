@@ -1,11 +1,7 @@
 -- Every second entry.
-use Rattle.std.proofs.Common.{Bool, true, false, ◌≡◌, ℕ, ◌+◌, ◌*◌, ◌-◌, ◌<◌, ◌≤◌, ◌⊎◌, nat_lt, if◌then◌else◌, eqb, T, List, ◌++◌, length, get_or, sym, ap, ◌∙◌, inl, inr, arith}
-use Rattle.std.proofs.lemmas.Bool.{cases_lt}
-use Rattle.std.proofs.lemmas.List.{get_or-map, get_or_append_left, get_or-append_right}
-use Rattle.std.proofs.lemmas.Bool.Decides.{nat_tests}
-use Rattle.egt_board.specs.declared.man.Side.{Side}
-use Rattle.egt_board.specs.declared.man.Side.TheVariants.{White, Black}
-use Rattle.egt_board.specs.Images.{side_number}
+use Rattle.egt_lanes.specs.Prelude.{Bool, true, false, ◌≡◌, ℕ, ◌+◌, ◌*◌, ◌-◌, ◌<◌, ◌≤◌, ◌⊎◌, nat_lt, if◌then◌else◌, eqb}
+use Rattle.egt_lanes.specs.Prelude.{T, List, ◌++◌, length, get_or, sym, ap, ◌∙◌, inl, inr, arith, cases_lt, get_or-map}
+use Rattle.egt_lanes.specs.Prelude.{get_or_append_left, get_or-append_right, nat_tests, Side, White, Black, side_number}
 use lib.Lanes.{pick_l}
 use Rattle.egt_lanes.proofs.Tests.{passes_below, agreed}
 

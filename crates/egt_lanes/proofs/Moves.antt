@@ -1,13 +1,9 @@
 -- Steps along a rank and along a file.
-use Rattle.std.proofs.Common.{◌≡◌, ℕ, ◌+◌, ◌*◌, ◌-◌, ◌/◌, ◌%◌, ◌<◌, ◌≤◌, Bool, true, false, ltb, leb, eqb, cond, T, List, ◌++◌, length, get_or, replicate, refl, sym, ap, ◌∙◌, arith, ltb-true, ltb-false}
+use Rattle.egt_lanes.specs.Prelude.{◌≡◌, ℕ, ◌+◌, ◌*◌, ◌-◌, ◌/◌, ◌%◌, ◌<◌, ◌≤◌, Bool, true, false, ltb, leb, eqb, cond}
+use Rattle.egt_lanes.specs.Prelude.{T, List, ◌++◌, length, get_or, replicate, refl, sym, ap, ◌∙◌, arith, ltb-true}
+use Rattle.egt_lanes.specs.Prelude.{ltb-false, Way, Up, Down, Still, Step, Away, Further, file_of, rank_of, beside}
+use Rattle.egt_lanes.specs.Prelude.{beyond}
 use lib.Lanes.{pick_l}
-use Rattle.egt_board.specs.declared.step.Way.{Way}
-use Rattle.egt_board.specs.declared.step.Way.TheVariants.{Up, Down, Still}
-use Rattle.egt_board.specs.declared.step.Step.{Step}
-use Rattle.egt_board.specs.Step.{Away}
-use Rattle.egt_board.specs.Coordinate.{Further}
-use Rattle.egt_board.specs.Square.{file_of, rank_of}
-use Rattle.egt_lanes.specs.Moved.{beside, beyond}
 use Rattle.egt_lanes.proofs.Tests.{passes_below, agreed}
 use Rattle.egt_lanes.proofs.Picks.{picked_or_none}
 

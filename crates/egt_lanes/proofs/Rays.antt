@@ -1,13 +1,7 @@
 -- Steps one after another.
-use Rattle.std.proofs.Common.{◌≡◌, ℕ, zero, suc, ◌+◌, ◌*◌, ◌-◌, ◌/◌, ◌%◌, ◌<◌, ◌⊎◌, refl, subst, inl, inr, arith}
-use Rattle.std.proofs.lemmas.Bool.{cases_lt, cases_eq}
-use Rattle.egt_board.specs.declared.step.Way.{Way}
-use Rattle.egt_board.specs.declared.step.Way.TheVariants.{Up, Down, Still}
-use Rattle.egt_board.specs.declared.step.Step.{Step}
-use Rattle.egt_board.specs.Coordinate.{Further}
-use Rattle.egt_board.specs.Square.{file_of, rank_of}
-use Rattle.egt_board.specs.Step.{Away}
-use Rattle.egt_board.specs.AttackLines.{Rides}
+use Rattle.egt_lanes.specs.Prelude.{◌≡◌, ℕ, zero, suc, ◌+◌, ◌*◌, ◌-◌, ◌/◌, ◌%◌, ◌<◌, ◌⊎◌, refl, subst, inl, inr, arith}
+use Rattle.egt_lanes.specs.Prelude.{cases_lt, cases_eq, Way, Up, Down, Still, Step, Further, file_of, rank_of, Away}
+use Rattle.egt_lanes.specs.Prelude.{Rides}
 
 -- ---- files and ranks
 

@@ -1,16 +1,8 @@
 -- Rows raised along rays: the last man's moves.
-use Rattle.std.proofs.Common.{◌≡◌, ℕ, ◌+◌, ◌<◌, ◌==◌, ◌⊎◌, if◌then◌else◌, Bool, true, false, eqb, cond, max, List, [], ◌∷◌, ◌++◌, get_or, take, length, refl, sym, ap, ◌∙◌, subst, inl, inr, eqb-true}
-use Rattle.std.proofs.lemmas.Bool.{eqb-false}
-use Rattle.std.proofs.lemmas.List.{take_more}
-use Rattle.std.specs.Int.{bit_at}
-use Rattle.egt_board.specs.declared.man.Side.{Side}
-use Rattle.egt_board.specs.declared.man.Kind.{Kind}
-use Rattle.egt_board.specs.declared.step.Step.{Step}
-use Rattle.egt_board.specs.Step.{Away}
-use Rattle.egt_board.specs.AttackLines.{Rides, OneOf, farthest, steps_of}
-use Rattle.egt_board.specs.declared.man.Kind.TheVariants.{P, K}
-use Rattle.egt_lanes.specs.Pieces.{IsPiece}
-use Rattle.egt_lanes.specs.Raised.{IsRaised}
+use Rattle.egt_lanes.specs.Prelude.{◌≡◌, ℕ, ◌+◌, ◌<◌, ◌==◌, ◌⊎◌, if◌then◌else◌, Bool, true, false, eqb, cond, max, List}
+use Rattle.egt_lanes.specs.Prelude.{[], ◌∷◌, ◌++◌, get_or, take, length, refl, sym, ap, ◌∙◌, subst, inl, inr, eqb-true}
+use Rattle.egt_lanes.specs.Prelude.{eqb-false, take_more, bit_at, Side, Kind, Step, Away, Rides, OneOf, farthest}
+use Rattle.egt_lanes.specs.Prelude.{steps_of, P, K, IsPiece, IsRaised}
 use Rattle.egt_lanes.proofs.Raising.{raised_by_none, first_raised, raised_more, raised_again, raised_as, raised_is}
 use Rattle.egt_lanes.proofs.Rays.{IsRidden, first_step, same_end, next_square, one_step, more_steps, fewer_steps, Rides-more, Rides-last, Rides-none}
 

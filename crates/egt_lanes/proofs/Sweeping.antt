@@ -1,16 +1,8 @@
 -- Rows raised along rays, what is reached carried from square to square: the first man's moves.
-use Rattle.std.proofs.Common.{◌≡◌, ◌≢◌, ℕ, ◌+◌, ◌-◌, ◌<◌, ◌≤◌, ◌==◌, ◌⊎◌, if◌then◌else◌, Bool, true, false, eqb, cond, max, List, [], get_or, refl, sym, ap, ◌∙◌, subst, inl, inr, arith, eqb-true, length}
-use Rattle.std.specs.Int.{bit_at}
-use Rattle.std.proofs.Common.{get_or-set_other}
-use Rattle.std.proofs.lemmas.Bool.{cases_eq, eqb-false}
-use Rattle.std.proofs.lemmas.Grind.{get_or-set_at}
-use Rattle.std.proofs.Math.ListN.{set, length-set}
-use Rattle.egt_board.specs.declared.step.Step.{Step}
-use Rattle.egt_board.specs.Step.{Away}
-use Rattle.egt_board.specs.AttackLines.{Rides}
-use Rattle.egt_lanes.specs.Blocks.{at, IsOpen}
-use Rattle.egt_lanes.specs.Raised.{IsRaised}
-use Rattle.egt_lanes.specs.Sweeps.{IsAhead, IsRay}
+use Rattle.egt_lanes.specs.Prelude.{◌≡◌, ◌≢◌, ℕ, ◌+◌, ◌-◌, ◌<◌, ◌≤◌, ◌==◌, ◌⊎◌, if◌then◌else◌, Bool, true, false, eqb}
+use Rattle.egt_lanes.specs.Prelude.{cond, max, List, [], get_or, refl, sym, ap, ◌∙◌, subst, inl, inr, arith, eqb-true}
+use Rattle.egt_lanes.specs.Prelude.{length, bit_at, get_or-set_other, cases_eq, eqb-false, get_or-set_at, set}
+use Rattle.egt_lanes.specs.Prelude.{length-set, Step, Away, Rides, at, IsOpen, IsRaised, IsAhead, IsRay}
 use Rattle.egt_lanes.proofs.Raising.{raised_by_none, first_raised, raised_more, raised_as, raised_is}
 use Rattle.egt_lanes.proofs.Riding.{raised_over}
 use Rattle.egt_lanes.proofs.Rays.{IsRidden, same_end, first_step, more_steps, fewer_steps}

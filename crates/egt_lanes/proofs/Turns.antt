@@ -1,10 +1,7 @@
 -- Rows in a mirror.
-use Rattle.std.proofs.Common.{◌≡◌, ℕ, ◌<◌, Bool, true, false, T, eqb, List, ◌++◌, length, get_or, sym, ap, ◌∙◌, arith}
+use Rattle.egt_lanes.specs.Prelude.{◌≡◌, ℕ, ◌<◌, Bool, true, false, T, eqb, List, ◌++◌, length, get_or, sym, ap, ◌∙◌}
+use Rattle.egt_lanes.specs.Prelude.{arith, Mirror, Files, Ranks, Diagonal, Colours, square_by, square_if}
 use lib.Lanes.{pick_l}
-use Rattle.egt_board.specs.declared.mirror.Mirror.{Mirror}
-use Rattle.egt_board.specs.declared.mirror.Mirror.TheVariants.{Files, Ranks, Diagonal, Colours}
-use Rattle.egt_board.specs.Mirror.{square_by}
-use Rattle.egt_board.specs.Symmetry.{square_if}
 use Rattle.egt_lanes.proofs.Tests.{passes_below}
 use Rattle.egt_lanes.proofs.Picks.{picked}
 

@@ -1,12 +1,10 @@
 -- Rows woven into one another, and blocks in which rows and lanes are exchanged.
-use Rattle.std.proofs.Common.{◌≡◌, ℕ, ◌+◌, ◌-◌, ◌*◌, ◌/◌, ◌%◌, ◌<◌, ◌≤◌, ◌≢◌, ◌==◌, if◌then◌else◌, Bool, true, false, eqb, cond, T, List, [], ◌++◌, map, length, get_or, refl, ap, ◌∙◌, inl, inr, arith, eqb-true, get_or-set_other}
-use Rattle.std.specs.List.{range_with_len}
-use Rattle.std.proofs.Math.ListN.{set, length-set}
-use Rattle.std.proofs.lemmas.Bool.{eqb-false, cases_lt, cases_eq}
-use Rattle.std.proofs.lemmas.Grind.{get_or-set_at}
-use Rattle.std.proofs.lemmas.List.{get_or-map, get_or_append_left, get_or-append_right}
+use Rattle.egt_lanes.specs.Prelude.{◌≡◌, ℕ, ◌+◌, ◌-◌, ◌*◌, ◌/◌, ◌%◌, ◌<◌, ◌≤◌, ◌≢◌, ◌==◌, if◌then◌else◌, Bool, true}
+use Rattle.egt_lanes.specs.Prelude.{false, eqb, cond, T, List, [], ◌++◌, map, length, get_or, refl, ap, ◌∙◌, inl, inr}
+use Rattle.egt_lanes.specs.Prelude.{arith, eqb-true, get_or-set_other, range_with_len, set, length-set, eqb-false}
+use Rattle.egt_lanes.specs.Prelude.{cases_lt, cases_eq, get_or-set_at, get_or-map, get_or_append_left}
+use Rattle.egt_lanes.specs.Prelude.{get_or-append_right, at}
 use lib.Lanes.{pick_l}
-use Rattle.egt_lanes.specs.Blocks.{at}
 use Rattle.egt_lanes.proofs.Tests.{passes_below, agreed}
 
 -- lane k of two rows in turn, one after the other

@@ -7,3 +7,4 @@ pub mod Pieces
 pub mod Alike
 pub mod Near
 pub mod Advances
+pub mod Prelude

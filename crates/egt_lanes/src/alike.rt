@@ -1,6 +1,5 @@
 //! Whether the entries of both columns show the same results, and have bytes of their own.
-ghost use Rattle.std.specs.Prelude.{◌≡◌, ℕ, ◌<◌, ◌≤◌, ◌*◌, slice_index, length, true};
-ghost use Rattle.egt_lanes.specs.Alike.{AreVoidOrAlike};
+ghost use Rattle.egt_lanes.specs.Prelude.{◌≡◌, ℕ, ◌<◌, ◌≤◌, ◌*◌, slice_index, length, true, AreVoidOrAlike};
 
 use crate::load::loaded;
 use crate::score::Entries;

@@ -1,7 +1,6 @@
 //! Rows cut down to sets of squares.
-ghost use Rattle.std.specs.Prelude.{◌≡◌, ◌≢◌, ℕ, ◌<◌, ◌==◌, ◌/◌, ◌%◌, ◌^◌, slice_index, if◌then◌else◌};
-ghost use Rattle.std.specs.Int.{bit_at};
-ghost use Rattle.egt_board.specs.Square.{rank_of};
+ghost use Rattle.egt_lanes.specs.Prelude.{◌≡◌, ◌≢◌, ℕ, ◌<◌, ◌==◌, ◌/◌, ◌%◌, ◌^◌, slice_index, if◌then◌else◌, bit_at};
+ghost use Rattle.egt_lanes.specs.Prelude.{rank_of};
 
 use crate::row::Row;
 use egt_board::{Square, SquareSet};

@@ -1,15 +1,8 @@
 //! Rows moved by the steps of men.
-ghost use Rattle.std.specs.Prelude.{◌≡◌, ℕ, ◌<◌, ◌≤◌, ◌==◌, slice_index, if◌then◌else◌};
-ghost use Rattle.std.specs.Int.{bit_at};
-ghost use Rattle.egt_board.specs.AttackLines.{OneOf, Reaches, Rides, straight_steps, diagonal_steps, knight_steps};
+ghost use Rattle.egt_lanes.specs.Prelude.{◌≡◌, ℕ, ◌<◌, ◌≤◌, ◌==◌, slice_index, if◌then◌else◌, bit_at, OneOf, Reaches};
+ghost use Rattle.egt_lanes.specs.Prelude.{Rides, straight_steps, diagonal_steps, knight_steps, Advances, forward};
+ghost use Rattle.egt_lanes.specs.Prelude.{home_rank, rank_of, Away, AdvancesBy, beside, beyond, IsPiece, IsRaised};
 ghost use Rattle.egt_board.specs.AttackLines.{step as the_step};
-ghost use Rattle.egt_board.specs.Pawn.{Advances, forward, home_rank};
-ghost use Rattle.egt_board.specs.Square.{rank_of};
-ghost use Rattle.egt_board.specs.Step.{Away};
-ghost use Rattle.egt_lanes.specs.Advances.{AdvancesBy};
-ghost use Rattle.egt_lanes.specs.Moved.{beside, beyond};
-ghost use Rattle.egt_lanes.specs.Pieces.{IsPiece};
-ghost use Rattle.egt_lanes.specs.Raised.{IsRaised};
 
 use crate::row::{Row, greater};
 use crate::sets::{kept, rank_squares};

@@ -1,8 +1,6 @@
 //! Rows turned as the board is.
-ghost use Rattle.std.specs.Prelude.{◌≡◌, ℕ, ◌<◌, ◌/◌, ◌%◌, ◌==◌, slice_index};
-ghost use Rattle.egt_board.specs.Mirror.{square_by};
-ghost use Rattle.egt_board.specs.Symmetry.{square_if};
-ghost use Rattle.egt_board.specs.Turned.{turned_square};
+ghost use Rattle.egt_lanes.specs.Prelude.{◌≡◌, ℕ, ◌<◌, ◌/◌, ◌%◌, ◌==◌, slice_index, square_by, square_if};
+ghost use Rattle.egt_lanes.specs.Prelude.{turned_square};
 
 use crate::row::Row;
 use egt_board::Mirror;

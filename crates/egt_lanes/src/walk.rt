@@ -1,12 +1,7 @@
 //! The first man's moves: the rows of the squares that he reaches, raised into the row of his own.
-ghost use Rattle.std.specs.Prelude.{◌≡◌, ℕ, ◌<◌, Bool, if◌then◌else◌, ◌-◌, slice_index};
-ghost use Rattle.std.specs.List.{All};
-ghost use Rattle.egt_board.specs.AttackLines.{OneOf, Reaches, Rides, diagonal_steps, knight_steps, straight_steps};
-ghost use Rattle.egt_board.specs.Step.{Away};
-ghost use Rattle.egt_lanes.specs.Blocks.{at, IsOpen};
-ghost use Rattle.egt_lanes.specs.Pieces.{IsPiece};
-ghost use Rattle.egt_lanes.specs.Raised.{IsRaised};
-ghost use Rattle.egt_lanes.specs.Sweeps.{IsRay};
+ghost use Rattle.egt_lanes.specs.Prelude.{◌≡◌, ℕ, ◌<◌, Bool, if◌then◌else◌, ◌-◌, slice_index, All, OneOf, Reaches};
+ghost use Rattle.egt_lanes.specs.Prelude.{Rides, diagonal_steps, knight_steps, straight_steps, Away, at, IsOpen};
+ghost use Rattle.egt_lanes.specs.Prelude.{IsPiece, IsRaised, IsRay};
 
 use crate::block::Block;
 use crate::row::{Row, greater};

@@ -1,29 +1,14 @@
 -- What a legal move leads to is admissible.
-use Rattle.std.proofs.Common.{◌≡◌, ◌≢◌, ℕ, ◌<◌, ◌≤◌, ◌+◌, ◌-◌, ◌/◌, ◌⊎◌, ◌&&◌, ◌||◌, Option, Some, None, cond, true, false, Bool, arith, refl, sym, ap, ◌∙◌, inl, inr, subst, if◌then◌else◌, ◌==◌}
-use Rattle.std.specs.Option.{is_some}
-use Rattle.std.specs.Cmp.{nat_cmp_total}
+use Rattle.egt_moves.specs.Prelude.{◌≡◌, ◌≢◌, ℕ, ◌<◌, ◌≤◌, ◌+◌, ◌-◌, ◌/◌, ◌⊎◌, ◌&&◌, ◌||◌, Option, Some, None, cond}
+use Rattle.egt_moves.specs.Prelude.{true, false, Bool, arith, refl, sym, ap, ◌∙◌, inl, inr, subst, if◌then◌else◌, ◌==◌}
+use Rattle.egt_moves.specs.Prelude.{is_some, nat_cmp_total, false≢true, eq-eqb, and_parts, eqb_tells, Side, White}
+use Rattle.egt_moves.specs.Prelude.{Black, Kind, Q, R, B, N, P, K, Man, other_side, file_of, rank_of, Stands, IsFree}
+use Rattle.egt_moves.specs.Prelude.{ahead, pawn_of, last_rank, home_rank, farthest_advance, Advances, PawnsFit}
+use Rattle.egt_moves.specs.Prelude.{IsTarget, FitsTarget, target_rank, Rides, OneOf, farthest, steps_of, pawn_steps}
+use Rattle.egt_moves.specs.Prelude.{IsInCheck, Setup, IsAdmissible, IsKingOn, HasKings, side_twice, sides_differ, Move}
+use Rattle.egt_moves.specs.Prelude.{Goes, PawnTakes, is_pawn, promotes, IsOfficer, FitsPromotion, arriving, men_left}
+use Rattle.egt_moves.specs.Prelude.{men_after, is_two_ranks, passed, after, goes_on_board}
 use Rattle.std.specs.FinMap as map
-use Rattle.std.proofs.lemmas.Bool.{false≢true, eq-eqb, and_parts}
-use Rattle.std.proofs.lemmas.Bool.Decides.{eqb_tells}
-use Rattle.egt_board.specs.declared.man.Side.{Side}
-use Rattle.egt_board.specs.declared.man.Side.TheVariants.{White, Black}
-use Rattle.egt_board.specs.declared.man.Kind.{Kind}
-use Rattle.egt_board.specs.declared.man.Kind.TheVariants.{Q, R, B, N, P, K}
-use Rattle.egt_board.specs.declared.man.Man.{Man}
-use Rattle.egt_board.specs.Man.{other_side}
-use Rattle.egt_board.specs.Square.{file_of, rank_of}
-use Rattle.egt_board.specs.Placement.{Stands, IsFree}
-use Rattle.egt_board.specs.Pawn.{ahead, pawn_of, last_rank, home_rank, farthest_advance, Advances, PawnsFit}
-use Rattle.egt_board.specs.Target.{IsTarget, FitsTarget, target_rank}
-use Rattle.egt_board.specs.AttackLines.{Rides, OneOf, farthest, steps_of, pawn_steps}
-use Rattle.egt_board.specs.Attack.{IsInCheck}
-use Rattle.egt_board.specs.Setup.{Setup, IsAdmissible, IsKingOn, HasKings}
-use Rattle.egt_board.proofs.Sides.{side_twice, sides_differ}
-use Rattle.egt_moves.specs.declared.chess_move.Move.{Move}
-use Rattle.egt_moves.specs.Going.{Goes, PawnTakes}
-use Rattle.egt_moves.specs.Promotion.{is_pawn, promotes, IsOfficer, FitsPromotion, arriving}
-use Rattle.egt_moves.specs.Legal.{men_left, men_after, is_two_ranks, passed, after}
-use Rattle.egt_moves.specs.DecidedMoves.{goes_on_board}
 use Rattle.egt_moves.proofs.After.{left_cases, left_keeps, left_free, after_to, after_from, after_other, after_cases, king_moves, king_stays, other_king_stays, may_become}
 
 -- no more men than before

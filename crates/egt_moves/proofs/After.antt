@@ -1,26 +1,14 @@
 -- The men after a move.
-use Rattle.std.proofs.Common.{◌≡◌, ◌≢◌, ℕ, ◌⊎◌, ◌&&◌, Option, Some, None, true, false, Bool, refl, sym, ap, ◌∙◌, inl, inr, subst, if◌then◌else◌, IfSome}
+use Rattle.egt_moves.specs.Prelude.{◌≡◌, ◌≢◌, ℕ, ◌⊎◌, ◌&&◌, Option, Some, None, true, false, Bool, refl, sym, ap, ◌∙◌}
+use Rattle.egt_moves.specs.Prelude.{inl, inr, subst, if◌then◌else◌, IfSome, cases_eq, eqb_tells, Side, Kind, Q, R, B, N}
+use Rattle.egt_moves.specs.Prelude.{P, K, Man, other_side, Placement, Stands, IsFree, IsHeld, get-insert_same}
+use Rattle.egt_moves.specs.Prelude.{get-insert_other, get-remove_same, get-remove_other, ahead, pawn_of, IsTarget}
+use Rattle.egt_moves.specs.Prelude.{Reaches, Reaches-free, king_of, IsInCheck, Setup, IsAdmissible, IsKingOn}
+use Rattle.egt_moves.specs.Prelude.{sides_differ, side_twice, Move, Goes, is_pawn, IsOfficer, FitsPromotion, arriving}
+use Rattle.egt_moves.specs.Prelude.{is_target, takes_in_passing, men_left, men_after}
 use Rattle.std.specs.FinMap as map
-use Rattle.std.proofs.lemmas.Bool.{cases_eq}
-use Rattle.std.proofs.lemmas.Bool.Decides.{eqb_tells}
-use Rattle.egt_board.specs.declared.man.Side.{Side}
-use Rattle.egt_board.specs.declared.man.Kind.{Kind}
-use Rattle.egt_board.specs.declared.man.Kind.TheVariants.{Q, R, B, N, P, K}
-use Rattle.egt_board.specs.declared.man.Man.{Man}
-use Rattle.egt_board.specs.Man.{other_side}
 pub use Rattle.egt_board.specs.Placement.{one_man}
-use Rattle.egt_board.specs.Placement.{Placement, Stands, IsFree, IsHeld, get-insert_same, get-insert_other, get-remove_same, get-remove_other}
-use Rattle.egt_board.specs.Pawn.{ahead, pawn_of}
-use Rattle.egt_board.specs.Target.{IsTarget}
-use Rattle.egt_board.specs.AttackLines.{Reaches, Reaches-free}
-use Rattle.egt_board.specs.Attack.{king_of, IsInCheck}
-use Rattle.egt_board.specs.Setup.{Setup, IsAdmissible, IsKingOn}
-use Rattle.egt_board.proofs.Sides.{sides_differ, side_twice}
-use Rattle.egt_moves.specs.declared.chess_move.Move.{Move}
 pub use Rattle.egt_moves.specs.DecidedMoves.{goes_on_board}
-use Rattle.egt_moves.specs.Going.{Goes}
-use Rattle.egt_moves.specs.Promotion.{is_pawn, IsOfficer, FitsPromotion, arriving}
-use Rattle.egt_moves.specs.Legal.{is_target, takes_in_passing, men_left, men_after}
 
 pub not_free : {A : Type 0} (men : Placement) (s : ℕ) (man : Man) → IsFree men s → Stands men s man → A
 not_free men s man free stands = let bad : Some man ≡ None = sym stands ∙ free in absurd (cc)

@@ -1,9 +1,7 @@
 -- What can be told of all elements of a finite list, or of one.
-use Rattle.std.proofs.Common.{ℕ, zero, ◌+◌, ◌≤◌, ◌⊎◌, inl, inr, arith, List, [], ◌∷◌, Option, Some, None}
-use Rattle.std.proofs.Math.Logic.{⊎_elim}
-use Rattle.std.specs.Option.{IsSomeAnd}
-use Rattle.egt_board.specs.Among.{any_here, any_there, any_cons}
-use Rattle.std.specs.List.{Any, AllByRecursion, filter_map, cons_option}
+use Rattle.egt_moves.specs.Prelude.{ℕ, zero, ◌+◌, ◌≤◌, ◌⊎◌, inl, inr, arith, List, [], ◌∷◌, Option, Some, None, ⊎_elim}
+use Rattle.egt_moves.specs.Prelude.{IsSomeAnd, any_here, any_there, any_cons, Any, AllByRecursion, filter_map}
+use Rattle.egt_moves.specs.Prelude.{cons_option}
 
 -- P holds of each element, or Q of some
 pub each_or_some : {A : Type 0} (P Q : A → Type 0) → ((x : A) → P x ⊎ Q x) → (xs : List A) → AllByRecursion P xs ⊎ Any Q xs

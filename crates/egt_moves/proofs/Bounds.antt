@@ -1,8 +1,7 @@
 -- How forced mate and the defence against it go with the number of plies, and exclude each other.
-use Rattle.std.proofs.Common.{ℕ, zero, suc, ◌≤◌, ◌<◌, ◌⊎◌, inl, inr, arith}
-use Rattle.std.proofs.Math.Logic.{⊎_elim, ⊎_map}
-use Rattle.std.proofs.lemmas.Bool.{cases_lt}
-use Rattle.egt_moves.specs.Arena.{Arena, Win, Loss, NoMove, SomeMove, IsMatedWithin, MatesWithin, AvoidsMateFor, CannotMateWithin, HasValue}
+use Rattle.egt_moves.specs.Prelude.{ℕ, zero, suc, ◌≤◌, ◌<◌, ◌⊎◌, inl, inr, arith, ⊎_elim, ⊎_map, cases_lt, Arena, Win}
+use Rattle.egt_moves.specs.Prelude.{Loss, NoMove, SomeMove, IsMatedWithin, MatesWithin, AvoidsMateFor, CannotMateWithin}
+use Rattle.egt_moves.specs.Prelude.{HasValue}
 
 module _ {S : Type 0} (a : Arena S) where
   -- checkmate is a loss within any number

@@ -1,15 +1,9 @@
 -- What a man may become, one choice after the other.
-use Rattle.std.proofs.Common.{◌≡◌, ℕ, zero, suc, ◌+◌, ◌*◌, ◌<◌, ◌≤◌, ◌↔◌, ◌⊎◌, List, [], ◌∷◌, ◌++◌, length, get_or, true, false, Option, Some, None, arith, refl, sym, ap, ◌∙◌, inl, inr, subst}
-use Rattle.std.specs.List.{Contains}
-use Rattle.std.proofs.lemmas.Bool.{cases_eq}
-use Rattle.std.proofs.lemmas.List.{length-append}
-use Rattle.std.proofs.lemmas.List.Elements.{Contains-push, Contains-push_cases, Contains-append_left}
-use Rattle.egt_board.specs.declared.man.Kind.{Kind}
-use Rattle.egt_board.specs.declared.man.Kind.TheVariants.{Q, R, B, N, P, K}
-use Rattle.egt_moves.specs.declared.chess_move.Move.{Move}
-use Rattle.egt_moves.specs.Promotion.{FitsPromotion}
-use Rattle.egt_moves.specs.Legal.{plain}
-use Rattle.egt_moves.specs.Order.{place_of, promotion_place, IsInOrder}
+use Rattle.egt_moves.specs.Prelude.{◌≡◌, ℕ, zero, suc, ◌+◌, ◌*◌, ◌<◌, ◌≤◌, ◌↔◌, ◌⊎◌, List, [], ◌∷◌, ◌++◌, length}
+use Rattle.egt_moves.specs.Prelude.{get_or, true, false, Option, Some, None, arith, refl, sym, ap, ◌∙◌, inl, inr, subst}
+use Rattle.egt_moves.specs.Prelude.{Contains, cases_eq, length-append, Contains-push, Contains-push_cases}
+use Rattle.egt_moves.specs.Prelude.{Contains-append_left, Kind, Q, R, B, N, P, K, Move, FitsPromotion, plain, place_of}
+use Rattle.egt_moves.specs.Prelude.{promotion_place, IsInOrder}
 use Rattle.egt_moves.proofs.InOrder.{IsInOrder-push}
 
 -- the moves to one square that promote to the first n of four kinds have been added

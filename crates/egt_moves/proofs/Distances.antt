@@ -1,10 +1,7 @@
 -- Zeroing distances: how they go with the number and with the value.
-use Rattle.std.proofs.Common.{◌≡◌, ℕ, zero, suc, ◌≤◌, ◌<◌, ◌⊎◌, inl, inr, refl, ap, arith}
-use Rattle.std.proofs.Math.Logic.{⊎_map}
-use Rattle.std.proofs.lemmas.Bool.{cases_lt}
-use Rattle.egt_moves.specs.Arena.{Arena, Value, Win, Loss, Draw, Ends, IsMatedWithin, MatesWithin, IsWon, IsLost, IsDraw, HasValue}
-use Rattle.egt_moves.specs.Zeroing.{ZeroesLosingWithin, ZeroesWinningWithin, HasZeroing}
-use Rattle.egt_moves.specs.Entries.{SameKind}
+use Rattle.egt_moves.specs.Prelude.{◌≡◌, ℕ, zero, suc, ◌≤◌, ◌<◌, ◌⊎◌, inl, inr, refl, ap, arith, ⊎_map, cases_lt, Arena}
+use Rattle.egt_moves.specs.Prelude.{Value, Win, Loss, Draw, Ends, IsMatedWithin, MatesWithin, IsWon, IsLost, IsDraw}
+use Rattle.egt_moves.specs.Prelude.{HasValue, ZeroesLosingWithin, ZeroesWinningWithin, HasZeroing, SameKind}
 use Rattle.egt_moves.proofs.Bounds.{win_mates, loss_mated, mated_not_avoids, mates_not_cannot}
 use Rattle.egt_moves.proofs.Exclusion.{mates_not_mated}
 

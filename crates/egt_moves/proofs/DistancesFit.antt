@@ -1,10 +1,8 @@
 -- Distances that fit their successors' are the zeroing distances, and zeroing distances fit.
-use Rattle.std.proofs.Common.{◌≡◌, ℕ, zero, suc, ◌≤◌, ◌<◌, ◌⊎◌, inl, inr, refl, subst, arith}
-use Rattle.std.proofs.Math.Logic.{⊎_elim, ⊎_map}
-use Rattle.std.proofs.lemmas.Bool.{cases_lt}
-use Rattle.egt_moves.specs.Arena.{Arena, Value, Win, Loss, Draw, HasMove, EachMove, Ends, IsWon, IsLost, HasValue, Next, Successors}
-use Rattle.egt_moves.specs.Zeroing.{ZeroesLosingWithin, ZeroesWinningWithin, HasZeroing}
-use Rattle.egt_moves.specs.Entries.{SameKind, Gives, FitsZeroing, JudgedOver, ZeroingJudgedOver}
+use Rattle.egt_moves.specs.Prelude.{◌≡◌, ℕ, zero, suc, ◌≤◌, ◌<◌, ◌⊎◌, inl, inr, refl, subst, arith, ⊎_elim, ⊎_map}
+use Rattle.egt_moves.specs.Prelude.{cases_lt, Arena, Value, Win, Loss, Draw, HasMove, EachMove, Ends, IsWon, IsLost}
+use Rattle.egt_moves.specs.Prelude.{HasValue, Next, Successors, ZeroesLosingWithin, ZeroesWinningWithin, HasZeroing}
+use Rattle.egt_moves.specs.Prelude.{SameKind, Gives, FitsZeroing, JudgedOver, ZeroingJudgedOver}
 use Rattle.egt_moves.proofs.Bounds.{win_mates, loss_mated}
 use Rattle.egt_moves.proofs.Halves.{each_or_some_step, EachLike}
 use Rattle.egt_moves.proofs.Fitting.{shows_loss, shows_win, fitting_is_true, fitting_beside}

@@ -1,9 +1,8 @@
 -- Entries that fit their successors' are the values, and values fit.
-use Rattle.std.proofs.Common.{◌≡◌, ◌≢◌, ℕ, zero, suc, ◌≤◌, ◌<◌, ◌⊎◌, inl, inr, refl, sym, subst, arith, ◌∙◌}
-use Rattle.std.proofs.Math.Logic.{⊎_elim}
-use Rattle.std.proofs.lemmas.Bool.{cases_lt}
-use Rattle.egt_moves.specs.Arena.{Arena, Value, Win, Loss, Draw, HasMove, NoMove, SomeMove, EachMove, IsStalemate, Ends, IsMatedWithin, MatesWithin, AvoidsMateFor, CannotMateWithin, IsWon, HasValue, Successors}
-use Rattle.egt_moves.specs.Entries.{Fits, JudgedOver}
+use Rattle.egt_moves.specs.Prelude.{◌≡◌, ◌≢◌, ℕ, zero, suc, ◌≤◌, ◌<◌, ◌⊎◌, inl, inr, refl, sym, subst, arith, ◌∙◌}
+use Rattle.egt_moves.specs.Prelude.{⊎_elim, cases_lt, Arena, Value, Win, Loss, Draw, HasMove, NoMove, SomeMove}
+use Rattle.egt_moves.specs.Prelude.{EachMove, IsStalemate, Ends, IsMatedWithin, MatesWithin, AvoidsMateFor}
+use Rattle.egt_moves.specs.Prelude.{CannotMateWithin, IsWon, HasValue, Successors, Fits, JudgedOver}
 use Rattle.egt_moves.proofs.Bounds.{win_mates, loss_mated, win_is_least, loss_is_least, not_mated, mated_more, mates_more, avoids_less, cannot_less, mated_not_avoids, mates_not_cannot, beyond_win}
 use Rattle.egt_moves.proofs.Halves.{each_or_some_move, some_or_no_move, each_won_within}
 use Rattle.egt_moves.proofs.Exclusion.{won_avoids, lost_cannot, mates_not_mated}

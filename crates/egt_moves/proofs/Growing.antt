@@ -1,24 +1,10 @@
 -- The list of moves as it grows.
-use Rattle.std.proofs.Common.{◌≡◌, ◌≢◌, ℕ, ◌+◌, ◌*◌, ◌<◌, ◌≤◌, ◌↔◌, ◌⊎◌, List, length, Bool, true, false, Option, Some, None, arith, refl, sym, ap, ◌∙◌, inl, inr, subst}
-use Rattle.std.specs.Int.{bit_at}
-use Rattle.std.specs.List.{Contains}
-use Rattle.std.proofs.lemmas.Bool.{cases_eq, cases_lt, and_parts}
-use Rattle.egt_board.specs.declared.man.Kind.{Kind}
-use Rattle.egt_board.specs.declared.man.Kind.TheVariants.{Q, R, B, N, P, K}
-use Rattle.egt_board.specs.declared.man.Man.{Man}
-use Rattle.egt_board.specs.declared.square_set.SquareSet.{SquareSet}
-use Rattle.egt_board.specs.Placement.{Stands}
-use Rattle.egt_board.specs.SquareSet.{Has, size_of}
-use Rattle.egt_board.specs.Attack.{IsInCheck}
-use Rattle.egt_board.specs.Setup.{Setup}
-use Rattle.egt_moves.specs.declared.chess_move.Move.{Move}
-use Rattle.egt_moves.specs.Going.{Goes}
-use Rattle.egt_moves.specs.Promotion.{is_pawn, promotes, FitsPromotion}
-use Rattle.egt_moves.specs.Legal.{IsLegal, men_after, after, plain}
-use Rattle.egt_moves.specs.Targets.{IsSafeGoal}
-use Rattle.egt_moves.specs.Room.{most_goals, most_choices, most_moves}
-use Rattle.egt_moves.specs.Order.{place_of, promotion_place, IsInOrder}
-use Rattle.egt_board.specs.Placement.{one_man}
+use Rattle.egt_moves.specs.Prelude.{◌≡◌, ◌≢◌, ℕ, ◌+◌, ◌*◌, ◌<◌, ◌≤◌, ◌↔◌, ◌⊎◌, List, length, Bool, true, false, Option}
+use Rattle.egt_moves.specs.Prelude.{Some, None, arith, refl, sym, ap, ◌∙◌, inl, inr, subst, bit_at, Contains, cases_eq}
+use Rattle.egt_moves.specs.Prelude.{cases_lt, and_parts, Kind, Q, R, B, N, P, K, Man, SquareSet, Stands, Has, size_of}
+use Rattle.egt_moves.specs.Prelude.{IsInCheck, Setup, Move, Goes, is_pawn, promotes, FitsPromotion, IsLegal, men_after}
+use Rattle.egt_moves.specs.Prelude.{after, plain, IsSafeGoal, most_goals, most_choices, most_moves, place_of}
+use Rattle.egt_moves.specs.Prelude.{promotion_place, IsInOrder, one_man}
 use Rattle.egt_moves.proofs.After.{not_king_of, may_become, check_whatever}
 use Rattle.egt_moves.proofs.Admissible.{pawn_told}
 

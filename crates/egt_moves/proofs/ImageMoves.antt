@@ -1,11 +1,5 @@
 -- Positions that mirrors lead to, one after another, play alike.
-use Rattle.std.proofs.Common.{ℕ, zero, suc}
-use Rattle.egt_board.specs.declared.mirror.Mirror.{Mirror}
-use Rattle.egt_board.specs.Setup.{Setup}
-use Rattle.egt_board.specs.Mirrored.{AreMirrored}
-use Rattle.egt_board.specs.Images.{Reflects}
-use Rattle.egt_moves.specs.Chess.{chess}
-use Rattle.egt_moves.specs.Likeness.{Alike, Chain}
+use Rattle.egt_moves.specs.Prelude.{ℕ, zero, suc, Mirror, Setup, AreMirrored, Reflects, chess, Alike, Chain}
 use Rattle.egt_moves.proofs.Likeness.{alike_chain}
 use Rattle.egt_moves.proofs.MirroredMoves.{mirrored_alike}
 

@@ -1,9 +1,6 @@
 -- Lists of moves in order.
-use Rattle.std.proofs.Common.{suc, ◌<◌, List, [], ◌∷◌, ◌++◌, arith, refl, subst, inl, inr}
-use Rattle.std.specs.List.{Contains}
-use Rattle.std.proofs.lemmas.List.Elements.{Contains-push_cases}
-use Rattle.egt_moves.specs.declared.chess_move.Move.{Move}
-use Rattle.egt_moves.specs.Order.{place_of, IsInOrder}
+use Rattle.egt_moves.specs.Prelude.{suc, ◌<◌, List, [], ◌∷◌, ◌++◌, arith, refl, subst, inl, inr, Contains}
+use Rattle.egt_moves.specs.Prelude.{Contains-push_cases, Move, place_of, IsInOrder}
 
 pub Contains-head : (m : Move) (ms : List Move) → Contains (m ∷ ms) m
 Contains-head m ms = (0, omega arith, refl)

@@ -1,17 +1,11 @@
 -- The list of legal moves: what it holds, and that no other list in order holds the same.
-use Rattle.std.proofs.Common.{◌≡◌, ℕ, zero, suc, ◌+◌, ◌*◌, ◌<◌, ◌↔◌, ◌⊎◌, Bool, true, false, cond, List, [], ◌∷◌, ◌++◌, length, map, Option, Some, None, slice_index_or, arith, refl, sym, ap, ◌∙◌, subst, inl, inr}
-use Rattle.std.specs.List.{Contains, filter}
-use Rattle.std.proofs.lemmas.Bool.{cases_eq, false≢true}
-use Rattle.std.proofs.lemmas.List.Elements.{Contains-append_left, Contains-append_right, Contains-append_cases}
-use Rattle.egt_board.specs.declared.man.Kind.{Kind}
-use Rattle.egt_board.specs.declared.man.Kind.TheVariants.{Q, R, B, N, P, K}
-use Rattle.egt_board.specs.Setup.{Setup, IsAdmissible}
-use Rattle.egt_board.specs.Decided.{Decided, tells_so, tells_where}
-use Rattle.egt_moves.specs.declared.chess_move.Move.{Move}
-use Rattle.egt_moves.specs.DecidedMoves.{decided_legal, goes_on_board, leads_to_one}
-use Rattle.egt_moves.specs.Legal.{Leads, IsLegal}
-use Rattle.egt_moves.specs.Moves.{promotions, moves_between, moves_from, moves_below, all_moves, is_legal, led_to, played, moves_of}
-use Rattle.egt_moves.specs.Order.{place_of, promotion_place, IsInOrder}
+use Rattle.egt_moves.specs.Prelude.{◌≡◌, ℕ, zero, suc, ◌+◌, ◌*◌, ◌<◌, ◌↔◌, ◌⊎◌, Bool, true, false, cond, List, [], ◌∷◌}
+use Rattle.egt_moves.specs.Prelude.{◌++◌, length, map, Option, Some, None, slice_index_or, arith, refl, sym, ap, ◌∙◌}
+use Rattle.egt_moves.specs.Prelude.{subst, inl, inr, Contains, filter, cases_eq, false≢true, Contains-append_left}
+use Rattle.egt_moves.specs.Prelude.{Contains-append_right, Contains-append_cases, Kind, Q, R, B, N, P, K, Setup}
+use Rattle.egt_moves.specs.Prelude.{IsAdmissible, Decided, tells_so, tells_where, Move, decided_legal, goes_on_board}
+use Rattle.egt_moves.specs.Prelude.{leads_to_one, Leads, IsLegal, promotions, moves_between, moves_from, moves_below}
+use Rattle.egt_moves.specs.Prelude.{all_moves, is_legal, led_to, played, moves_of, place_of, promotion_place, IsInOrder}
 use Rattle.egt_moves.proofs.Growing.{promotion_small}
 use Rattle.egt_moves.proofs.InOrder.{Contains-head, Contains-tail}
 

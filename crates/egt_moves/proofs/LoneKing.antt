@@ -1,18 +1,9 @@
 -- A king alone attacks no king.
-use Rattle.std.proofs.Common.{◌≡◌, ◌≢◌, ℕ, ◌<◌, sym, ap, ◌∙◌, subst}
+use Rattle.egt_moves.specs.Prelude.{◌≡◌, ◌≢◌, ℕ, ◌<◌, sym, ap, ◌∙◌, subst, Side, Man, other_side, king_of, IsOccupancy}
+use Rattle.egt_moves.specs.Prelude.{Reaches, Placement, Stands, IsFree, one_man, get-insert_same, get-insert_other}
+use Rattle.egt_moves.specs.Prelude.{get-remove_same, get-remove_other, IsKeptFrom, Setup, IsAdmissible, IsKingOn, Has}
+use Rattle.egt_moves.specs.Prelude.{Occupancy, sides_differ, side_twice}
 use Rattle.std.specs.FinMap as map
-use Rattle.egt_board.specs.declared.man.Side.{Side}
-use Rattle.egt_board.specs.declared.man.Man.{Man}
-use Rattle.egt_board.specs.Man.{other_side}
-use Rattle.egt_board.specs.Attack.{king_of}
-use Rattle.egt_board.specs.Occupancy.{IsOccupancy}
-use Rattle.egt_board.specs.AttackLines.{Reaches}
-use Rattle.egt_board.specs.Placement.{Placement, Stands, IsFree, one_man, get-insert_same, get-insert_other, get-remove_same, get-remove_other}
-use Rattle.egt_board.specs.Safety.{IsKeptFrom}
-use Rattle.egt_board.specs.Setup.{Setup, IsAdmissible, IsKingOn}
-use Rattle.egt_board.specs.SquareSet.{Has}
-use Rattle.egt_board.specs.declared.occupancy.Occupancy.{Occupancy}
-use Rattle.egt_board.proofs.Sides.{sides_differ, side_twice}
 use Rattle.egt_moves.proofs.After.{not_free}
 
 -- kings attack each other

@@ -1,26 +1,12 @@
 -- What a legal move does to the counts of men.
-use Rattle.std.proofs.Common.{◌≡◌, ◌≢◌, ℕ, ◌+◌, ◌<◌, ◌⊎◌, ◌&&◌, ◌==◌, Option, Some, None, IfSome, IsSome, true, false, Bool, refl, sym, ap, ◌∙◌, inl, inr, subst, if◌then◌else◌, arith}
-use Rattle.std.specs.Option.{is_some}
+use Rattle.egt_moves.specs.Prelude.{◌≡◌, ◌≢◌, ℕ, ◌+◌, ◌<◌, ◌⊎◌, ◌&&◌, ◌==◌, Option, Some, None, IfSome, IsSome, true}
+use Rattle.egt_moves.specs.Prelude.{false, Bool, refl, sym, ap, ◌∙◌, inl, inr, subst, if◌then◌else◌, arith, is_some}
+use Rattle.egt_moves.specs.Prelude.{eqb-true, eq-eqb, and_parts, false≢true, Side, White, Black, Kind, Q, R, B, N, P, K}
+use Rattle.egt_moves.specs.Prelude.{Man, other_side, rank_of, Placement, Stands, get-remove_other, ahead, pawn_of}
+use Rattle.egt_moves.specs.Prelude.{last_rank, IsTarget, target_rank, king_of, Setup, IsAdmissible, count_of}
+use Rattle.egt_moves.specs.Prelude.{stands_here, sides_differ, side_twice, Move, Captures, Exchanges, is_pawn, promotes}
+use Rattle.egt_moves.specs.Prelude.{IsOfficer, FitsPromotion, arriving, is_target, takes_in_passing, men_left, Leads}
 use Rattle.std.specs.FinMap as map
-use Rattle.std.proofs.lemmas.Bool.{eqb-true, eq-eqb, and_parts, false≢true}
-use Rattle.egt_board.specs.declared.man.Side.{Side}
-use Rattle.egt_board.specs.declared.man.Side.TheVariants.{White, Black}
-use Rattle.egt_board.specs.declared.man.Kind.{Kind}
-use Rattle.egt_board.specs.declared.man.Kind.TheVariants.{Q, R, B, N, P, K}
-use Rattle.egt_board.specs.declared.man.Man.{Man}
-use Rattle.egt_board.specs.Man.{other_side}
-use Rattle.egt_board.specs.Square.{rank_of}
-use Rattle.egt_board.specs.Placement.{Placement, Stands, get-remove_other}
-use Rattle.egt_board.specs.Pawn.{ahead, pawn_of, last_rank}
-use Rattle.egt_board.specs.Target.{IsTarget, target_rank}
-use Rattle.egt_board.specs.Attack.{king_of}
-use Rattle.egt_board.specs.Setup.{Setup, IsAdmissible}
-use Rattle.egt_board.specs.Images.{count_of, stands_here}
-use Rattle.egt_board.proofs.Sides.{sides_differ, side_twice}
-use Rattle.egt_moves.specs.declared.chess_move.Move.{Move}
-use Rattle.egt_moves.specs.Exchange.{Captures, Exchanges}
-use Rattle.egt_moves.specs.Promotion.{is_pawn, promotes, IsOfficer, FitsPromotion, arriving}
-use Rattle.egt_moves.specs.Legal.{is_target, takes_in_passing, men_left, Leads}
 use Rattle.egt_moves.proofs.After.{one_man, not_free, target_is, goes_on_board, goes_not_own, goes_to_attacked}
 
 -- what a change of one square does to the counts

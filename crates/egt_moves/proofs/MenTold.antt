@@ -1,25 +1,11 @@
 -- The men after a move, told by those before.
-use Rattle.std.proofs.Common.{◌≡◌, ◌≢◌, ℕ, ◌⊎◌, ◌&&◌, Option, Some, None, true, false, Bool, refl, sym, ap, ◌∙◌, inl, inr, subst, if◌then◌else◌}
-use Rattle.std.specs.Prelude.{◌==◌}
+use Rattle.egt_moves.specs.Prelude.{◌≡◌, ◌≢◌, ℕ, ◌⊎◌, ◌&&◌, Option, Some, None, true, false, Bool, refl, sym, ap, ◌∙◌}
+use Rattle.egt_moves.specs.Prelude.{inl, inr, subst, if◌then◌else◌, ◌==◌, eqb_tells, Side, White, Black, Kind, K, Man}
+use Rattle.egt_moves.specs.Prelude.{HasAllMen, AreApart, king_of, IsInCheck, StandsBeside, other_side, ahead, last_rank}
+use Rattle.egt_moves.specs.Prelude.{rank_of, Placement, Stands, one_man, Setup, IsAdmissible, IsKingOn, Move}
+use Rattle.egt_moves.specs.Prelude.{entry_after, square_after, Leads, after, is_target, men_left, men_after, is_pawn}
+use Rattle.egt_moves.specs.Prelude.{promotes, FitsPromotion, IsOfficer, arriving}
 use Rattle.std.specs.FinMap as map
-use Rattle.std.proofs.lemmas.Bool.Decides.{eqb_tells}
-use Rattle.egt_board.specs.declared.man.Side.{Side}
-use Rattle.egt_board.specs.declared.man.Side.TheVariants.{White, Black}
-use Rattle.egt_board.specs.declared.man.Kind.{Kind}
-use Rattle.egt_board.specs.declared.man.Kind.TheVariants.{K}
-use Rattle.egt_board.specs.declared.man.Man.{Man}
-use Rattle.egt_board.specs.AllMen.{HasAllMen, AreApart}
-use Rattle.egt_board.specs.Attack.{king_of, IsInCheck}
-use Rattle.egt_board.specs.NonKings.{StandsBeside}
-use Rattle.egt_board.specs.Man.{other_side}
-use Rattle.egt_board.specs.Pawn.{ahead, last_rank}
-use Rattle.egt_board.specs.Square.{rank_of}
-use Rattle.egt_board.specs.Placement.{Placement, Stands, one_man}
-use Rattle.egt_board.specs.Setup.{Setup, IsAdmissible, IsKingOn}
-use Rattle.egt_moves.specs.declared.chess_move.Move.{Move}
-use Rattle.egt_moves.specs.AllMen.{entry_after, square_after}
-use Rattle.egt_moves.specs.Legal.{Leads, after, is_target, men_left, men_after}
-use Rattle.egt_moves.specs.Promotion.{is_pawn, promotes, FitsPromotion, IsOfficer, arriving}
 use Rattle.egt_moves.proofs.Admissible.{admissible_after}
 use Rattle.egt_moves.proofs.After.{after_to, after_other, after_cases, MayBecome, may_become, not_king_of}
 

@@ -1,33 +1,16 @@
 -- In a mirror each legal move has its like.
-use Rattle.std.proofs.Common.{◌≡◌, ◌≢◌, ℕ, ◌+◌, ◌/◌, ◌==◌, ◌<◌, ◌⊎◌, ◌&&◌, ◌||◌, Bool, true, false, if◌then◌else◌, Option, Some, None, arith, refl, sym, ap, ◌∙◌, subst, inl, inr}
-use Rattle.std.specs.Option.{option_map}
+use Rattle.egt_moves.specs.Prelude.{◌≡◌, ◌≢◌, ℕ, ◌+◌, ◌/◌, ◌==◌, ◌<◌, ◌⊎◌, ◌&&◌, ◌||◌, Bool, true, false, if◌then◌else◌}
+use Rattle.egt_moves.specs.Prelude.{Option, Some, None, arith, refl, sym, ap, ◌∙◌, subst, inl, inr, option_map}
+use Rattle.egt_moves.specs.Prelude.{cases_eq, false≢true, and_parts, eqb_tells, Mirror, Files, Ranks, Diagonal, Colours}
+use Rattle.egt_moves.specs.Prelude.{Side, White, Black, Kind, Q, R, B, N, P, K, Man, other_side, rank_of, Placement}
+use Rattle.egt_moves.specs.Prelude.{Stands, IsFree, IsHeld, get-remove_same, get-remove_other, ahead, last_rank}
+use Rattle.egt_moves.specs.Prelude.{HasNoPawn, king_of, IsAttacked, IsInCheck, Setup, IsAdmissible, square_by, side_by}
+use Rattle.egt_moves.specs.Prelude.{man_by, IsMirrored, Allows, Move, chess, Zeroes, Goes, is_pawn, promotes}
+use Rattle.egt_moves.specs.Prelude.{FitsPromotion, arriving, Leads, is_target, takes_in_passing, men_left, men_after}
+use Rattle.egt_moves.specs.Prelude.{is_two_ranks, passed, after, Alike, HasLike, AreMirrored, IsCheckmate}
+use Rattle.egt_moves.specs.Prelude.{goes_on_board}
 use Rattle.std.specs.FinMap as map
-use Rattle.std.proofs.lemmas.Bool.{cases_eq, false≢true, and_parts}
-use Rattle.std.proofs.lemmas.Bool.Decides.{eqb_tells}
-use Rattle.egt_board.specs.declared.mirror.Mirror.{Mirror}
-use Rattle.egt_board.specs.declared.mirror.Mirror.TheVariants.{Files, Ranks, Diagonal, Colours}
-use Rattle.egt_board.specs.declared.man.Side.{Side}
-use Rattle.egt_board.specs.declared.man.Side.TheVariants.{White, Black}
-use Rattle.egt_board.specs.declared.man.Kind.{Kind}
-use Rattle.egt_board.specs.declared.man.Kind.TheVariants.{Q, R, B, N, P, K}
-use Rattle.egt_board.specs.declared.man.Man.{Man}
-use Rattle.egt_board.specs.Man.{other_side}
-use Rattle.egt_board.specs.Square.{rank_of}
-use Rattle.egt_board.specs.Placement.{Placement, Stands, IsFree, IsHeld, get-remove_same, get-remove_other}
-use Rattle.egt_board.specs.Pawn.{ahead, last_rank, HasNoPawn}
-use Rattle.egt_board.specs.Attack.{king_of, IsAttacked, IsInCheck}
-use Rattle.egt_board.specs.Setup.{Setup, IsAdmissible}
-use Rattle.egt_board.specs.Mirror.{square_by, side_by, man_by, IsMirrored, Allows}
 use Rattle.egt_board.specs.MirrorLaws as mirrors
-use Rattle.egt_moves.specs.declared.chess_move.Move.{Move}
-use Rattle.egt_moves.specs.Chess.{chess, Zeroes}
-use Rattle.egt_moves.specs.Going.{Goes}
-use Rattle.egt_moves.specs.Promotion.{is_pawn, promotes, FitsPromotion, arriving}
-use Rattle.egt_moves.specs.Legal.{Leads, is_target, takes_in_passing, men_left, men_after, is_two_ranks, passed, after}
-use Rattle.egt_moves.specs.Likeness.{Alike, HasLike}
-use Rattle.egt_board.specs.Mirrored.{AreMirrored}
-use Rattle.egt_moves.specs.Standing.{IsCheckmate}
-use Rattle.egt_moves.specs.DecidedMoves.{goes_on_board}
 use Rattle.egt_moves.proofs.After.{target_is, after_to, after_from, after_other, after_cases}
 use Rattle.egt_moves.proofs.Admissible.{admissible_after, arrived_pawn, pawn_told, Forward, takes_forward_of, two_ranks_told, two_forward, not_two, Leap, leap}
 

@@ -1,10 +1,9 @@
 -- The nearest checkmate by legal steps of both sides: a least number, that entries which fit show, and that positions which play alike share.
-use Rattle.std.proofs.Common.{◌≡◌, ℕ, zero, suc, ◌≤◌, ◌<◌, ◌⊎◌, inl, inr, refl, sym, subst, ap, arith, ◌∙◌, Option, Some, None}
-use Rattle.std.proofs.Math.Logic.{⊎_elim, ⊎_swap}
-use Rattle.std.proofs.lemmas.Bool.{cases_lt}
-use Rattle.egt_moves.specs.Arena.{Arena, SomeMove, EachMove, IsStalemate, IsMatedWithin, MatesWithin, IsDraw, Successors}
-use Rattle.egt_moves.specs.Likeness.{Alike}
-use Rattle.egt_moves.specs.Reach.{ReachesMateWithin, ReachesNoMateBefore, IsDead, HasReach, FitsReach, ReachJudgedOver}
+use Rattle.egt_moves.specs.Prelude.{◌≡◌, ℕ, zero, suc, ◌≤◌, ◌<◌, ◌⊎◌, inl, inr, refl, sym, subst, ap, arith, ◌∙◌}
+use Rattle.egt_moves.specs.Prelude.{Option, Some, None, ⊎_elim, ⊎_swap, cases_lt, Arena, SomeMove, EachMove}
+use Rattle.egt_moves.specs.Prelude.{IsStalemate, IsMatedWithin, MatesWithin, IsDraw, Successors, Alike}
+use Rattle.egt_moves.specs.Prelude.{ReachesMateWithin, ReachesNoMateBefore, IsDead, HasReach, FitsReach}
+use Rattle.egt_moves.specs.Prelude.{ReachJudgedOver}
 use Rattle.egt_moves.proofs.Halves.{each_or_some_move, mated_or_avoids, mates_or_cannot}
 
 module _ {S : Type 0} (a : Arena S) where

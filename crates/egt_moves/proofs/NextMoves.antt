@@ -1,20 +1,9 @@
 -- The legal moves are among finitely many: those of the men that stand on the board, to each of its squares.
-use Rattle.std.proofs.Common.{◌≡◌, ℕ, zero, suc, ◌<◌, inl, inr, List, [], ◌∷◌, Option, Some, None, refl, sym, subst, arith}
-use Rattle.std.specs.List.{Any}
-use Rattle.std.specs.Option.{IsSomeAnd}
-use Rattle.std.proofs.Math.Logic.{⊎_elim}
-use Rattle.std.proofs.lemmas.Bool.{cases_eq}
-use Rattle.egt_board.specs.declared.man.Kind.{Kind}
-use Rattle.egt_board.specs.declared.man.Kind.TheVariants.{Q, R, B, N, P, K}
-use Rattle.egt_board.specs.Among.{any_here, any_there, any_cons}
-use Rattle.egt_board.specs.Decided.{Decided}
-use Rattle.egt_board.specs.DecidedMen.{squares_of, on_square}
-use Rattle.egt_board.specs.Setup.{Setup}
-use Rattle.egt_moves.specs.declared.chess_move.Move.{Move}
-use Rattle.egt_moves.specs.Arena.{Next, SameStep, Successors}
-use Rattle.egt_moves.specs.Chess.{chess}
-use Rattle.egt_moves.specs.DecidedMoves.{goes_on_board, leads_to_one, decided_legal, decided_zeroes, decided_checkmate}
-use Rattle.egt_moves.specs.Legal.{Leads, IsLegal}
+use Rattle.egt_moves.specs.Prelude.{◌≡◌, ℕ, zero, suc, ◌<◌, inl, inr, List, [], ◌∷◌, Option, Some, None, refl, sym}
+use Rattle.egt_moves.specs.Prelude.{subst, arith, Any, IsSomeAnd, ⊎_elim, cases_eq, Kind, Q, R, B, N, P, K, any_here}
+use Rattle.egt_moves.specs.Prelude.{any_there, any_cons, Decided, squares_of, on_square, Setup, Move, Next, SameStep}
+use Rattle.egt_moves.specs.Prelude.{Successors, chess, goes_on_board, leads_to_one, decided_legal, decided_zeroes}
+use Rattle.egt_moves.specs.Prelude.{decided_checkmate, Leads, IsLegal}
 use Rattle.egt_moves.proofs.Deciding.{successors_among}
 use Rattle.egt_moves.proofs.After.{MayBecome, may_become}
 

@@ -1,28 +1,13 @@
 -- The squares to which legal moves go.
-use Rattle.std.proofs.Common.{◌≡◌, ◌≢◌, ◌↔◌, ℕ, ◌-◌, ◌<◌, ◌≤◌, Bool, true, false, cond, ◌&&◌, min, arith, Option, Some, None, refl, sym, ap, ◌∙◌, subst, inl, inr}
-use Rattle.std.specs.Int.{bit_at}
+use Rattle.egt_moves.specs.Prelude.{◌≡◌, ◌≢◌, ◌↔◌, ℕ, ◌-◌, ◌<◌, ◌≤◌, Bool, true, false, cond, ◌&&◌, min, arith, Option}
+use Rattle.egt_moves.specs.Prelude.{Some, None, refl, sym, ap, ◌∙◌, subst, inl, inr, bit_at, eqb_tells, Side, Kind, Q}
+use Rattle.egt_moves.specs.Prelude.{R, B, N, P, K, Man, other_side, Placement, Stands, ahead, IsAttacked, IsInCheck}
+use Rattle.egt_moves.specs.Prelude.{IsKeptFrom, Setup, IsAdmissible, IsKingOn, size_of, sides_differ, Move, Goes}
+use Rattle.egt_moves.specs.Prelude.{is_pawn, promotes, FitsPromotion, men_after, plain, is_target, takes_in_passing}
+use Rattle.egt_moves.specs.Prelude.{IsLegalTarget, IsSafeGoal, king_square}
 use Rattle.std.specs.FinMap as map
-use Rattle.std.proofs.lemmas.Bool.Decides.{eqb_tells}
-use Rattle.egt_board.specs.declared.man.Side.{Side}
-use Rattle.egt_board.specs.declared.man.Kind.{Kind}
-use Rattle.egt_board.specs.declared.man.Kind.TheVariants.{Q, R, B, N, P, K}
-use Rattle.egt_board.specs.declared.man.Man.{Man}
-use Rattle.egt_board.specs.Man.{other_side}
-use Rattle.egt_board.specs.Placement.{Placement, Stands}
-use Rattle.egt_board.specs.Pawn.{ahead}
-use Rattle.egt_board.specs.Attack.{IsAttacked, IsInCheck}
-use Rattle.egt_board.specs.Safety.{IsKeptFrom}
-use Rattle.egt_board.specs.Setup.{Setup, IsAdmissible, IsKingOn}
-use Rattle.egt_board.specs.SquareSet.{size_of}
-use Rattle.egt_board.proofs.Sides.{sides_differ}
-use Rattle.egt_moves.specs.declared.chess_move.Move.{Move}
-use Rattle.egt_moves.specs.Going.{Goes}
-use Rattle.egt_moves.specs.Promotion.{is_pawn, promotes, FitsPromotion}
-use Rattle.egt_moves.specs.Legal.{men_after, plain, is_target, takes_in_passing}
-use Rattle.egt_moves.specs.Targets.{IsLegalTarget, IsSafeGoal}
 use Rattle.egt_moves.proofs.After.{goes_on_board, king_moves, king_stays}
 use Rattle.egt_moves.proofs.Growing.{legal_of, goes_of, fits_of, safe_of, same_safety}
-use Rattle.egt_moves.specs.Room.{king_square}
 
 -- nothing is taken in passing by another man than a pawn, or on another square than the target
 pub not_passing : (p : Setup) (man : Man) (t : ℕ) → (man.kind ≡ P → p.target ≡ Some t → ⊥) → takes_in_passing p man t ≡ false

@@ -1,28 +1,12 @@
 -- A target that no pawn stands ready to take changes no move.
-use Rattle.std.proofs.Common.{◌≡◌, ◌≢◌, ℕ, ◌≤◌, ◌==◌, ◌⊎◌, ◌↔◌, Bool, true, false, if◌then◌else◌, Option, Some, None, IfSome, arith, sym, ap, ◌∙◌, subst, inl, inr}
+use Rattle.egt_moves.specs.Prelude.{◌≡◌, ◌≢◌, ℕ, ◌≤◌, ◌==◌, ◌⊎◌, ◌↔◌, Bool, true, false, if◌then◌else◌, Option, Some}
+use Rattle.egt_moves.specs.Prelude.{None, IfSome, arith, sym, ap, ◌∙◌, subst, inl, inr, cases_eq, Side, White, Black, P}
+use Rattle.egt_moves.specs.Prelude.{Man, other_side, rank_of, Stands, IsFree, Rides, OneOf, pawn_steps, pawn_of, ahead}
+use Rattle.egt_moves.specs.Prelude.{home_rank, farthest_advance, Advances, IsBeside, HasPawnBeside, IsTarget}
+use Rattle.egt_moves.specs.Prelude.{target_rank, Setup, IsAdmissible, IsSettled, untargeted, SettlesTo, Move, chess}
+use Rattle.egt_moves.specs.Prelude.{Zeroes, Goes, arriving, Leads, men_left, passed, after, Alike, KeepsSteps}
+use Rattle.egt_moves.specs.Prelude.{IsCheckmate, one_man, sides_differ}
 use Rattle.std.specs.FinMap as map
-use Rattle.std.proofs.lemmas.Bool.{cases_eq}
-use Rattle.egt_board.specs.declared.man.Side.{Side}
-use Rattle.egt_board.specs.declared.man.Side.TheVariants.{White, Black}
-use Rattle.egt_board.specs.declared.man.Kind.TheVariants.{P}
-use Rattle.egt_board.specs.declared.man.Man.{Man}
-use Rattle.egt_board.specs.Man.{other_side}
-use Rattle.egt_board.specs.Square.{rank_of}
-use Rattle.egt_board.specs.Placement.{Stands, IsFree}
-use Rattle.egt_board.specs.AttackLines.{Rides, OneOf, pawn_steps}
-use Rattle.egt_board.specs.Pawn.{pawn_of, ahead, home_rank, farthest_advance, Advances, IsBeside, HasPawnBeside}
-use Rattle.egt_board.specs.Target.{IsTarget, target_rank}
-use Rattle.egt_board.specs.Setup.{Setup, IsAdmissible}
-use Rattle.egt_board.specs.Settled.{IsSettled, untargeted, SettlesTo}
-use Rattle.egt_moves.specs.declared.chess_move.Move.{Move}
-use Rattle.egt_moves.specs.Chess.{chess, Zeroes}
-use Rattle.egt_moves.specs.Going.{Goes}
-use Rattle.egt_moves.specs.Promotion.{arriving}
-use Rattle.egt_moves.specs.Legal.{Leads, men_left, passed, after}
-use Rattle.egt_moves.specs.Likeness.{Alike, KeepsSteps}
-use Rattle.egt_moves.specs.Standing.{IsCheckmate}
-use Rattle.egt_board.specs.Placement.{one_man}
-use Rattle.egt_board.proofs.Sides.{sides_differ}
 use Rattle.egt_moves.proofs.After.{Passing, target_is, left_cases}
 use Rattle.egt_moves.proofs.Admissible.{Forward, advances_forward, from_home, pawn_reaches}
 use Rattle.egt_moves.proofs.Likeness.{alike_by_steps}

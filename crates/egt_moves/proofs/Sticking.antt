@@ -1,13 +1,6 @@
 -- The search for a legal move.
-use Rattle.std.proofs.Common.{◌≡◌, ◌≢◌, ◌↔◌, ℕ, ◌∙◌, subst, inl, inr, arith}
-use Rattle.std.specs.Int.{bit_at}
-use Rattle.std.proofs.lemmas.Bool.{cases_eq}
-use Rattle.egt_board.specs.Placement.{IsHeld}
-use Rattle.egt_board.specs.Setup.{Setup}
-use Rattle.egt_moves.specs.declared.chess_move.Move.{Move}
-use Rattle.egt_moves.specs.Legal.{IsLegal}
-use Rattle.egt_moves.specs.Targets.{IsLegalTarget}
-use Rattle.egt_moves.specs.Standing.{IsStuck, CanMove}
+use Rattle.egt_moves.specs.Prelude.{◌≡◌, ◌≢◌, ◌↔◌, ℕ, ◌∙◌, subst, inl, inr, arith, bit_at, cases_eq, IsHeld, Setup}
+use Rattle.egt_moves.specs.Prelude.{Move, IsLegal, IsLegalTarget, IsStuck, CanMove}
 
 -- legal moves leave squares of the set alone
 abbrev pub LeavesSet : Setup → ℕ → Type 0

@@ -1,15 +1,9 @@
 -- Trying the legal moves one after the other.
-use Rattle.std.proofs.Common.{◌≡◌, ℕ, suc, ◌+◌, ◌-◌, ◌<◌, ◌≤◌, ◌↔◌, inl, inr, List, get_or, length, sym, subst, arith, ◌∙◌}
-use Rattle.std.specs.List.{Contains}
-use Rattle.std.proofs.lemmas.Bool.{cases_lt}
-use Rattle.std.proofs.lemmas.List.{get_or_default}
-use Rattle.egt_board.specs.Setup.{Setup}
-use Rattle.egt_moves.specs.declared.chess_move.Move.{Move}
-use Rattle.egt_moves.specs.Arena.{HasMove, EachMove, IsMatedWithin, MatesWithin, AvoidsMateFor, CannotMateWithin}
-use Rattle.egt_moves.specs.Chess.{chess}
-use Rattle.egt_moves.specs.Legal.{Leads, IsLegal}
+use Rattle.egt_moves.specs.Prelude.{◌≡◌, ℕ, suc, ◌+◌, ◌-◌, ◌<◌, ◌≤◌, ◌↔◌, inl, inr, List, get_or, length, sym, subst}
+use Rattle.egt_moves.specs.Prelude.{arith, ◌∙◌, Contains, cases_lt, get_or_default, Setup, Move, HasMove, EachMove}
+use Rattle.egt_moves.specs.Prelude.{IsMatedWithin, MatesWithin, AvoidsMateFor, CannotMateWithin, chess, Leads, IsLegal}
+use Rattle.egt_moves.specs.Prelude.{leads_to_one}
 use Rattle.egt_moves.specs.Standing.{IsCheckmate, IsStalemate, CanMove}
-use Rattle.egt_moves.specs.DecidedMoves.{leads_to_one}
 use Rattle.egt_moves.proofs.Searching.{stalemate_avoids}
 
 -- each of the first n moves leads to a position with P

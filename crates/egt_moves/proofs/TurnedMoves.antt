@@ -1,17 +1,8 @@
 -- Each move of a position has its like in the turned position.
-use Rattle.std.proofs.Common.{ℕ, ◌↔◌, ◌/◌, ◌%◌, ◌==◌, Bool, true, false, refl, sym, subst, inl, inr}
-use Rattle.egt_board.specs.declared.mirror.Mirror.{Mirror}
-use Rattle.egt_board.specs.declared.mirror.Mirror.TheVariants.{Files, Ranks, Diagonal, Colours}
-use Rattle.egt_board.specs.Attack.{IsInCheck}
-use Rattle.egt_board.specs.Pawn.{HasNoPawn}
-use Rattle.egt_board.specs.Setup.{Setup, IsAdmissible}
-use Rattle.egt_board.specs.Mirrored.{AreMirroredIf, ComesByMirrors}
-use Rattle.egt_board.specs.Symmetry.{square_if, KeepsPlay}
-use Rattle.egt_moves.specs.declared.chess_move.Move.{Move}
-use Rattle.egt_moves.specs.Chess.{Zeroes}
-use Rattle.egt_moves.specs.Legal.{Leads}
-use Rattle.egt_moves.specs.Turned.{turned_move}
-use Rattle.egt_moves.specs.DecidedMoves.{goes_on_board}
+use Rattle.egt_moves.specs.Prelude.{ℕ, ◌↔◌, ◌/◌, ◌%◌, ◌==◌, Bool, true, false, refl, sym, subst, inl, inr, Mirror}
+use Rattle.egt_moves.specs.Prelude.{Files, Ranks, Diagonal, Colours, IsInCheck, HasNoPawn, Setup, IsAdmissible}
+use Rattle.egt_moves.specs.Prelude.{AreMirroredIf, ComesByMirrors, square_if, KeepsPlay, Move, Zeroes, Leads}
+use Rattle.egt_moves.specs.Prelude.{turned_move, goes_on_board}
 use Rattle.egt_moves.proofs.Admissible.{admissible_after}
 use Rattle.egt_moves.proofs.MirroredMoves.{move_by, leads_there, zeroes_there, zeroes_back, no_pawn_after}
 

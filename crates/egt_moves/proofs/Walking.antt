@@ -1,18 +1,8 @@
 -- The list of moves over all men of the side to move.
-use Rattle.std.proofs.Common.{◌≡◌, ◌≢◌, ℕ, ◌+◌, ◌*◌, ◌<◌, ◌≤◌, ◌↔◌, ◌⊎◌, List, length, arith, sym, ap, ◌∙◌, inl, inr, subst}
-use Rattle.std.specs.Int.{bit_at}
-use Rattle.std.specs.List.{Contains}
-use Rattle.std.proofs.lemmas.Bool.{cases_eq, cases_lt}
-use Rattle.egt_board.specs.declared.man.Man.{Man}
-use Rattle.egt_board.specs.declared.square_set.SquareSet.{SquareSet}
-use Rattle.egt_board.specs.Placement.{Stands, IsHeld}
-use Rattle.egt_board.specs.SquareSet.{Has, size_of}
-use Rattle.egt_board.specs.Setup.{Setup, IsAdmissible}
-use Rattle.egt_moves.specs.declared.chess_move.Move.{Move}
-use Rattle.egt_moves.specs.Legal.{IsLegal}
-use Rattle.egt_moves.specs.Room.{most_moves, HasRoom, room_for_man, room_for_others}
-use Rattle.egt_moves.specs.Order.{place_of, IsInOrder}
-use Rattle.egt_moves.specs.DecidedMoves.{goes_on_board}
+use Rattle.egt_moves.specs.Prelude.{◌≡◌, ◌≢◌, ℕ, ◌+◌, ◌*◌, ◌<◌, ◌≤◌, ◌↔◌, ◌⊎◌, List, length, arith, sym, ap, ◌∙◌, inl}
+use Rattle.egt_moves.specs.Prelude.{inr, subst, bit_at, Contains, cases_eq, cases_lt, Man, SquareSet, Stands, IsHeld}
+use Rattle.egt_moves.specs.Prelude.{Has, size_of, Setup, IsAdmissible, Move, IsLegal, most_moves, HasRoom, room_for_man}
+use Rattle.egt_moves.specs.Prelude.{room_for_others, place_of, IsInOrder, goes_on_board}
 use Rattle.egt_moves.proofs.Growing.{promotion_small}
 
 -- the legal moves from the squares that are no longer left are listed, and there is room for the others

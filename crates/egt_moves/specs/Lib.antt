@@ -18,3 +18,4 @@ pub mod Moves
 pub mod Exchange
 pub mod AllMen
 pub mod Reach
+pub mod Prelude

@@ -1,8 +1,5 @@
 //! What legal moves do to the men. These functions do nothing: a caller calls one to know what it ensures.
-ghost use Rattle.egt_board.specs.Setup.{Setup, IsAdmissible};
-ghost use Rattle.egt_moves.specs.declared.chess_move.Move.{Move};
-ghost use Rattle.egt_moves.specs.Exchange.{Exchanges};
-ghost use Rattle.egt_moves.specs.Legal.{Leads};
+ghost use Rattle.egt_moves.specs.Prelude.{Setup, IsAdmissible, Move, Exchanges, Leads};
 
 use egt_board::counting::one_square_changes;
 

@@ -1,8 +1,6 @@
 //! Whether checkmate is forced within some number of plies, by plain play.
-ghost use Rattle.std.specs.Prelude.{◌≤◌, MatchBool};
-ghost use Rattle.egt_moves.specs.Arena.{IsMatedWithin, MatesWithin, AvoidsMateFor, CannotMateWithin};
-ghost use Rattle.egt_moves.specs.Chess.{chess};
-ghost use Rattle.egt_moves.specs.Legal.{IsLegal, Leads};
+ghost use Rattle.egt_moves.specs.Prelude.{◌≤◌, MatchBool, IsMatedWithin, MatesWithin, AvoidsMateFor, CannotMateWithin};
+ghost use Rattle.egt_moves.specs.Prelude.{chess, IsLegal, Leads};
 
 use crate::listing::legal_moves;
 use crate::outcome::Standing;

@@ -1,15 +1,7 @@
 //! Where a man may go, and the board after it has gone there.
-ghost use Rattle.std.specs.Prelude.{◌≡◌, ℕ, ◌≤◌, ◌↔◌, ◌⊎◌, IsTrue, Some};
-ghost use Rattle.egt_board.specs.Attack.{IsInCheck};
-ghost use Rattle.egt_board.specs.Occupancy.{IsOccupancy};
-ghost use Rattle.egt_board.specs.Placement.{Stands, IsHeld};
-ghost use Rattle.egt_board.specs.Setup.{IsAdmissible, IsKingOn};
-ghost use Rattle.egt_board.specs.SquareSet.{Has, size_of};
-ghost use Rattle.egt_board.specs.Man.{other_side};
-ghost use Rattle.egt_board.specs.declared.man.Kind.TheVariants.{P};
-ghost use Rattle.egt_moves.specs.Going.{Goes, PieceGoes, PawnTakes};
-ghost use Rattle.egt_moves.specs.Legal.{men_after, men_left, takes_in_passing, passed, plain};
-ghost use Rattle.egt_moves.specs.Room.{most_goals};
+ghost use Rattle.egt_moves.specs.Prelude.{◌≡◌, ℕ, ◌≤◌, ◌↔◌, ◌⊎◌, IsTrue, Some, IsInCheck, IsOccupancy, Stands, IsHeld};
+ghost use Rattle.egt_moves.specs.Prelude.{IsAdmissible, IsKingOn, Has, size_of, other_side, P, Goes, PieceGoes};
+ghost use Rattle.egt_moves.specs.Prelude.{PawnTakes, men_after, men_left, takes_in_passing, passed, plain, most_goals};
 
 use crate::chess_move::Move;
 use crate::promotion::arriving;

@@ -1,26 +1,13 @@
 //! What holds of the rules of play alone. These functions do nothing: a caller calls one to know what it
 //! ensures.
 
-ghost use Rattle.std.specs.Prelude.{◌≡◌, ◌↔◌, ◌⊎◌, ℕ, suc, ◌<◌, ◌≤◌, Bool, IsTrue, Option};
-ghost use Rattle.std.specs.List.{Contains};
-ghost use Rattle.egt_board.specs.Images.{AreImages};
-ghost use Rattle.egt_board.specs.Settled.{SettlesTo};
-ghost use Rattle.egt_board.specs.Setup.{Setup, IsAdmissible};
-ghost use Rattle.egt_board.specs.declared.mirror.Mirror.{Mirror};
-ghost use Rattle.egt_board.specs.Symmetry.{KeepsPlay};
-ghost use Rattle.egt_board.specs.Turned.{IsTurnedBy};
-ghost use Rattle.egt_moves.specs.declared.chess_move.Move.{Move};
-ghost use Rattle.egt_moves.specs.Arena.{Value, Win, Loss, SomeMove, EachMove, HasValue, IsMatedWithin, MatesWithin, AvoidsMateFor, CannotMateWithin, AnswersWithin};
-ghost use Rattle.egt_moves.specs.Chess.{chess, Zeroes};
-ghost use Rattle.egt_moves.specs.Legal.{Leads, IsLegal};
-ghost use Rattle.egt_moves.specs.Moves.{moves_of, played};
-ghost use Rattle.egt_moves.specs.Order.{IsInOrder};
-ghost use Rattle.egt_moves.specs.Standing.{IsCheckmate};
-ghost use Rattle.egt_moves.specs.Turned.{turned_move};
-ghost use Rattle.egt_moves.specs.Entries.{JudgedOver, ZeroingJudgedOver};
-ghost use Rattle.egt_moves.specs.Likeness.{IsMirror};
-ghost use Rattle.egt_board.specs.Mirrored.{AreMirrored};
-ghost use Rattle.egt_moves.specs.Zeroing.{HasZeroing, ZeroesLosingWithin, ZeroesWinningWithin};
+ghost use Rattle.egt_moves.specs.Prelude.{◌≡◌, ◌↔◌, ◌⊎◌, ℕ, suc, ◌<◌, ◌≤◌, Bool, IsTrue, Option, Contains, AreImages};
+ghost use Rattle.egt_moves.specs.Prelude.{SettlesTo, Setup, IsAdmissible, Mirror, KeepsPlay, IsTurnedBy, Move, Value};
+ghost use Rattle.egt_moves.specs.Prelude.{Win, Loss, SomeMove, EachMove, HasValue, IsMatedWithin, MatesWithin};
+ghost use Rattle.egt_moves.specs.Prelude.{AvoidsMateFor, CannotMateWithin, AnswersWithin, chess, Zeroes, Leads};
+ghost use Rattle.egt_moves.specs.Prelude.{IsLegal, moves_of, played, IsInOrder, IsCheckmate, turned_move, JudgedOver};
+ghost use Rattle.egt_moves.specs.Prelude.{ZeroingJudgedOver, IsMirror, AreMirrored, HasZeroing, ZeroesLosingWithin};
+ghost use Rattle.egt_moves.specs.Prelude.{ZeroesWinningWithin};
 
 use egt_board::laws::{images_are_turns, images_come_by_mirrors, turns_come_by_mirrors};
 

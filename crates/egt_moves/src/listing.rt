@@ -1,15 +1,7 @@
 //! The list of legal moves.
-ghost use Rattle.std.specs.Prelude.{◌≡◌, ◌+◌, ◌*◌, ◌<◌, ◌≤◌, ◌↔◌, ◌⊎◌};
-ghost use Rattle.std.specs.List.{Contains};
-ghost use Rattle.arrayvec.specs.ArrayVec.{array_vec_len};
-ghost use Rattle.egt_board.specs.Occupancy.{IsOccupancy};
-ghost use Rattle.egt_board.specs.Placement.{Stands};
-ghost use Rattle.egt_moves.specs.Legal.{IsLegal};
-ghost use Rattle.egt_moves.specs.Moves.{moves_of};
-ghost use Rattle.egt_moves.specs.Order.{IsInOrder, place_of};
-ghost use Rattle.egt_moves.specs.Promotion.{FitsPromotion, promotes};
-ghost use Rattle.egt_moves.specs.Room.{most_choices, most_moves};
-ghost use Rattle.egt_moves.specs.declared.chess_move.Move.{Move};
+ghost use Rattle.egt_moves.specs.Prelude.{◌≡◌, ◌+◌, ◌*◌, ◌<◌, ◌≤◌, ◌↔◌, ◌⊎◌, Contains, array_vec_len, IsOccupancy};
+ghost use Rattle.egt_moves.specs.Prelude.{Stands, IsLegal, moves_of, IsInOrder, place_of, FitsPromotion, promotes};
+ghost use Rattle.egt_moves.specs.Prelude.{most_choices, most_moves, Move};
 
 use crate::chess_move::Move;
 use crate::promotion::{OFFICERS, promotes};

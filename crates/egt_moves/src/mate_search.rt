@@ -1,8 +1,5 @@
 //! The search for mate.
-ghost use Rattle.std.specs.Prelude.{◌≤◌};
-ghost use Rattle.egt_moves.specs.Arena.{AnswersWithin};
-ghost use Rattle.egt_moves.specs.Chess.{chess};
-ghost use Rattle.egt_moves.specs.Found.{found};
+ghost use Rattle.egt_moves.specs.Prelude.{◌≤◌, AnswersWithin, chess, found};
 
 use crate::forcing::{is_mated_within, mates_within};
 use crate::found::Search;

@@ -1,9 +1,6 @@
 //! All men of a position, and where they stand after a move, with no board.
-ghost use Rattle.std.specs.Prelude.{◌≡◌, ◌≢◌, true, Some, None};
-ghost use Rattle.egt_board.specs.Setup.{Setup, IsAdmissible};
-ghost use Rattle.egt_moves.specs.AllMen.{AreMenOf, entry_after, square_after};
-ghost use Rattle.egt_moves.specs.Legal.{Leads, is_two_ranks};
-ghost use Rattle.egt_moves.specs.declared.chess_move.Move.{Move};
+ghost use Rattle.egt_moves.specs.Prelude.{◌≡◌, ◌≢◌, true, Some, None, Setup, IsAdmissible, AreMenOf, entry_after};
+ghost use Rattle.egt_moves.specs.Prelude.{square_after, Leads, is_two_ranks, Move};
 
 use crate::chess_move::Move;
 use crate::promotion::arriving;

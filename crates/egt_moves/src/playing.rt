@@ -1,11 +1,6 @@
 //! What a move leads to.
-ghost use Rattle.std.specs.Prelude.{◌≡◌, IfSome, IfNone};
-ghost use Rattle.egt_board.specs.Attack.{IsInCheck};
-ghost use Rattle.egt_board.specs.Placement.{Stands};
-ghost use Rattle.egt_board.specs.Setup.{Setup, IsAdmissible, IsKingOn};
-ghost use Rattle.egt_moves.specs.Going.{Goes};
-ghost use Rattle.egt_moves.specs.Legal.{Leads, IsLegal, men_after, after};
-ghost use Rattle.egt_moves.specs.Promotion.{FitsPromotion, promotes};
+ghost use Rattle.egt_moves.specs.Prelude.{◌≡◌, IfSome, IfNone, IsInCheck, Stands, Setup, IsAdmissible, IsKingOn, Goes};
+ghost use Rattle.egt_moves.specs.Prelude.{Leads, IsLegal, men_after, after, FitsPromotion, promotes};
 
 use crate::chess_move::Move;
 use crate::going::{moved, passed};

@@ -1,6 +1,5 @@
 //! What becomes of a pawn on the last rank.
-ghost use Rattle.std.specs.Prelude.{◌≡◌, ◌↔◌, IsTrue};
-ghost use Rattle.egt_moves.specs.Promotion.{promotes, FitsPromotion, arriving, IsOfficer};
+ghost use Rattle.egt_moves.specs.Prelude.{◌≡◌, ◌↔◌, IsTrue, promotes, FitsPromotion, arriving, IsOfficer};
 
 use egt_board::{Kind, Man, Square};
 

@@ -1,6 +1,5 @@
 //! Checkmate and stalemate.
-ghost use Rattle.std.specs.Prelude.{MatchBool};
-ghost use Rattle.egt_moves.specs.Standing.{StandsAs, CanMove, IsStuck};
+ghost use Rattle.egt_moves.specs.Prelude.{MatchBool, StandsAs, CanMove, IsStuck};
 
 use crate::outcome::Standing;
 use crate::targets::legal_targets;

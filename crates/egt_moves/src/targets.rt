@@ -1,19 +1,9 @@
 //! The squares to which legal moves go: FIDE Laws of Chess 2023, articles 3.1 to 3.9.
-ghost use Rattle.std.specs.Prelude.{◌≡◌, ◌≢◌, ℕ, ◌<◌, ◌≤◌, ◌↔◌, Some, IsTrue, IfSome, IfNone};
+ghost use Rattle.egt_moves.specs.Prelude.{◌≡◌, ◌≢◌, ℕ, ◌<◌, ◌≤◌, ◌↔◌, Some, IsTrue, IfSome, IfNone, IsAttacked};
+ghost use Rattle.egt_moves.specs.Prelude.{IsInCheck, IsOccupancy, other_side, Stands, IsKeptFrom, IsAdmissible};
+ghost use Rattle.egt_moves.specs.Prelude.{IsKingOn, Has, size_of, K, P, Man, Goes, men_after, plain, most_goals};
+ghost use Rattle.egt_moves.specs.Prelude.{IsLegalTarget, IsSafeGoal};
 ghost use Rattle.std.specs.FinMap as map;
-ghost use Rattle.egt_board.specs.Attack.{IsAttacked, IsInCheck};
-ghost use Rattle.egt_board.specs.Occupancy.{IsOccupancy};
-ghost use Rattle.egt_board.specs.Man.{other_side};
-ghost use Rattle.egt_board.specs.Placement.{Stands};
-ghost use Rattle.egt_board.specs.Safety.{IsKeptFrom};
-ghost use Rattle.egt_board.specs.Setup.{IsAdmissible, IsKingOn};
-ghost use Rattle.egt_board.specs.SquareSet.{Has, size_of};
-ghost use Rattle.egt_board.specs.declared.man.Kind.TheVariants.{K, P};
-ghost use Rattle.egt_board.specs.declared.man.Man.{Man};
-ghost use Rattle.egt_moves.specs.Going.{Goes};
-ghost use Rattle.egt_moves.specs.Legal.{men_after, plain};
-ghost use Rattle.egt_moves.specs.Room.{most_goals};
-ghost use Rattle.egt_moves.specs.Targets.{IsLegalTarget, IsSafeGoal};
 
 use crate::going::{is_safe, targets};
 use egt_board::safety::{attacks_pass_over_no_occupant, kings_attack_each_other};

@@ -1,8 +1,5 @@
 //! Captures and moves of pawns.
-ghost use Rattle.std.specs.Prelude.{◌↔◌, IsTrue};
-ghost use Rattle.egt_board.specs.Man.{other_side};
-ghost use Rattle.egt_board.specs.Placement.{IsHeld};
-ghost use Rattle.egt_moves.specs.Chess.{Zeroes, IsPawnOn};
+ghost use Rattle.egt_moves.specs.Prelude.{◌↔◌, IsTrue, other_side, IsHeld, Zeroes, IsPawnOn};
 
 use crate::chess_move::Move;
 use egt_board::{Kind, Position, Square};

@@ -1,17 +1,11 @@
 -- Lines answered one after the other.
-use Rattle.std.proofs.Common.{◌≡◌, ◌≢◌, ℕ, ◌+◌, List, [], ◌∷◌, ◌++◌, length, take, Option, Some, None, refl, sym, ap, ◌∙◌, subst, append_assoc, append-nil, arith}
-use Rattle.std.proofs.KnownBytes.{Appends-nil, Appends-trans, Appends-kept, Consumes-trans}
-use Rattle.std.proofs.lemmas.List.{take_all}
-use Rattle.std.proofs.Math.Seq.{take-append-add, take-append_seam}
-use Rattle.std.specs.Io.KnownBytes.{Appends, Consumes, IsAtEnd, Keeps}
-use Rattle.egt_table.specs.Stream.{AppendsFront}
-use Rattle.egt_probe.specs.declared.fault.AnswerFault.{AnswerFault}
+use Rattle.egt_probe.specs.Prelude.{◌≡◌, ◌≢◌, ℕ, ◌+◌, List, [], ◌∷◌, ◌++◌, length, take, Option, Some, None, refl, sym}
+use Rattle.egt_probe.specs.Prelude.{ap, ◌∙◌, subst, append_assoc, append-nil, arith, Appends-nil, Appends-trans}
+use Rattle.egt_probe.specs.Prelude.{Appends-kept, Consumes-trans, take_all, take-append-add, take-append_seam, Appends}
+use Rattle.egt_probe.specs.Prelude.{Consumes, IsAtEnd, Keeps, AppendsFront, AnswerFault, OpenLine, Reports, Wrote}
+use Rattle.egt_probe.specs.Prelude.{WroteFront, WroteBy, Stopped, AreLinesOf, AnsweredAll, AnsweredSome, Holds}
+use Rattle.egt_probe.specs.Prelude.{Advanced, StoppedIn, lines_of, with_front, Loaded, Report}
 use Rattle.egt_probe.specs.declared.fault.AnswerFault.TheVariants.{Device, NoMemory}
-use Rattle.egt_probe.specs.declared.open_line.OpenLine.{OpenLine}
-use Rattle.egt_probe.specs.Answer.{Reports, Wrote, WroteFront, WroteBy, Stopped, AreLinesOf, AnsweredAll, AnsweredSome, Holds, Advanced, StoppedIn}
-use Rattle.egt_probe.specs.Lines.{lines_of, with_front}
-use Rattle.egt_probe.specs.Loaded.{Loaded}
-use Rattle.egt_probe.specs.Report.{Report}
 use Rattle.egt_probe.proofs.Splitting.{front_last, fed, grown}
 
 module _ (loaded : Loaded) where

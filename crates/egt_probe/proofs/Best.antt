@@ -1,19 +1,9 @@
 -- Moves of best play, by the entries of where they lead.
-use Rattle.std.proofs.Common.{◌≡◌, ℕ, zero, suc, ◌≤◌, Option, Some, None, IfNone, IsSome, List, [], ◌∷◌, ◌++◌, refl, sym, ap, ◌∙◌, subst, arith, append_assoc, append-nil}
-use Rattle.egt_board.specs.declared.man.Side.{Side}
-use Rattle.egt_board.specs.declared.man.Side.TheVariants.{White, Black}
-use Rattle.egt_board.specs.Man.{other_side}
-use Rattle.egt_board.specs.Setup.{Setup}
-use Rattle.egt_moves.specs.Arena.{Value, SomeMove, HasValue}
-use Rattle.egt_moves.specs.Chess.{chess}
-use Rattle.egt_moves.specs.Found.{mate_by}
-use Rattle.egt_moves.specs.Legal.{Leads}
-use Rattle.egt_moves.specs.declared.chess_move.Move.{Move}
-use Rattle.egt_entries.specs.Entry.{IsShort, Shows, entry_of}
-use Rattle.egt_check.specs.Reading.{shown_once}
-use Rattle.egt_probe.specs.Facts.{Facts}
-use Rattle.egt_probe.specs.Line.{IsFirstTo, next_value, IsLine}
-use Rattle.egt_probe.specs.Search.{Misses, IsFirstWith}
+use Rattle.egt_probe.specs.Prelude.{◌≡◌, ℕ, zero, suc, ◌≤◌, Option, Some, None, IfNone, IsSome, List, [], ◌∷◌, ◌++◌}
+use Rattle.egt_probe.specs.Prelude.{refl, sym, ap, ◌∙◌, subst, arith, append_assoc, append-nil, Side, White, Black}
+use Rattle.egt_probe.specs.Prelude.{other_side, Setup, Value, SomeMove, HasValue, chess, mate_by, Leads, Move, IsShort}
+use Rattle.egt_probe.specs.Prelude.{Shows, entry_of, shown_once, Facts, IsFirstTo, next_value, IsLine, Misses}
+use Rattle.egt_probe.specs.Prelude.{IsFirstWith}
 
 -- a value that a position has, of few plies, has an entry
 pub short : (s w : Side) (n : ℕ) (q : Setup) → HasValue chess q (mate_by s w n) → n ≤ 32000 → IsShort (mate_by s w n)

@@ -1,18 +1,8 @@
 -- Moves that are best play.
-use Rattle.std.proofs.Common.{◌≡◌, ℕ, zero, suc, List, [], ◌∷◌, Option, Some, None, IfSome, refl, sym, ap, ◌∙◌, subst, arith, inl, inr}
-use Rattle.std.proofs.lemmas.Bool.{cases_lt}
-use Rattle.egt_board.specs.declared.man.Side.{Side}
-use Rattle.egt_board.specs.declared.man.Side.TheVariants.{White, Black}
-use Rattle.egt_board.specs.Man.{other_side}
-use Rattle.egt_board.specs.Setup.{Setup}
-use Rattle.egt_moves.specs.Arena.{Value, Win, Loss, Draw}
-use Rattle.egt_moves.specs.Found.{mate_by}
-use Rattle.egt_moves.specs.Order.{place_of}
-use Rattle.egt_moves.specs.declared.chess_move.Move.{Move}
-use Rattle.egt_probe.specs.Best.{best_value, IsBest}
-use Rattle.egt_probe.specs.Facts.{Facts}
-use Rattle.egt_probe.specs.Hold.{IsHold}
-use Rattle.egt_probe.specs.Line.{IsFirstTo, next_value, IsLine}
+use Rattle.egt_probe.specs.Prelude.{◌≡◌, ℕ, zero, suc, List, [], ◌∷◌, Option, Some, None, IfSome, refl, sym, ap, ◌∙◌}
+use Rattle.egt_probe.specs.Prelude.{subst, arith, inl, inr, cases_lt, Side, White, Black, other_side, Setup, Value, Win}
+use Rattle.egt_probe.specs.Prelude.{Loss, Draw, mate_by, place_of, Move, best_value, IsBest, Facts, IsHold, IsFirstTo}
+use Rattle.egt_probe.specs.Prelude.{next_value, IsLine}
 
 -- the move that holds a draw is one
 pub best_of_hold : (p : Setup) (m : Option Move) → IsHold p m → IsBest p m

@@ -1,16 +1,7 @@
 -- What the column of the nearest mates tells of dead positions.
-use Rattle.std.proofs.Common.{◌≡◌, ◌≢◌, ℕ, Option, Some, None, refl, sym, ◌∙◌, arith}
-use Rattle.egt_board.specs.Setup.{Setup, IsAdmissible}
-use Rattle.egt_index.specs.Index.{IsIndex}
-use Rattle.egt_moves.specs.Chess.{chess}
-use Rattle.egt_moves.specs.Reach.{IsDead, HasReach}
-use Rattle.egt_moves.specs.Standing.{IsStalemate, StandsAs}
-use Rattle.egt_moves.specs.declared.outcome.Standing.{Standing}
-use Rattle.egt_moves.specs.declared.outcome.Standing.TheVariants.{Checkmate, Stalemate, HasMove}
-use Rattle.egt_table.specs.Table.{TableValue}
-use Rattle.egt_entries.specs.Reach.{ShowsReach}
-use Rattle.egt_entries.specs.Tables.{reach_at}
-use Rattle.egt_entries.specs.Truth.{IsTrueReach}
+use Rattle.egt_probe.specs.Prelude.{◌≡◌, ◌≢◌, ℕ, Option, Some, None, refl, sym, ◌∙◌, arith, Setup, IsAdmissible}
+use Rattle.egt_probe.specs.Prelude.{IsIndex, chess, IsDead, HasReach, IsStalemate, StandsAs, Standing, Checkmate}
+use Rattle.egt_probe.specs.Prelude.{Stalemate, HasMove, TableValue, ShowsReach, reach_at, IsTrueReach}
 
 dead_if_one : (p : Setup) (x : ℕ) (number : Option ℕ) → HasReach chess p number → ShowsReach x number → x ≡ 1 → IsDead chess p
 dead_if_one p x (Some n) has shows e = absurd (omega (arith, shows.1, e))

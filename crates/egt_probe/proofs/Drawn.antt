@@ -1,14 +1,7 @@
 -- Drawn positions.
-use Rattle.std.proofs.Common.{◌≢◌, ℕ, zero, suc, ◌≤◌, Option, Some, None, IsSome, refl, inr, arith}
-use Rattle.egt_board.specs.Setup.{Setup}
-use Rattle.egt_moves.specs.Arena.{Value, Win, Loss, Draw, HasValue, MatesWithin}
-use Rattle.egt_moves.specs.Chess.{chess}
-use Rattle.egt_moves.specs.Standing.{IsStuck, IsStalemate, CanMove}
-use Rattle.egt_moves.specs.declared.chess_move.Move.{Move}
-use Rattle.egt_entries.specs.Entry.{Shows}
-use Rattle.egt_probe.specs.Facts.{Facts}
-use Rattle.egt_probe.specs.Hold.{IsHold}
-use Rattle.egt_probe.specs.Search.{Misses}
+use Rattle.egt_probe.specs.Prelude.{◌≢◌, ℕ, zero, suc, ◌≤◌, Option, Some, None, IsSome, refl, inr, arith, Setup, Value}
+use Rattle.egt_probe.specs.Prelude.{Win, Loss, Draw, HasValue, MatesWithin, chess, IsStuck, IsStalemate, CanMove, Move}
+use Rattle.egt_probe.specs.Prelude.{Shows, Facts, IsHold, Misses}
 use Rattle.egt_probe.proofs.SameKinds.{lost_within}
 
 module _ (facts : Facts) (p : Setup) (drawn : HasValue chess p Draw) where

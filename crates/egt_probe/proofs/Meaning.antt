@@ -1,12 +1,7 @@
 -- What a verdict means in the words of forced mate and of the defence against it.
-use Rattle.std.proofs.Common.{◌≡◌, ℕ, zero, suc, refl, subst}
-use Rattle.egt_board.specs.declared.man.Side.{Side}
-use Rattle.egt_board.specs.declared.man.Side.TheVariants.{White, Black}
-use Rattle.egt_board.specs.Man.{other_side}
-use Rattle.egt_board.specs.Setup.{Setup}
-use Rattle.egt_moves.specs.Arena.{Win, Loss, HasValue, MatesWithin, IsMatedWithin, CannotMateBefore, AvoidsMateBefore}
-use Rattle.egt_moves.specs.Chess.{chess}
-use Rattle.egt_moves.specs.Found.{mate_by}
+use Rattle.egt_probe.specs.Prelude.{◌≡◌, ℕ, zero, suc, refl, subst, Side, White, Black, other_side, Setup, Win, Loss}
+use Rattle.egt_probe.specs.Prelude.{HasValue, MatesWithin, IsMatedWithin, CannotMateBefore, AvoidsMateBefore, chess}
+use Rattle.egt_probe.specs.Prelude.{mate_by}
 
 mover_wins : (s : Side) (n : ℕ) → mate_by s s n ≡ Win n
 mover_wins White n = refl

@@ -1,26 +1,13 @@
 -- A line has one report.
-use Rattle.std.proofs.Common.{◌≡◌, ℕ, zero, suc, ◌<◌, ◌≤◌, ◌⊎◌, true, false, is_some, IsSome, List, [], ◌∷◌, ◌++◌, length, Option, Some, None, refl, sym, ap, ◌∙◌, subst, inl, inr, arith}
-use Rattle.std.proofs.lemmas.Bool.{cases_lt}
-use Rattle.egt_board.specs.declared.man.Kind.{Kind}
-use Rattle.egt_board.specs.declared.man.Kind.TheVariants.{Q, R, B, N, P, K}
-use Rattle.egt_board.specs.declared.man.Side.{Side}
-use Rattle.egt_board.specs.declared.man.Side.TheVariants.{White, Black}
-use Rattle.egt_board.specs.Setup.{Setup, IsAdmissible}
-use Rattle.egt_fen.specs.declared.fen.Fen.{Fen}
-use Rattle.egt_moves.specs.Arena.{Value, Win, Loss, Draw}
-use Rattle.egt_moves.specs.Found.{mate_by}
-use Rattle.egt_moves.specs.Legal.{Leads}
-use Rattle.egt_moves.specs.Order.{place_of, promotion_place}
-use Rattle.egt_moves.specs.declared.chess_move.Move.{Move}
+use Rattle.egt_probe.specs.Prelude.{◌≡◌, ℕ, zero, suc, ◌<◌, ◌≤◌, ◌⊎◌, true, false, is_some, IsSome, List, [], ◌∷◌, ◌++◌}
+use Rattle.egt_probe.specs.Prelude.{length, Option, Some, None, refl, sym, ap, ◌∙◌, subst, inl, inr, arith, cases_lt}
+use Rattle.egt_probe.specs.Prelude.{Kind, Q, R, B, N, P, K, Side, White, Black, Setup, IsAdmissible, Fen, Value, Win}
+use Rattle.egt_probe.specs.Prelude.{Loss, Draw, mate_by, Leads, place_of, promotion_place, Move, Reports, Facts, IsHold}
+use Rattle.egt_probe.specs.Prelude.{IsFirstTo, next_value, plies_of, IsLine, Loaded, IsOfClass, IsMissing}
+use Rattle.egt_probe.specs.Prelude.{PositionReport, Unloaded, Decisive, Dead, Drawn, verdict_of, Report, Long, Refused}
+use Rattle.egt_probe.specs.Prelude.{Answered, decided_text, dead_text, drawn_text, missing_text, refused_text}
+use Rattle.egt_probe.specs.Prelude.{IsVerdict}
 use Rattle.egt_probe.specs.declared.outcome.Outcome.TheVariants as outcomes
-use Rattle.egt_probe.specs.Answer.{Reports}
-use Rattle.egt_probe.specs.Facts.{Facts}
-use Rattle.egt_probe.specs.Hold.{IsHold}
-use Rattle.egt_probe.specs.Line.{IsFirstTo, next_value, plies_of, IsLine}
-use Rattle.egt_probe.specs.Loaded.{Loaded, IsOfClass, IsMissing}
-use Rattle.egt_probe.specs.Report.{PositionReport, Unloaded, Decisive, Dead, Drawn, verdict_of, Report, Long, Refused, Answered}
-use Rattle.egt_probe.specs.Text.{decided_text, dead_text, drawn_text, missing_text, refused_text}
-use Rattle.egt_probe.specs.Verdict.{IsVerdict}
 
 -- the next value is one ply nearer
 next_plies : (v w : Value) → next_value v ≡ Some w → plies_of v ≡ suc (plies_of w)

@@ -1,26 +1,11 @@
 -- One answer to a position wherever the same classes are loaded, with the same columns.
-use Rattle.std.proofs.Common.{◌≡◌, ◌≢◌, ℕ, List, [], ◌∷◌, Option, Some, None, Result, Ok, Err, refl, subst}
-use Rattle.egt_board.specs.Setup.{Setup, IsAdmissible}
-use Rattle.egt_moves.specs.Arena.{Value, Draw, HasValue}
-use Rattle.egt_moves.specs.Chess.{chess}
-use Rattle.egt_moves.specs.Found.{mate_by}
-use Rattle.egt_moves.specs.declared.chess_move.Move.{Move}
-use Rattle.egt_probe.specs.declared.fault.HoldFault.{HoldFault}
+use Rattle.egt_probe.specs.Prelude.{◌≡◌, ◌≢◌, ℕ, List, [], ◌∷◌, Option, Some, None, Result, Ok, Err, refl, subst, Setup}
+use Rattle.egt_probe.specs.Prelude.{IsAdmissible, Value, Draw, HasValue, chess, mate_by, Move, HoldFault, LineFault}
+use Rattle.egt_probe.specs.Prelude.{Missing, Outcome, Verdict, TellsHold, TellsLine, TellsVerdict, Facts, IsDecisive}
+use Rattle.egt_probe.specs.Prelude.{IsHold, IsLine, Loaded, IsLoaded, IsMissing, verdict_of, IsVerdict}
 use Rattle.egt_probe.specs.declared.fault.HoldFault.TheVariants as holds
-use Rattle.egt_probe.specs.declared.fault.LineFault.{LineFault}
 use Rattle.egt_probe.specs.declared.fault.LineFault.TheVariants as lines
-use Rattle.egt_probe.specs.declared.outcome.Missing.{Missing}
-use Rattle.egt_probe.specs.declared.outcome.Outcome.{Outcome}
 use Rattle.egt_probe.specs.declared.outcome.Outcome.TheVariants as outcomes
-use Rattle.egt_probe.specs.declared.outcome.Verdict.{Verdict}
-use Rattle.egt_probe.specs.Calls.{TellsHold, TellsLine, TellsVerdict}
-use Rattle.egt_probe.specs.Facts.{Facts}
-use Rattle.egt_probe.specs.Fault.{IsDecisive}
-use Rattle.egt_probe.specs.Hold.{IsHold}
-use Rattle.egt_probe.specs.Line.{IsLine}
-use Rattle.egt_probe.specs.Loaded.{Loaded, IsLoaded, IsMissing}
-use Rattle.egt_probe.specs.Report.{verdict_of}
-use Rattle.egt_probe.specs.Verdict.{IsVerdict}
 use Rattle.egt_probe.proofs.OneReport.{won_by, not_drawn, one_line, one_hold, same_class, not_both, dead_or_drawn}
 
 -- no line begins at a draw

@@ -1,11 +1,6 @@
 -- The value of a position and its zeroing distance are of one kind: both wins, both losses or both draws.
-use Rattle.std.proofs.Common.{ℕ, zero, suc}
-use Rattle.egt_board.specs.Setup.{Setup}
-use Rattle.egt_moves.specs.Arena.{Value, Win, Loss, Draw, HasValue, IsMatedWithin}
-use Rattle.egt_moves.specs.Chess.{chess}
-use Rattle.egt_moves.specs.Entries.{SameKind}
-use Rattle.egt_moves.specs.Zeroing.{HasZeroing}
-use Rattle.egt_probe.specs.Facts.{Facts}
+use Rattle.egt_probe.specs.Prelude.{ℕ, zero, suc, Setup, Value, Win, Loss, Draw, HasValue, IsMatedWithin, chess}
+use Rattle.egt_probe.specs.Prelude.{SameKind, HasZeroing, Facts}
 
 -- a loss in n plies is a mate within n
 pub lost_within : (n : ℕ) (p : Setup) → HasValue chess p (Loss n) → IsMatedWithin chess n p

@@ -1,30 +1,9 @@
 -- What a table of a library tells of the positions of its class.
-use Rattle.std.proofs.Common.{◌≡◌, ℕ, ◌<◌, Bool, IsSome, sym, subst, arith}
-use Rattle.std.proofs.Math.Logic.{⊎_elim}
-use Rattle.std.specs.List.{Contains}
-use Rattle.egt_board.specs.declared.man.Side.{Side}
-use Rattle.egt_board.specs.Setup.{Setup, IsAdmissible}
-use Rattle.egt_class.specs.Children.{children_of}
-use Rattle.egt_class.specs.Membership.{IsOf}
-use Rattle.egt_index.specs.Index.{IsIndex}
-use Rattle.egt_moves.specs.Arena.{Value, HasValue}
-use Rattle.egt_moves.specs.Chess.{chess}
-use Rattle.egt_moves.specs.Legal.{Leads}
-use Rattle.egt_moves.specs.Zeroing.{HasZeroing}
-use Rattle.egt_moves.specs.declared.chess_move.Move.{Move}
-use Rattle.egt_table.specs.Table.{TableValue}
-use Rattle.egt_entries.specs.declared.metric.Metric.{Metric}
-use Rattle.egt_entries.specs.declared.metric.Metric.TheVariants.{Mate, Zeroing}
-use Rattle.egt_entries.specs.Entry.{Shows}
-use Rattle.egt_entries.specs.Library.{IsShelved}
-use Rattle.egt_check.specs.Reading.{shown_once}
-use Rattle.egt_entries.specs.Tables.{Tables, entry_at}
-use Rattle.egt_entries.specs.Truth.{Tells, IsTrueTable}
-use Rattle.egt_probe.specs.declared.outcome.Outcome.{Outcome}
-use Rattle.egt_probe.specs.Facts.{Facts}
-use Rattle.egt_probe.specs.Loaded.{Loaded, IsLoaded}
-use Rattle.egt_probe.specs.Search.{ShowsValue}
-use Rattle.egt_probe.specs.Verdict.{mate_value, zeroing_value}
+use Rattle.egt_probe.specs.Prelude.{◌≡◌, ℕ, ◌<◌, Bool, IsSome, sym, subst, arith, ⊎_elim, Contains, Side, Setup}
+use Rattle.egt_probe.specs.Prelude.{IsAdmissible, children_of, IsOf, IsIndex, Value, HasValue, chess, Leads, HasZeroing}
+use Rattle.egt_probe.specs.Prelude.{Move, TableValue, Metric, Mate, Zeroing, Shows, IsShelved, shown_once, Tables}
+use Rattle.egt_probe.specs.Prelude.{entry_at, Tells, IsTrueTable, Outcome, Facts, Loaded, IsLoaded, ShowsValue}
+use Rattle.egt_probe.specs.Prelude.{mate_value, zeroing_value}
 
 module _ (t : TableValue) (truth : IsTrueTable t) where
   -- the entry shows what the column of the metric tells of the position

@@ -13,3 +13,4 @@ pub mod Text
 pub mod Report
 pub mod Lines
 pub mod Answer
+pub mod Prelude

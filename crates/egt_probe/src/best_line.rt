@@ -1,14 +1,6 @@
 //! The line of best play.
-ghost use Rattle.std.specs.Prelude.{◌≡◌, ◌+◌, ◌<◌, ◌≤◌, IfOk, IfErr};
-ghost use Rattle.egt_board.specs.Man.{other_side};
-ghost use Rattle.egt_moves.specs.Arena.{HasValue};
-ghost use Rattle.egt_moves.specs.Chess.{chess};
-ghost use Rattle.egt_moves.specs.Found.{mate_by};
-ghost use Rattle.egt_entries.specs.Entry.{entry_of};
-ghost use Rattle.egt_probe.specs.Fault.{IsLineFault};
-ghost use Rattle.egt_probe.specs.Line.{IsLine, IsFirstTo, IsBestPlay};
-ghost use Rattle.egt_probe.specs.Loaded.{IsLoaded};
-ghost use Rattle.egt_probe.specs.Shelves.{loaded_in};
+ghost use Rattle.egt_probe.specs.Prelude.{◌≡◌, ◌+◌, ◌<◌, ◌≤◌, IfOk, IfErr, other_side, HasValue, chess, mate_by};
+ghost use Rattle.egt_probe.specs.Prelude.{entry_of, IsLineFault, IsLine, IsFirstTo, IsBestPlay, IsLoaded, loaded_in};
 
 use crate::facts::facts;
 use crate::fault::LineFault;

@@ -1,9 +1,5 @@
 //! The move that is best play.
-ghost use Rattle.std.specs.Prelude.{◌≡◌, IfOk, IfErr};
-ghost use Rattle.egt_moves.specs.Chess.{chess};
-ghost use Rattle.egt_probe.specs.Best.{IsBest};
-ghost use Rattle.egt_probe.specs.Loaded.{IsLoaded, IsMissing};
-ghost use Rattle.egt_probe.specs.Shelves.{loaded_in};
+ghost use Rattle.egt_probe.specs.Prelude.{◌≡◌, IfOk, IfErr, chess, IsBest, IsLoaded, IsMissing, loaded_in};
 
 use crate::best_line::next_move;
 use crate::holding::drawing_move;

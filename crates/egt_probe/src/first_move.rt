@@ -1,10 +1,6 @@
 //! The first move to a position with an entry.
-ghost use Rattle.std.specs.Prelude.{IfSome, IfNone};
-ghost use Rattle.egt_moves.specs.Legal.{Leads, IsLegal};
-ghost use Rattle.egt_moves.specs.declared.chess_move.Move.{Move};
-ghost use Rattle.egt_probe.specs.Loaded.{IsLoaded};
-ghost use Rattle.egt_probe.specs.Search.{Misses, IsFirstWith};
-ghost use Rattle.egt_probe.specs.Shelves.{loaded_in};
+ghost use Rattle.egt_probe.specs.Prelude.{IfSome, IfNone, Leads, IsLegal, Move, IsLoaded, Misses, IsFirstWith};
+ghost use Rattle.egt_probe.specs.Prelude.{loaded_in};
 
 use crate::facts::facts;
 use crate::looking::{mate_entry, moves_stay_loaded};

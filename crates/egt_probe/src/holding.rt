@@ -1,12 +1,6 @@
 //! The move that holds a draw.
-ghost use Rattle.std.specs.Prelude.{Some, IfOk, IfErr};
-ghost use Rattle.egt_moves.specs.Arena.{Draw, HasValue};
-ghost use Rattle.egt_moves.specs.Chess.{chess};
-ghost use Rattle.egt_moves.specs.Standing.{CanMove};
-ghost use Rattle.egt_probe.specs.Fault.{IsHoldFault};
-ghost use Rattle.egt_probe.specs.Hold.{IsHold};
-ghost use Rattle.egt_probe.specs.Loaded.{IsLoaded};
-ghost use Rattle.egt_probe.specs.Shelves.{loaded_in};
+ghost use Rattle.egt_probe.specs.Prelude.{Some, IfOk, IfErr, Draw, HasValue, chess, CanMove, IsHoldFault, IsHold};
+ghost use Rattle.egt_probe.specs.Prelude.{IsLoaded, loaded_in};
 
 use crate::facts::facts;
 use crate::fault::HoldFault;

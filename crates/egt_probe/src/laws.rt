@@ -1,28 +1,12 @@
 //! What holds of lines of best play and of reports. These functions do nothing: a caller calls one to know what it
 //! ensures.
-ghost use Rattle.std.specs.Prelude.{◌≡◌, ◌≢◌, ℕ, List, ◌∷◌, length, true, Option, Some, Result, Err};
-ghost use Rattle.egt_board.specs.Man.{other_side};
-ghost use Rattle.egt_board.specs.Setup.{Setup, IsAdmissible};
-ghost use Rattle.egt_moves.specs.Arena.{Value, MatesWithin, IsMatedWithin, CannotMateBefore, AvoidsMateBefore, IsDraw};
-ghost use Rattle.egt_moves.specs.Chess.{chess};
-ghost use Rattle.egt_moves.specs.Order.{place_of};
-ghost use Rattle.egt_moves.specs.Reach.{IsDead};
-ghost use Rattle.egt_moves.specs.Standing.{CanMove};
-ghost use Rattle.egt_moves.specs.declared.chess_move.Move.{Move};
-ghost use Rattle.egt_probe.specs.Answer.{Reports};
-ghost use Rattle.egt_probe.specs.Best.{IsBest};
-ghost use Rattle.egt_probe.specs.Calls.{TellsHold, TellsLine, TellsVerdict};
-ghost use Rattle.egt_probe.specs.Hold.{IsHold};
-ghost use Rattle.egt_probe.specs.Line.{IsLine, plies_of};
-ghost use Rattle.egt_probe.specs.Loaded.{Loaded};
-ghost use Rattle.egt_probe.specs.Report.{Report, verdict_of};
-ghost use Rattle.egt_probe.specs.Verdict.{IsVerdict};
-ghost use Rattle.egt_probe.specs.declared.fault.HoldFault.{HoldFault};
-ghost use Rattle.egt_probe.specs.declared.fault.LineFault.{LineFault};
-ghost use Rattle.egt_probe.specs.declared.fault.LineFault.TheVariants.{NoMemory};
-ghost use Rattle.egt_probe.specs.declared.outcome.Missing.{Missing};
+ghost use Rattle.egt_probe.specs.Prelude.{◌≡◌, ◌≢◌, ℕ, List, ◌∷◌, length, true, Option, Some, Result, Err, other_side};
+ghost use Rattle.egt_probe.specs.Prelude.{Setup, IsAdmissible, Value, MatesWithin, IsMatedWithin, CannotMateBefore};
+ghost use Rattle.egt_probe.specs.Prelude.{AvoidsMateBefore, IsDraw, chess, place_of, IsDead, CanMove, Move, Reports};
+ghost use Rattle.egt_probe.specs.Prelude.{IsBest, TellsHold, TellsLine, TellsVerdict, IsHold, IsLine, plies_of, Loaded};
+ghost use Rattle.egt_probe.specs.Prelude.{Report, verdict_of, IsVerdict, HoldFault, LineFault, NoMemory, Missing};
+ghost use Rattle.egt_probe.specs.Prelude.{Verdict};
 ghost use Rattle.egt_probe.specs.declared.outcome.Outcome.TheVariants as outcomes;
-ghost use Rattle.egt_probe.specs.declared.outcome.Verdict.{Verdict};
 
 use crate::facts::facts;
 

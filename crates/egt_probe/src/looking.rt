@@ -1,19 +1,8 @@
 //! Positions looked up in tables.
-ghost use Rattle.std.specs.Prelude.{◌↔◌, IsOk, IfOk, IfErr, IsSome, MatchBool, Some, is_some};
-ghost use Rattle.egt_board.specs.Setup.{Setup};
-ghost use Rattle.egt_index.specs.Index.{IsIndex};
-ghost use Rattle.egt_moves.specs.Arena.{Value, HasValue};
-ghost use Rattle.egt_moves.specs.Chess.{chess};
-ghost use Rattle.egt_moves.specs.Entries.{SameKind};
-ghost use Rattle.egt_moves.specs.Legal.{Leads};
-ghost use Rattle.egt_moves.specs.Zeroing.{HasZeroing};
-ghost use Rattle.egt_moves.specs.declared.chess_move.Move.{Move};
-ghost use Rattle.egt_entries.specs.Entry.{Shows};
-ghost use Rattle.egt_entries.specs.Truth.{IsTrueTable};
-ghost use Rattle.egt_probe.specs.Loaded.{IsLoaded, IsMissing};
-ghost use Rattle.egt_probe.specs.Search.{ShowsValue};
-ghost use Rattle.egt_probe.specs.Shelves.{loaded_in};
-ghost use Rattle.egt_probe.specs.Verdict.{IsVerdict, IsWithin, TellsDead, mate_value, zeroing_value};
+ghost use Rattle.egt_probe.specs.Prelude.{◌↔◌, IsOk, IfOk, IfErr, IsSome, MatchBool, Some, is_some, Setup, IsIndex};
+ghost use Rattle.egt_probe.specs.Prelude.{Value, HasValue, chess, SameKind, Leads, HasZeroing, Move, Shows};
+ghost use Rattle.egt_probe.specs.Prelude.{IsTrueTable, IsLoaded, IsMissing, ShowsValue, loaded_in, IsVerdict, IsWithin};
+ghost use Rattle.egt_probe.specs.Prelude.{TellsDead, mate_value, zeroing_value};
 
 use crate::facts::facts;
 use crate::outcome::{Missing, Outcome, Verdict};

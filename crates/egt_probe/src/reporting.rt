@@ -1,8 +1,5 @@
 //! The report of a line.
-ghost use Rattle.std.specs.Prelude.{◌≤◌, length, IfOk, List, ℕ};
-ghost use Rattle.egt_probe.specs.Report.{PositionReport, Report, most};
-ghost use Rattle.egt_probe.specs.Shelves.{loaded_in};
-ghost use Rattle.egt_probe.specs.Answer.{Holds};
+ghost use Rattle.egt_probe.specs.Prelude.{◌≤◌, length, IfOk, List, ℕ, PositionReport, Report, most, loaded_in, Holds};
 
 use crate::best_line::best_line;
 use crate::holding::{drawing_move, holding_move};

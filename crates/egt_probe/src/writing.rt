@@ -1,7 +1,5 @@
 //! Whole pieces through sinks that take them in parts.
-ghost use Rattle.std.specs.Prelude.{OnOk, OnErr};
-ghost use Rattle.std.specs.Io.KnownBytes.{Appends};
-ghost use Rattle.egt_table.specs.Stream.{CountsFailure, AppendsFront};
+ghost use Rattle.egt_probe.specs.Prelude.{OnOk, OnErr, Appends, CountsFailure, AppendsFront};
 
 use egt_table::{Device, Sink};
 

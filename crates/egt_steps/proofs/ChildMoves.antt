@@ -1,28 +1,12 @@
 -- Where moves lead: into the class or a child of it.
-use Rattle.std.proofs.Common.{◌≡◌, ◌≢◌, ℕ, ◌+◌, ◌*◌, ◌<◌, ◌&&◌, ◌⊎◌, Bool, true, false, not, cond, eqb, ltb, Option, Some, None, IfSome, IsSome, refl, sym, ap, ap₂, ◌∙◌, subst, inl, inr, arith, if◌then◌else◌}
-use Rattle.std.specs.List.{Contains}
-use Rattle.std.specs.Option.{option_map, is_some}
-use Rattle.std.proofs.lemmas.Bool.{false≢true, eq-eqb, lt-ltb}
-use Rattle.std.proofs.lemmas.Bool.Decides.{eqb_tells}
-use Rattle.egt_board.specs.declared.man.Side.{Side}
-use Rattle.egt_board.specs.declared.man.Side.TheVariants.{White, Black}
-use Rattle.egt_board.specs.declared.man.Kind.{Kind}
-use Rattle.egt_board.specs.declared.man.Kind.TheVariants.{Q, R, B, N, P, K}
-use Rattle.egt_board.specs.declared.man.Man.{Man}
-use Rattle.egt_board.specs.Man.{other_side}
-use Rattle.egt_board.specs.Pawn.{pawn_of}
-use Rattle.egt_board.specs.Setup.{Setup}
-use Rattle.egt_board.specs.Images.{kind_number, side_number, man_number, stands_here, count_of}
-use Rattle.egt_moves.specs.declared.chess_move.Move.{Move}
-use Rattle.egt_moves.specs.Exchange.{Captures, Exchanges}
-use Rattle.egt_moves.specs.Promotion.{IsOfficer, arriving}
-use Rattle.egt_class.specs.Material.{material_of, men_in}
-use Rattle.egt_class.specs.Membership.{IsOf}
+use Rattle.egt_steps.specs.Prelude.{◌≡◌, ◌≢◌, ℕ, ◌+◌, ◌*◌, ◌<◌, ◌&&◌, ◌⊎◌, Bool, true, false, not, cond, eqb, ltb}
+use Rattle.egt_steps.specs.Prelude.{Option, Some, None, IfSome, IsSome, refl, sym, ap, ap₂, ◌∙◌, subst, inl, inr, arith}
+use Rattle.egt_steps.specs.Prelude.{if◌then◌else◌, Contains, option_map, is_some, false≢true, eq-eqb, lt-ltb, eqb_tells}
+use Rattle.egt_steps.specs.Prelude.{Side, White, Black, Kind, Q, R, B, N, P, K, Man, other_side, pawn_of, Setup}
+use Rattle.egt_steps.specs.Prelude.{kind_number, side_number, man_number, stands_here, count_of, Move, Captures}
+use Rattle.egt_steps.specs.Prelude.{Exchanges, IsOfficer, arriving, material_of, men_in, IsOf, all_agree, OneKing}
+use Rattle.egt_steps.specs.Prelude.{covered, smaller, either, one_king_in}
 use Rattle.egt_class.specs.Children.{Change, man_of, man_taken, pawn_promoted, man_promoted, side_if, men_of, is_change, is_possible, has_man, follows_as, children_of}
-use Rattle.egt_class.proofs.Agreeing.{all_agree}
-use Rattle.egt_class.proofs.NonKings.{OneKing}
-use Rattle.egt_class.proofs.ClassTests.{covered, smaller, either}
-use Rattle.egt_class.proofs.PairTable.{one_king_in}
 
 -- a man in the class's colours, and back
 turned : Bool → Man → Man

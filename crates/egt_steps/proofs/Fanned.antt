@@ -1,20 +1,10 @@
 -- The quiet steps of a man who stands still on a shelf: which are legal, and where they lead.
-use Rattle.std.proofs.Common.{◌≡◌, ◌≢◌, ℕ, ◌&&◌, ◌==◌, Bool, false, if◌then◌else◌, List, [], ◌∷◌, Some, None, refl, sym, ap, ◌∙◌, subst, inl, inr, arith}
+use Rattle.egt_steps.specs.Prelude.{◌≡◌, ◌≢◌, ℕ, ◌&&◌, ◌==◌, Bool, false, if◌then◌else◌, List, [], ◌∷◌, Some, None}
+use Rattle.egt_steps.specs.Prelude.{refl, sym, ap, ◌∙◌, subst, inl, inr, arith, Kind, Q, R, B, N, P, K, Man, Step}
+use Rattle.egt_steps.specs.Prelude.{IsInCheck, OneOf, Reaches, Rides, farthest, steps_of, other_side, ahead, last_rank}
+use Rattle.egt_steps.specs.Prelude.{Placement, Stands, IsFree, Setup, rank_of, plain, after, is_target, men_after}
+use Rattle.egt_steps.specs.Prelude.{is_pawn, FitsPromotion, IsQuietTarget}
 use Rattle.std.specs.FinMap as map
-use Rattle.egt_board.specs.declared.man.Kind.{Kind}
-use Rattle.egt_board.specs.declared.man.Kind.TheVariants.{Q, R, B, N, P, K}
-use Rattle.egt_board.specs.declared.man.Man.{Man}
-use Rattle.egt_board.specs.declared.step.Step.{Step}
-use Rattle.egt_board.specs.Attack.{IsInCheck}
-use Rattle.egt_board.specs.AttackLines.{OneOf, Reaches, Rides, farthest, steps_of}
-use Rattle.egt_board.specs.Man.{other_side}
-use Rattle.egt_board.specs.Pawn.{ahead, last_rank}
-use Rattle.egt_board.specs.Placement.{Placement, Stands, IsFree}
-use Rattle.egt_board.specs.Setup.{Setup}
-use Rattle.egt_board.specs.Square.{rank_of}
-use Rattle.egt_moves.specs.Legal.{plain, after, is_target, men_after}
-use Rattle.egt_moves.specs.Promotion.{is_pawn, FitsPromotion}
-use Rattle.egt_steps.specs.QuietTarget.{IsQuietTarget}
 use Rattle.egt_steps.proofs.Still.{quiet_piece}
 
 no_pawn : (kind : Kind) → kind ≢ P → is_pawn kind ≡ false

@@ -1,21 +1,12 @@
 -- What the code after a step spells: the men who stood there, but for the one who went.
-use Rattle.std.proofs.Common.{◌≡◌, ◌≢◌, ℕ, List, [], ◌∷◌, ◌++◌, map, None, Some, refl, sym, ap, ◌∙◌, inl, inr, subst}
+use Rattle.egt_steps.specs.Prelude.{◌≡◌, ◌≢◌, ℕ, List, [], ◌∷◌, ◌++◌, map, None, Some, refl, sym, ap, ◌∙◌, inl, inr}
+use Rattle.egt_steps.specs.Prelude.{subst, option_to_list, cases_eq, king_of, men_of, get-insert_other, get-insert_same}
+use Rattle.egt_steps.specs.Prelude.{get-remove_other, get-remove_same, same_men, Man, White, Black, IsListed, AllApart}
+use Rattle.egt_steps.specs.Prelude.{Entry, IsOff, list_of, moved_entry, moved_square, Stand, AreApart, get_here}
+use Rattle.egt_steps.specs.Prelude.{get_later, listed_stands, free_of}
 use Rattle.std.specs.FinMap as placement
-use Rattle.std.specs.Option.{option_to_list}
-use Rattle.std.proofs.lemmas.Bool.{cases_eq}
-use Rattle.egt_board.specs.Attack.{king_of}
-use Rattle.egt_board.specs.Listed.{men_of}
-use Rattle.egt_board.specs.Placement.{get-insert_other, get-insert_same, get-remove_other, get-remove_same, same_men}
-use Rattle.egt_board.specs.declared.man.Man.{Man}
-use Rattle.egt_board.specs.declared.man.Side.TheVariants.{White, Black}
-use Rattle.egt_index.specs.Spelled.{IsListed}
-use Rattle.egt_index.specs.Stood.{AllApart, Entry, IsOff, list_of}
-use Rattle.egt_index.specs.Went.{moved_entry, moved_square}
-use Rattle.egt_index.specs.declared.stand.Stand.{Stand}
 use Rattle.egt_steps.proofs.Carried.{went, stayed}
-use Rattle.egt_index.proofs.Listing.{AreApart, get_here, get_later, listed_stands}
 use Rattle.egt_steps.proofs.Moved.{after_of}
-use Rattle.egt_index.proofs.Setups.{free_of}
 
 off_listed : (list : List (Man × ℕ)) (man : Man) (s : ℕ) → IsOff list s → IsListed list man s → ⊥
 off_listed [] man s off h = h

@@ -1,9 +1,6 @@
 -- By how many squares a pawn advances, and the index of a position that settles to another.
-use Rattle.std.proofs.Common.{◌≡◌, ◌⊎◌, ℕ, ◌≤◌, ◌==◌, ◌&&◌, if◌then◌else◌, Bool, true, false, refl, sym, subst, inl, inr}
-use Rattle.std.proofs.lemmas.Bool.Decides.{eqb_tells}
-use Rattle.egt_board.specs.Settled.{IsSettled, SettlesTo}
-use Rattle.egt_board.specs.Setup.{Setup}
-use Rattle.egt_index.specs.Index.{IsIndex}
+use Rattle.egt_steps.specs.Prelude.{◌≡◌, ◌⊎◌, ℕ, ◌≤◌, ◌==◌, ◌&&◌, if◌then◌else◌, Bool, true, false, refl, sym, subst}
+use Rattle.egt_steps.specs.Prelude.{inl, inr, eqb_tells, IsSettled, SettlesTo, Setup, IsIndex}
 
 pub and_false : (a b : Bool) → b ≡ false → (a && b) ≡ false
 and_false true b e = e

@@ -1,30 +1,12 @@
 -- Which advances of a pawn leave a target, and what the positions after them settle to.
-use Rattle.std.proofs.Common.{◌≡◌, ◌≢◌, ℕ, ◌*◌, ◌/◌, ◌+◌, ◌%◌, ◌≤◌, ◌==◌, ◌&&◌, ◌||◌, ◌⊎◌, ◌↔◌, if◌then◌else◌, Bool, true, false, Option, Some, None, IfSome, IsTrue, refl, sym, ap, ◌∙◌, subst, inl, inr, arith}
-use Rattle.std.specs.Option.{is_some}
-use Rattle.std.proofs.lemmas.Bool.{and_parts}
-use Rattle.std.proofs.lemmas.Bool.Decides.{eqb_tells}
-use Rattle.egt_board.specs.Attack.{king_of}
-use Rattle.egt_board.specs.Man.{other_side}
-use Rattle.egt_board.specs.Pawn.{Advances, HasPawnBeside, IsBeside, ahead, last_rank, pawn_of}
-use Rattle.egt_board.specs.Placement.{Placement, Stands}
-use Rattle.egt_board.specs.Settled.{SettlesTo}
-use Rattle.egt_board.specs.Setup.{Setup, IsAdmissible}
-use Rattle.egt_board.specs.Square.{rank_of}
-use Rattle.egt_board.specs.Target.{IsTarget, target_rank}
-use Rattle.egt_board.specs.declared.man.Kind.{Kind}
-use Rattle.egt_board.specs.declared.man.Kind.TheVariants.{P, K}
-use Rattle.egt_board.specs.declared.man.Man.{Man}
-use Rattle.egt_board.specs.declared.man.Side.{Side}
-use Rattle.egt_board.specs.declared.man.Side.TheVariants.{White, Black}
-use Rattle.egt_board.proofs.SettledForms.{settles_admissible, settles_men}
-use Rattle.egt_board.proofs.Sides.{side_twice, sides_differ}
-use Rattle.egt_index.specs.declared.shelf_codes.ShelfMen.{ShelfMen}
-use Rattle.egt_moves.specs.Legal.{is_two_ranks, passed}
-use Rattle.egt_moves.specs.Promotion.{is_pawn}
-use Rattle.egt_moves.proofs.Admissible.{two_ranks_told}
-use Rattle.egt_moves.proofs.After.{target_is}
-use Rattle.egt_steps.specs.Facts.{Facts}
-use Rattle.egt_steps.specs.InPassing.{AreTwoRanksApart, LeavesTarget}
+use Rattle.egt_steps.specs.Prelude.{◌≡◌, ◌≢◌, ℕ, ◌*◌, ◌/◌, ◌+◌, ◌%◌, ◌≤◌, ◌==◌, ◌&&◌, ◌||◌, ◌⊎◌, ◌↔◌, if◌then◌else◌}
+use Rattle.egt_steps.specs.Prelude.{Bool, true, false, Option, Some, None, IfSome, IsTrue, refl, sym, ap, ◌∙◌, subst}
+use Rattle.egt_steps.specs.Prelude.{inl, inr, arith, is_some, and_parts, eqb_tells, king_of, other_side, Advances}
+use Rattle.egt_steps.specs.Prelude.{HasPawnBeside, IsBeside, ahead, last_rank, pawn_of, Placement, Stands, SettlesTo}
+use Rattle.egt_steps.specs.Prelude.{Setup, IsAdmissible, rank_of, IsTarget, target_rank, Kind, P, K, Man, Side, White}
+use Rattle.egt_steps.specs.Prelude.{Black, settles_admissible, settles_men, side_twice, sides_differ, ShelfMen}
+use Rattle.egt_steps.specs.Prelude.{is_two_ranks, passed, is_pawn, two_ranks_told, target_is, Facts, AreTwoRanksApart}
+use Rattle.egt_steps.specs.Prelude.{LeavesTarget}
 use Rattle.egt_steps.proofs.Leaping.{one_off_home}
 use Rattle.egt_steps.proofs.TwoNonKings.{AreTwo, one_two, who}
 

@@ -1,21 +1,10 @@
 -- The men of a class after one of them went to a free square.
-use Rattle.std.proofs.Common.{◌≡◌, ◌≢◌, ℕ, ◌<◌, Bool, false, List, [], ◌∷◌, ◌++◌, map, Some, None, refl, sym, ap, ◌∙◌, inl, inr, subst}
-use Rattle.std.specs.Option.{option_to_list, is_some}
+use Rattle.egt_steps.specs.Prelude.{◌≡◌, ◌≢◌, ℕ, ◌<◌, Bool, false, List, [], ◌∷◌, ◌++◌, map, Some, None, refl, sym, ap}
+use Rattle.egt_steps.specs.Prelude.{◌∙◌, inl, inr, subst, option_to_list, is_some, cases_eq, Side, White, Black, Man}
+use Rattle.egt_steps.specs.Prelude.{king_of, other_side, Placement, Stands, one_man, get-remove_other, get-insert_same}
+use Rattle.egt_steps.specs.Prelude.{get-insert_other, IsSettled, Setup, turned_man, IsMoved, moved_square, moved_entry}
+use Rattle.egt_steps.specs.Prelude.{IsMovedStand, Entry, men_among, IsOff, AllStand, Stood, HasStand, list_of, Stand}
 use Rattle.std.specs.FinMap as placement
-use Rattle.std.proofs.lemmas.Bool.{cases_eq}
-use Rattle.egt_board.specs.declared.man.Side.{Side}
-use Rattle.egt_board.specs.declared.man.Side.TheVariants.{White, Black}
-use Rattle.egt_board.specs.declared.man.Man.{Man}
-use Rattle.egt_board.specs.Attack.{king_of}
-use Rattle.egt_board.specs.Man.{other_side}
-use Rattle.egt_board.specs.Placement.{Placement, Stands, one_man, get-remove_other, get-insert_same, get-insert_other}
-use Rattle.egt_board.specs.Settled.{IsSettled}
-use Rattle.egt_board.specs.Setup.{Setup}
-use Rattle.egt_board.specs.Turned.{turned_man}
-use Rattle.egt_steps.specs.Frame.{IsMoved}
-use Rattle.egt_index.specs.Went.{moved_square, moved_entry, IsMovedStand}
-use Rattle.egt_index.specs.Stood.{Entry, men_among, IsOff, AllStand, Stood, HasStand, list_of}
-use Rattle.egt_index.specs.declared.stand.Stand.{Stand}
 use Rattle.egt_steps.proofs.Carried.{went, stayed}
 
 module _ (c : ℕ) (p : Setup) (from to : ℕ) (q : Setup) (moved : IsMoved c p from to q) where

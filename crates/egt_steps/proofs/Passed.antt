@@ -1,15 +1,7 @@
 -- No man passes or reaches the square on which it stands.
-use Rattle.std.proofs.Common.{◌≢◌, ℕ, ◌<◌, List, [], ◌∷◌, inl, inr, arith, subst}
-use Rattle.egt_board.specs.AttackLines.{OneOf, Reaches, Rides, farthest, step, steps_of}
-use Rattle.egt_board.specs.Step.{Away}
-use Rattle.egt_board.specs.declared.man.Kind.{Kind}
-use Rattle.egt_board.specs.declared.man.Kind.TheVariants.{Q, R, B, N, P, K}
-use Rattle.egt_board.specs.declared.man.Man.{Man}
-use Rattle.egt_board.specs.declared.man.Side.{Side}
-use Rattle.egt_board.specs.declared.man.Side.TheVariants.{White, Black}
-use Rattle.egt_board.specs.declared.step.Step.{Step}
-use Rattle.egt_board.specs.declared.step.Way.{Way}
-use Rattle.egt_board.specs.declared.step.Way.TheVariants.{Up, Down, Still}
+use Rattle.egt_steps.specs.Prelude.{◌≢◌, ℕ, ◌<◌, List, [], ◌∷◌, inl, inr, arith, subst, OneOf, Reaches, Rides, farthest}
+use Rattle.egt_steps.specs.Prelude.{step, steps_of, Away, Kind, Q, R, B, N, P, K, Man, Side, White, Black, Step, Way}
+use Rattle.egt_steps.specs.Prelude.{Up, Down, Still}
 
 -- so many steps, if there are any, end on another square
 abbrev Departs : Step → Type 0

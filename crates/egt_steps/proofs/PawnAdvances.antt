@@ -1,35 +1,15 @@
 -- The advances of a pawn lead to the men after them, and to all positions of them.
-use Rattle.std.proofs.Common.{◌≡◌, ◌≢◌, ◌↔◌, ℕ, ◌*◌, ◌/◌, ◌+◌, ◌<◌, if◌then◌else◌, Bool, true, false, IsTrue, Option, Some, None, refl, sym, ap, ◌∙◌, subst, inl, inr, arith}
+use Rattle.egt_steps.specs.Prelude.{◌≡◌, ◌≢◌, ◌↔◌, ℕ, ◌*◌, ◌/◌, ◌+◌, ◌<◌, if◌then◌else◌, Bool, true, false, IsTrue}
+use Rattle.egt_steps.specs.Prelude.{Option, Some, None, refl, sym, ap, ◌∙◌, subst, inl, inr, arith, is_some, IsInCheck}
+use Rattle.egt_steps.specs.Prelude.{king_of, other_side, Advances, ahead, forward, pawn_of, Placement, Stands, IsFree}
+use Rattle.egt_steps.specs.Prelude.{one_man, SettlesTo, Setup, Away, IsTarget, target_rank, Kind, P, K, Man, Side}
+use Rattle.egt_steps.specs.Prelude.{White, Black, settles_men, settles_settled, side_twice, sides_differ, HasStand}
+use Rattle.egt_steps.specs.Prelude.{ShelfMen, Captures, Goes, PawnAdvances, Leads, after, men_after, men_left}
+use Rattle.egt_steps.specs.Prelude.{FitsPromotion, IsOfficer, arriving, promotes, Move, arriving_side, not_free}
+use Rattle.egt_steps.specs.Prelude.{target_is, Facts, LeavesTarget, IsAdvance, IsAdvanceFrom, IsClassAfter, stand_after}
+use Rattle.egt_steps.specs.Prelude.{stand_in, IsClear}
 use Rattle.std.specs.FinMap as placement
-use Rattle.std.specs.Option.{is_some}
-use Rattle.egt_board.specs.Attack.{IsInCheck, king_of}
-use Rattle.egt_board.specs.Man.{other_side}
-use Rattle.egt_board.specs.Pawn.{Advances, ahead, forward, pawn_of}
-use Rattle.egt_board.specs.Placement.{Placement, Stands, IsFree, one_man}
-use Rattle.egt_board.specs.Settled.{SettlesTo}
-use Rattle.egt_board.specs.Setup.{Setup}
-use Rattle.egt_board.specs.Step.{Away}
-use Rattle.egt_board.specs.Target.{IsTarget, target_rank}
-use Rattle.egt_board.specs.declared.man.Kind.{Kind}
-use Rattle.egt_board.specs.declared.man.Kind.TheVariants.{P, K}
-use Rattle.egt_board.specs.declared.man.Man.{Man}
-use Rattle.egt_board.specs.declared.man.Side.{Side}
-use Rattle.egt_board.specs.declared.man.Side.TheVariants.{White, Black}
-use Rattle.egt_board.proofs.SettledForms.{settles_men, settles_settled}
-use Rattle.egt_board.proofs.Sides.{side_twice, sides_differ}
-use Rattle.egt_index.specs.Stood.{HasStand}
-use Rattle.egt_index.specs.declared.shelf_codes.ShelfMen.{ShelfMen}
-use Rattle.egt_moves.specs.Exchange.{Captures}
-use Rattle.egt_moves.specs.Going.{Goes, PawnAdvances}
-use Rattle.egt_moves.specs.Legal.{Leads, after, men_after, men_left}
 use Rattle.egt_moves.specs.Legal as legal
-use Rattle.egt_moves.specs.Promotion.{FitsPromotion, IsOfficer, arriving, promotes}
-use Rattle.egt_moves.specs.declared.chess_move.Move.{Move}
-use Rattle.egt_moves.proofs.After.{arriving_side, not_free, target_is}
-use Rattle.egt_steps.specs.Facts.{Facts}
-use Rattle.egt_steps.specs.InPassing.{LeavesTarget}
-use Rattle.egt_steps.specs.PawnMoves.{IsAdvance, IsAdvanceFrom, IsClassAfter, stand_after, stand_in}
-use Rattle.egt_steps.specs.QuietStands.{IsClear}
 use Rattle.egt_steps.proofs.LeftTargets.{IsAfter, behind_target, settles_so, told}
 use Rattle.egt_steps.proofs.Still.{not_passing}
 use Rattle.egt_steps.proofs.Takings.{arrives, empties, placed, stays}

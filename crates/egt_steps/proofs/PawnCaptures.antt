@@ -1,29 +1,13 @@
 -- The captures by which a pawn is promoted lead to the three men who are left, and to all positions of them.
-use Rattle.std.proofs.Common.{◌≡◌, ◌≢◌, ℕ, ◌*◌, ◌/◌, ◌+◌, if◌then◌else◌, Bool, true, false, Option, Some, None, refl, sym, ap, ◌∙◌, subst, inl, inr, arith}
+use Rattle.egt_steps.specs.Prelude.{◌≡◌, ◌≢◌, ℕ, ◌*◌, ◌/◌, ◌+◌, if◌then◌else◌, Bool, true, false, Option, Some, None}
+use Rattle.egt_steps.specs.Prelude.{refl, sym, ap, ◌∙◌, subst, inl, inr, arith, IsInCheck, king_of, OneOf, Reaches}
+use Rattle.egt_steps.specs.Prelude.{Rides, farthest, pawn_steps, steps_of, other_side, ahead, Placement, Stands, IsFree}
+use Rattle.egt_steps.specs.Prelude.{IsHeld, one_man, Setup, rank_of, Kind, P, K, Man, Side, White, Black, side_twice}
+use Rattle.egt_steps.specs.Prelude.{sides_differ, HasStand, ShelfMen, Goes, Leads, after, is_two_ranks, men_after}
+use Rattle.egt_steps.specs.Prelude.{men_left, passed, FitsPromotion, IsOfficer, arriving, is_pawn, promotes, Move}
+use Rattle.egt_steps.specs.Prelude.{not_free, target_is, Facts, IsPromotingCapture, IsPromotingCaptureFrom, officer_of}
+use Rattle.egt_steps.specs.Prelude.{stand_in, IsClassOf, IsPastKings, Left, left_of, stand_left}
 use Rattle.std.specs.FinMap as placement
-use Rattle.egt_board.specs.Attack.{IsInCheck, king_of}
-use Rattle.egt_board.specs.AttackLines.{OneOf, Reaches, Rides, farthest, pawn_steps, steps_of}
-use Rattle.egt_board.specs.Man.{other_side}
-use Rattle.egt_board.specs.Pawn.{ahead}
-use Rattle.egt_board.specs.Placement.{Placement, Stands, IsFree, IsHeld, one_man}
-use Rattle.egt_board.specs.Setup.{Setup}
-use Rattle.egt_board.specs.Square.{rank_of}
-use Rattle.egt_board.specs.declared.man.Kind.{Kind}
-use Rattle.egt_board.specs.declared.man.Kind.TheVariants.{P, K}
-use Rattle.egt_board.specs.declared.man.Man.{Man}
-use Rattle.egt_board.specs.declared.man.Side.{Side}
-use Rattle.egt_board.specs.declared.man.Side.TheVariants.{White, Black}
-use Rattle.egt_board.proofs.Sides.{side_twice, sides_differ}
-use Rattle.egt_index.specs.Stood.{HasStand}
-use Rattle.egt_index.specs.declared.shelf_codes.ShelfMen.{ShelfMen}
-use Rattle.egt_moves.specs.Going.{Goes}
-use Rattle.egt_moves.specs.Legal.{Leads, after, is_two_ranks, men_after, men_left, passed}
-use Rattle.egt_moves.specs.Promotion.{FitsPromotion, IsOfficer, arriving, is_pawn, promotes}
-use Rattle.egt_moves.specs.declared.chess_move.Move.{Move}
-use Rattle.egt_moves.proofs.After.{not_free, target_is}
-use Rattle.egt_steps.specs.Facts.{Facts}
-use Rattle.egt_steps.specs.PawnMoves.{IsPromotingCapture, IsPromotingCaptureFrom, officer_of, stand_in}
-use Rattle.egt_steps.specs.Takings.{IsClassOf, IsPastKings, Left, left_of, stand_left}
 use Rattle.egt_steps.proofs.Fanned.{king_bare}
 use Rattle.egt_steps.proofs.Leaping.{and_false}
 use Rattle.egt_steps.proofs.PawnAdvances.{none_of}

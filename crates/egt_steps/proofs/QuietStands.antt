@@ -1,32 +1,12 @@
 -- The quiet moves from a position lead to the men after quiet steps, and to all of them that are positions.
-use Rattle.std.proofs.Common.{◌≡◌, ◌≢◌, ℕ, ◌<◌, ◌↔◌, if◌then◌else◌, Bool, false, Some, refl, sym, ap, ◌∙◌, subst, inl, inr}
+use Rattle.egt_steps.specs.Prelude.{◌≡◌, ◌≢◌, ℕ, ◌<◌, ◌↔◌, if◌then◌else◌, Bool, false, Some, refl, sym, ap, ◌∙◌, subst}
+use Rattle.egt_steps.specs.Prelude.{inl, inr, bit_at, eqb_tells, IsInCheck, king_of, Reaches, Reaches-free}
+use Rattle.egt_steps.specs.Prelude.{Reaches-on_board, other_side, Placement, Stands, IsFree, one_man, Setup}
+use Rattle.egt_steps.specs.Prelude.{IsAdmissible, P, Man, Side, White, Black, side_twice, IsMoved, IsListed, AllStand}
+use Rattle.egt_steps.specs.Prelude.{HasStand, IsOff, list_of, IsMovedStand, moved_square, ShelfMen, Stand, Zeroes, Goes}
+use Rattle.egt_steps.specs.Prelude.{Leads, plain, Move, king_of_men, stand_on, with_king, Facts, IsClear, IsQuietStand}
+use Rattle.egt_steps.specs.Prelude.{IsQuietTarget}
 use Rattle.std.specs.FinMap as map
-use Rattle.std.specs.Int.{bit_at}
-use Rattle.std.proofs.lemmas.Bool.Decides.{eqb_tells}
-use Rattle.egt_board.specs.Attack.{IsInCheck, king_of}
-use Rattle.egt_board.specs.AttackLines.{Reaches, Reaches-free, Reaches-on_board}
-use Rattle.egt_board.specs.Man.{other_side}
-use Rattle.egt_board.specs.Placement.{Placement, Stands, IsFree, one_man}
-use Rattle.egt_board.specs.Setup.{Setup, IsAdmissible}
-use Rattle.egt_board.specs.declared.man.Kind.TheVariants.{P}
-use Rattle.egt_board.specs.declared.man.Man.{Man}
-use Rattle.egt_board.specs.declared.man.Side.{Side}
-use Rattle.egt_board.specs.declared.man.Side.TheVariants.{White, Black}
-use Rattle.egt_board.proofs.Sides.{side_twice}
-use Rattle.egt_steps.specs.Frame.{IsMoved}
-use Rattle.egt_index.specs.Spelled.{IsListed}
-use Rattle.egt_index.specs.Stood.{AllStand, HasStand, IsOff, list_of}
-use Rattle.egt_index.specs.Went.{IsMovedStand, moved_square}
-use Rattle.egt_index.specs.declared.shelf_codes.ShelfMen.{ShelfMen}
-use Rattle.egt_index.specs.declared.stand.Stand.{Stand}
-use Rattle.egt_moves.specs.Chess.{Zeroes}
-use Rattle.egt_moves.specs.Going.{Goes}
-use Rattle.egt_moves.specs.Legal.{Leads, plain}
-use Rattle.egt_moves.specs.declared.chess_move.Move.{Move}
-use Rattle.egt_steps.specs.Stands.{king_of_men, stand_on, with_king}
-use Rattle.egt_steps.specs.Facts.{Facts}
-use Rattle.egt_steps.specs.QuietStands.{IsClear, IsQuietStand}
-use Rattle.egt_steps.specs.QuietTarget.{IsQuietTarget}
 use Rattle.egt_steps.proofs.Fanned.{goes_quietly, king_reaches}
 use Rattle.egt_steps.proofs.Passed.{departs}
 use Rattle.egt_steps.proofs.Still.{KeepsClass, is_moved}

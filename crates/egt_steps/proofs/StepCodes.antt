@@ -1,27 +1,12 @@
 -- The men of positions before and after a step.
-use Rattle.std.proofs.Common.{◌≡◌, ◌≢◌, ℕ, ◌<◌, ◌↔◌, Bool, false, refl, sym, ap, ◌∙◌, inl, inr, subst}
+use Rattle.egt_steps.specs.Prelude.{◌≡◌, ◌≢◌, ℕ, ◌<◌, ◌↔◌, Bool, false, refl, sym, ap, ◌∙◌, inl, inr, subst, men_of}
+use Rattle.egt_steps.specs.Prelude.{other_side, IsFree, Placement, Stands, Setup, Man, Side, IsOf, IsMoved, IsListed}
+use Rattle.egt_steps.specs.Prelude.{moved_stand, AllApart, HasStand, list_of, IsMovedStand, Stand, all_apart, free_off}
+use Rattle.egt_steps.specs.Prelude.{men_are, listed, listed_stands, no_target, untargeted_settled, apart_all}
 use Rattle.std.specs.FinMap as placement
-use Rattle.egt_board.specs.Listed.{men_of}
-use Rattle.egt_board.specs.Man.{other_side}
-use Rattle.egt_board.specs.Placement.{IsFree, Placement, Stands}
-use Rattle.egt_board.specs.Setup.{Setup}
-use Rattle.egt_board.specs.declared.man.Man.{Man}
-use Rattle.egt_board.specs.declared.man.Side.{Side}
-use Rattle.egt_class.specs.Membership.{IsOf}
 use Rattle.egt_index.specs.Facts.{Facts}
-use Rattle.egt_steps.specs.Frame.{IsMoved}
-use Rattle.egt_index.specs.Spelled.{IsListed}
-use Rattle.egt_steps.specs.StepCodes.{moved_stand}
-use Rattle.egt_index.specs.Stood.{AllApart, HasStand, list_of}
-use Rattle.egt_index.specs.Went.{IsMovedStand}
-use Rattle.egt_index.specs.declared.stand.Stand.{Stand}
-use Rattle.egt_index.proofs.After.{all_apart}
-use Rattle.egt_index.proofs.FrameMen.{free_off, men_are}
 use Rattle.egt_steps.proofs.Gone.{free_before, list_moved, men_moved, moved_list}
-use Rattle.egt_index.proofs.Listing.{listed, listed_stands}
-use Rattle.egt_index.proofs.ToldMen.{no_target, untargeted_settled}
 use Rattle.egt_steps.proofs.Moved.{stand_moved}
-use Rattle.egt_index.proofs.Setups.{apart_all}
 
 -- what a position has in which the men of p stand so after the one on `from` went to `to`
 record HasCome (c : ℕ) (p : Setup) (from to : ℕ) (man : Man) (q : Setup) : Type 0 where

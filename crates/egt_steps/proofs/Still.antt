@@ -1,27 +1,11 @@
 -- A move that does not zero takes one man to a free square, and changes nothing else on the board.
-use Rattle.std.proofs.Common.{◌≡◌, ◌≢◌, ℕ, ◌+◌, ◌/◌, if◌then◌else◌, ◌==◌, ◌&&◌, Bool, true, false, Option, Some, None, refl, ap, ◌∙◌, inl, inr, ◌⊎◌, subst, ◌||◌}
+use Rattle.egt_steps.specs.Prelude.{◌≡◌, ◌≢◌, ℕ, ◌+◌, ◌/◌, if◌then◌else◌, ◌==◌, ◌&&◌, Bool, true, false, Option, Some}
+use Rattle.egt_steps.specs.Prelude.{None, refl, ap, ◌∙◌, inl, inr, ◌⊎◌, subst, ◌||◌, Side, White, Black, Kind, Q, R, B}
+use Rattle.egt_steps.specs.Prelude.{N, P, K, Man, other_side, Placement, Stands, IsFree, get-insert_same, IsHeld}
+use Rattle.egt_steps.specs.Prelude.{one_man, Setup, IsAdmissible, rank_of, ahead, last_rank, IsOf, IsMoved, Zeroes}
+use Rattle.egt_steps.specs.Prelude.{IsPawnOn, Captures, Goes, Leads, men_left, is_target, is_two_ranks, IsLegal, plain}
+use Rattle.egt_steps.specs.Prelude.{passed, is_pawn, FitsPromotion, Move, IsLegalTarget, IsQuietTarget, eqb_tells}
 use Rattle.std.specs.FinMap as map
-use Rattle.egt_board.specs.declared.man.Side.{Side}
-use Rattle.egt_board.specs.declared.man.Side.TheVariants.{White, Black}
-use Rattle.egt_board.specs.declared.man.Kind.{Kind}
-use Rattle.egt_board.specs.declared.man.Kind.TheVariants.{Q, R, B, N, P, K}
-use Rattle.egt_board.specs.declared.man.Man.{Man}
-use Rattle.egt_board.specs.Man.{other_side}
-use Rattle.egt_board.specs.Placement.{Placement, Stands, IsFree, get-insert_same, IsHeld, one_man}
-use Rattle.egt_board.specs.Setup.{Setup, IsAdmissible}
-use Rattle.egt_board.specs.Square.{rank_of}
-use Rattle.egt_board.specs.Pawn.{ahead, last_rank}
-use Rattle.egt_class.specs.Membership.{IsOf}
-use Rattle.egt_steps.specs.Frame.{IsMoved}
-use Rattle.egt_moves.specs.Chess.{Zeroes, IsPawnOn}
-use Rattle.egt_moves.specs.Exchange.{Captures}
-use Rattle.egt_moves.specs.Going.{Goes}
-use Rattle.egt_moves.specs.Legal.{Leads, men_left, is_target, is_two_ranks, IsLegal, plain, passed}
-use Rattle.egt_moves.specs.Promotion.{is_pawn, FitsPromotion}
-use Rattle.egt_moves.specs.declared.chess_move.Move.{Move}
-use Rattle.egt_moves.specs.Targets.{IsLegalTarget}
-use Rattle.egt_steps.specs.QuietTarget.{IsQuietTarget}
-use Rattle.std.proofs.lemmas.Bool.Decides.{eqb_tells}
 
 -- the law on moves that keep the class
 abbrev pub KeepsClass : Type 0

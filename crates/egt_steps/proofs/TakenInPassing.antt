@@ -1,35 +1,14 @@
 -- The captures in passing lead to the three men who are left, and to all positions of them.
-use Rattle.std.proofs.Common.{◌≡◌, ◌≢◌, ℕ, ◌<◌, ◌&&◌, if◌then◌else◌, Bool, true, false, Option, Some, None, IfSome, refl, sym, ap, ◌∙◌, subst, inl, inr, arith}
+use Rattle.egt_steps.specs.Prelude.{◌≡◌, ◌≢◌, ℕ, ◌<◌, ◌&&◌, if◌then◌else◌, Bool, true, false, Option, Some, None}
+use Rattle.egt_steps.specs.Prelude.{IfSome, refl, sym, ap, ◌∙◌, subst, inl, inr, arith, is_some, cases_eq, eq-eqb}
+use Rattle.egt_steps.specs.Prelude.{IsInCheck, king_of, decided_held, Reaches, other_side, ahead, pawn_of, Placement}
+use Rattle.egt_steps.specs.Prelude.{Stands, IsFree, IsHeld, get-remove_other, get-remove_same, one_man, Setup, rank_of}
+use Rattle.egt_steps.specs.Prelude.{IsTarget, target_rank, Kind, P, K, Man, Side, White, Black, side_twice}
+use Rattle.egt_steps.specs.Prelude.{sides_differ, HasStand, ShelfMen, Stand, Goes, Leads, after, is_target, men_after}
+use Rattle.egt_steps.specs.Prelude.{men_left, FitsPromotion, IsOfficer, arriving, is_pawn, promotes, Move, may_become}
+use Rattle.egt_steps.specs.Prelude.{not_free, target_is, Facts, IsOfFourKinds, IsPassingCapture, IsPassingFrom}
+use Rattle.egt_steps.specs.Prelude.{stand_in, IsClassOf, IsPastKings, Left, left_of, stand_left}
 use Rattle.std.specs.FinMap as placement
-use Rattle.std.specs.Option.{is_some}
-use Rattle.std.proofs.lemmas.Bool.{cases_eq, eq-eqb}
-use Rattle.egt_board.specs.Attack.{IsInCheck, king_of}
-use Rattle.egt_board.specs.DecidedMen.{decided_held}
-use Rattle.egt_board.specs.AttackLines.{Reaches}
-use Rattle.egt_board.specs.Man.{other_side}
-use Rattle.egt_board.specs.Pawn.{ahead, pawn_of}
-use Rattle.egt_board.specs.Placement.{Placement, Stands, IsFree, IsHeld, get-remove_other, get-remove_same, one_man}
-use Rattle.egt_board.specs.Setup.{Setup}
-use Rattle.egt_board.specs.Square.{rank_of}
-use Rattle.egt_board.specs.Target.{IsTarget, target_rank}
-use Rattle.egt_board.specs.declared.man.Kind.{Kind}
-use Rattle.egt_board.specs.declared.man.Kind.TheVariants.{P, K}
-use Rattle.egt_board.specs.declared.man.Man.{Man}
-use Rattle.egt_board.specs.declared.man.Side.{Side}
-use Rattle.egt_board.specs.declared.man.Side.TheVariants.{White, Black}
-use Rattle.egt_board.proofs.Sides.{side_twice, sides_differ}
-use Rattle.egt_index.specs.Stood.{HasStand}
-use Rattle.egt_index.specs.declared.shelf_codes.ShelfMen.{ShelfMen}
-use Rattle.egt_index.specs.declared.stand.Stand.{Stand}
-use Rattle.egt_moves.specs.Going.{Goes}
-use Rattle.egt_moves.specs.Legal.{Leads, after, is_target, men_after, men_left}
-use Rattle.egt_moves.specs.Promotion.{FitsPromotion, IsOfficer, arriving, is_pawn, promotes}
-use Rattle.egt_moves.specs.declared.chess_move.Move.{Move}
-use Rattle.egt_moves.proofs.After.{may_become, not_free, target_is}
-use Rattle.egt_steps.specs.Facts.{Facts}
-use Rattle.egt_steps.specs.InPassing.{IsOfFourKinds, IsPassingCapture, IsPassingFrom}
-use Rattle.egt_steps.specs.PawnMoves.{stand_in}
-use Rattle.egt_steps.specs.Takings.{IsClassOf, IsPastKings, Left, left_of, stand_left}
 use Rattle.egt_steps.proofs.LeftTargets.{behind_target}
 use Rattle.egt_steps.proofs.PawnAdvances.{none_of}
 use Rattle.egt_steps.proofs.PawnCaptures.{takes_bare, takes_unpassed}

@@ -1,46 +1,20 @@
 -- The captures from a position that promote no pawn and are not in passing lead to the three men who are left, and to all positions of them.
-use Rattle.std.proofs.Common.{◌≡◌, ◌≢◌, ℕ, ◌+◌, ◌/◌, ◌<◌, ◌⊎◌, ◌↔◌, ◌&&◌, ◌==◌, if◌then◌else◌, Bool, true, false, List, [], ◌∷◌, map, Option, Some, None, IfSome, arith, refl, sym, ap, ◌∙◌, subst, inl, inr}
+use Rattle.egt_steps.specs.Prelude.{◌≡◌, ◌≢◌, ℕ, ◌+◌, ◌/◌, ◌<◌, ◌⊎◌, ◌↔◌, ◌&&◌, ◌==◌, if◌then◌else◌, Bool, true, false}
+use Rattle.egt_steps.specs.Prelude.{List, [], ◌∷◌, map, Option, Some, None, IfSome, arith, refl, sym, ap, ◌∙◌, subst}
+use Rattle.egt_steps.specs.Prelude.{inl, inr, bit_at, is_some, option_map, and_parts, cases_eq, false≢true, eqb_tells}
+use Rattle.egt_steps.specs.Prelude.{HasBeside, IsInCheck, king_of, Reaches, Reaches-free, Reaches-on_board, other_side}
+use Rattle.egt_steps.specs.Prelude.{ahead, last_rank, Placement, Stands, IsFree, IsHeld, one_man, same_men}
+use Rattle.egt_steps.specs.Prelude.{get-insert_same, get-insert_other, get-remove_same, get-remove_other, Setup}
+use Rattle.egt_steps.specs.Prelude.{IsAdmissible, rank_of, IsTarget, turned_man, Kind, P, K, Man, Side, White, Black}
+use Rattle.egt_steps.specs.Prelude.{Reaches-target, side_twice, AreNonKings, AreCounted, IsListed, AllStand, HasStand}
+use Rattle.egt_steps.specs.Prelude.{IsOff, list_of, men_among, ShelfMen, Stand, all_there, free_of, counted_turned}
+use Rattle.egt_steps.specs.Prelude.{turned_back, Goes, Leads, after, is_two_ranks, men_after, passed, plain}
+use Rattle.egt_steps.specs.Prelude.{takes_in_passing, FitsPromotion, arriving, is_pawn, promotes, Move, not_two}
+use Rattle.egt_steps.specs.Prelude.{pawn_told, takes_forward_of, two_forward, two_ranks_told, not_passing, IsBesideKing}
+use Rattle.egt_steps.specs.Prelude.{king_of_men, stand_on, with_king, Facts, IsClassOf, IsPastKings, IsPlainCapture}
+use Rattle.egt_steps.specs.Prelude.{IsTaken, Left, left_of, stand_left}
 use Rattle.std.specs.FinMap as placement
-use Rattle.std.specs.Int.{bit_at}
-use Rattle.std.specs.Option.{is_some, option_map}
-use Rattle.std.proofs.lemmas.Bool.{and_parts, cases_eq, false≢true}
-use Rattle.std.proofs.lemmas.Bool.Decides.{eqb_tells}
-use Rattle.egt_board.specs.AllMen.{HasBeside}
-use Rattle.egt_board.specs.Attack.{IsInCheck, king_of}
-use Rattle.egt_board.specs.AttackLines.{Reaches, Reaches-free, Reaches-on_board}
-use Rattle.egt_board.specs.Man.{other_side}
-use Rattle.egt_board.specs.Pawn.{ahead, last_rank}
-use Rattle.egt_board.specs.Placement.{Placement, Stands, IsFree, IsHeld, one_man, same_men, get-insert_same, get-insert_other, get-remove_same, get-remove_other}
-use Rattle.egt_board.specs.Setup.{Setup, IsAdmissible}
-use Rattle.egt_board.specs.Square.{rank_of}
-use Rattle.egt_board.specs.Target.{IsTarget}
-use Rattle.egt_board.specs.Turned.{turned_man}
-use Rattle.egt_board.specs.declared.man.Kind.{Kind}
-use Rattle.egt_board.specs.declared.man.Kind.TheVariants.{P, K}
-use Rattle.egt_board.specs.declared.man.Man.{Man}
-use Rattle.egt_board.specs.declared.man.Side.{Side}
-use Rattle.egt_board.specs.declared.man.Side.TheVariants.{White, Black}
-use Rattle.egt_board.proofs.Hiding.{Reaches-target}
-use Rattle.egt_board.proofs.Sides.{side_twice}
-use Rattle.egt_class.specs.Pair.{AreNonKings}
-use Rattle.egt_index.specs.Picked.{AreCounted}
-use Rattle.egt_index.specs.Spelled.{IsListed}
-use Rattle.egt_index.specs.Stood.{AllStand, HasStand, IsOff, list_of, men_among}
-use Rattle.egt_index.specs.declared.shelf_codes.ShelfMen.{ShelfMen}
-use Rattle.egt_index.specs.declared.stand.Stand.{Stand}
-use Rattle.egt_index.proofs.After.{all_there}
 use Rattle.egt_index.proofs.ByMen.{no_target}
-use Rattle.egt_index.proofs.Setups.{free_of}
-use Rattle.egt_index.proofs.Standing.{counted_turned, turned_back}
-use Rattle.egt_moves.specs.Going.{Goes}
-use Rattle.egt_moves.specs.Legal.{Leads, after, is_two_ranks, men_after, passed, plain, takes_in_passing}
-use Rattle.egt_moves.specs.Promotion.{FitsPromotion, arriving, is_pawn, promotes}
-use Rattle.egt_moves.specs.declared.chess_move.Move.{Move}
-use Rattle.egt_moves.proofs.Admissible.{not_two, pawn_told, takes_forward_of, two_forward, two_ranks_told}
-use Rattle.egt_moves.proofs.SafeGoals.{not_passing}
-use Rattle.egt_steps.specs.Stands.{IsBesideKing, king_of_men, stand_on, with_king}
-use Rattle.egt_steps.specs.Facts.{Facts}
-use Rattle.egt_steps.specs.Takings.{IsClassOf, IsPastKings, IsPlainCapture, IsTaken, Left, left_of, stand_left}
 use Rattle.egt_steps.proofs.Fanned.{king_reaches}
 use Rattle.egt_steps.proofs.Passed.{departs}
 use Rattle.egt_steps.proofs.Still.{no_pawn_is}

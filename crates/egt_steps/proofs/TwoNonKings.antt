@@ -1,26 +1,11 @@
 -- The kings and two men beside them on their squares.
-use Rattle.std.proofs.Common.{◌≡◌, ◌≢◌, ℕ, ◌⊎◌, Bool, true, false, List, [], ◌∷◌, map, Option, Some, None, sym, ap, ◌∙◌, subst, inl, inr}
+use Rattle.egt_steps.specs.Prelude.{◌≡◌, ◌≢◌, ℕ, ◌⊎◌, Bool, true, false, List, [], ◌∷◌, map, Option, Some, None, sym}
+use Rattle.egt_steps.specs.Prelude.{ap, ◌∙◌, subst, inl, inr, is_some, option_map, cases_eq, HasBeside, king_of}
+use Rattle.egt_steps.specs.Prelude.{Placement, Stands, IsFree, one_man, same_men, IsSettled, Setup, IsAdmissible}
+use Rattle.egt_steps.specs.Prelude.{turned_man, K, Man, Side, White, Black, AreNonKings, AreCounted, AllStand, HasStand}
+use Rattle.egt_steps.specs.Prelude.{IsOff, list_of, men_among, ShelfMen, all_there, free_of, counted_turned}
+use Rattle.egt_steps.specs.Prelude.{turned_back, IsClassAfter, IsClassOfTwo, stand_after, stand_in, stand_two}
 use Rattle.std.specs.FinMap as placement
-use Rattle.std.specs.Option.{is_some, option_map}
-use Rattle.std.proofs.lemmas.Bool.{cases_eq}
-use Rattle.egt_board.specs.AllMen.{HasBeside}
-use Rattle.egt_board.specs.Attack.{king_of}
-use Rattle.egt_board.specs.Placement.{Placement, Stands, IsFree, one_man, same_men}
-use Rattle.egt_board.specs.Settled.{IsSettled}
-use Rattle.egt_board.specs.Setup.{Setup, IsAdmissible}
-use Rattle.egt_board.specs.Turned.{turned_man}
-use Rattle.egt_board.specs.declared.man.Kind.TheVariants.{K}
-use Rattle.egt_board.specs.declared.man.Man.{Man}
-use Rattle.egt_board.specs.declared.man.Side.{Side}
-use Rattle.egt_board.specs.declared.man.Side.TheVariants.{White, Black}
-use Rattle.egt_class.specs.Pair.{AreNonKings}
-use Rattle.egt_index.specs.Picked.{AreCounted}
-use Rattle.egt_index.specs.Stood.{AllStand, HasStand, IsOff, list_of, men_among}
-use Rattle.egt_index.specs.declared.shelf_codes.ShelfMen.{ShelfMen}
-use Rattle.egt_index.proofs.After.{all_there}
-use Rattle.egt_index.proofs.Setups.{free_of}
-use Rattle.egt_index.proofs.Standing.{counted_turned, turned_back}
-use Rattle.egt_steps.specs.PawnMoves.{IsClassAfter, IsClassOfTwo, stand_after, stand_in, stand_two}
 
 -- the men beside the kings are counted, by the law of egt_class
 abbrev pub Counting : Type 0

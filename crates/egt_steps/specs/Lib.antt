@@ -7,3 +7,4 @@ pub mod PawnMoves
 pub mod Stands
 pub mod Frame
 pub mod StepCodes
+pub mod Prelude

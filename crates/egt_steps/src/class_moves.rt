@@ -1,12 +1,6 @@
 //! Which classes single moves lead to. This function does nothing: a caller calls it to know what it ensures.
-ghost use Rattle.std.specs.Prelude.{◌≡◌, ◌<◌, ◌⊎◌, ℕ, Bool, None, IsSome};
-ghost use Rattle.std.specs.List.{Contains};
-ghost use Rattle.egt_board.specs.Setup.{Setup, IsAdmissible};
-ghost use Rattle.egt_class.specs.Children.{children_of};
-ghost use Rattle.egt_class.specs.Membership.{IsOf};
-ghost use Rattle.egt_moves.specs.Exchange.{Captures};
-ghost use Rattle.egt_moves.specs.Legal.{Leads};
-ghost use Rattle.egt_moves.specs.declared.chess_move.Move.{Move};
+ghost use Rattle.egt_steps.specs.Prelude.{◌≡◌, ◌<◌, ◌⊎◌, ℕ, Bool, None, IsSome, Contains, Setup, IsAdmissible};
+ghost use Rattle.egt_steps.specs.Prelude.{children_of, IsOf, Captures, Leads, Move};
 
 use egt_board::counting::one_king_is_counted;
 use egt_moves::exchanging::{moves_exchange_men, moves_keep_admissibility};

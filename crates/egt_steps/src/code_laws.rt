@@ -1,15 +1,6 @@
 //! The men of positions before and after a step. This function does nothing: a caller calls it to know what it ensures.
-ghost use Rattle.std.specs.Prelude.{◌≡◌, ◌≢◌, ◌↔◌, ◌<◌, ℕ, Bool, false};
-ghost use Rattle.egt_board.specs.Man.{other_side};
-ghost use Rattle.egt_board.specs.Placement.{IsFree, Stands};
-ghost use Rattle.egt_board.specs.Setup.{Setup};
-ghost use Rattle.egt_board.specs.declared.man.Man.{Man};
-ghost use Rattle.egt_board.specs.declared.man.Side.{Side};
-ghost use Rattle.egt_index.specs.Spelled.{IsListed};
-ghost use Rattle.egt_index.specs.Stood.{HasStand, IsOff, list_of};
-ghost use Rattle.egt_index.specs.Went.{IsMovedStand};
-ghost use Rattle.egt_index.specs.declared.stand.Stand.{Stand};
-ghost use Rattle.egt_steps.specs.Frame.{IsMoved};
+ghost use Rattle.egt_steps.specs.Prelude.{◌≡◌, ◌≢◌, ◌↔◌, ◌<◌, ℕ, Bool, false, other_side, IsFree, Stands, Setup, Man};
+ghost use Rattle.egt_steps.specs.Prelude.{Side, IsListed, HasStand, IsOff, list_of, IsMovedStand, Stand, IsMoved};
 
 use egt_index::facts::facts;
 

@@ -1,19 +1,7 @@
 //! What holds of single moves. These functions do nothing: a caller calls one to know what it ensures.
-ghost use Rattle.std.specs.Prelude.{◌≢◌, ◌<◌, ℕ, Bool, false};
-ghost use Rattle.egt_board.specs.Man.{other_side};
-ghost use Rattle.egt_board.specs.Setup.{Setup, IsAdmissible};
-ghost use Rattle.egt_board.specs.declared.man.Kind.TheVariants.{K};
-ghost use Rattle.egt_board.specs.declared.man.Side.{Side};
-ghost use Rattle.egt_steps.specs.Frame.{IsMoved};
-ghost use Rattle.egt_index.specs.Stood.{HasStand};
-ghost use Rattle.egt_index.specs.declared.shelf_codes.ShelfMen.{ShelfMen};
-ghost use Rattle.egt_index.specs.declared.stand.Stand.{Stand};
-ghost use Rattle.egt_moves.specs.Chess.{Zeroes};
-ghost use Rattle.egt_moves.specs.Legal.{Leads};
-ghost use Rattle.egt_moves.specs.declared.chess_move.Move.{Move};
-ghost use Rattle.egt_steps.specs.QuietStands.{IsQuietStand};
-ghost use Rattle.egt_steps.specs.Stands.{stand_on};
-ghost use Rattle.egt_steps.specs.Takings.{IsClassOf, IsPlainCapture, IsTaken, Left, stand_left};
+ghost use Rattle.egt_steps.specs.Prelude.{◌≢◌, ◌<◌, ℕ, Bool, false, other_side, Setup, IsAdmissible, K, Side, IsMoved};
+ghost use Rattle.egt_steps.specs.Prelude.{HasStand, ShelfMen, Stand, Zeroes, Leads, Move, IsQuietStand, stand_on};
+ghost use Rattle.egt_steps.specs.Prelude.{IsClassOf, IsPlainCapture, IsTaken, Left, stand_left};
 
 use crate::class_moves::moves_lead_into_the_class_or_a_child;
 use crate::code_laws::stands_follow_moves;

@@ -1,24 +1,11 @@
 //! Where the moves of pawns lead, by the men on their squares. These functions do nothing: a caller calls one to know what
 //! it ensures.
-ghost use Rattle.std.specs.Prelude.{◌≡◌, ◌≢◌, ◌<◌, ◌↔◌, ℕ, Bool, true, false, IsTrue, Option, Some, None};
-ghost use Rattle.egt_board.specs.Man.{other_side};
-ghost use Rattle.egt_board.specs.Pawn.{ahead};
-ghost use Rattle.egt_board.specs.Placement.{IsHeld};
-ghost use Rattle.egt_board.specs.Settled.{SettlesTo};
-ghost use Rattle.egt_board.specs.Setup.{Setup};
-ghost use Rattle.egt_board.specs.declared.man.Kind.{Kind};
-ghost use Rattle.egt_board.specs.declared.man.Kind.TheVariants.{P, K};
-ghost use Rattle.egt_board.specs.declared.man.Side.{Side};
-ghost use Rattle.egt_index.specs.Stood.{HasStand};
-ghost use Rattle.egt_index.specs.declared.shelf_codes.ShelfMen.{ShelfMen};
-ghost use Rattle.egt_index.specs.declared.stand.Stand.{Stand};
-ghost use Rattle.egt_moves.specs.Exchange.{Captures};
-ghost use Rattle.egt_moves.specs.Legal.{Leads};
-ghost use Rattle.egt_moves.specs.Promotion.{arriving};
-ghost use Rattle.egt_moves.specs.declared.chess_move.Move.{Move};
-ghost use Rattle.egt_steps.specs.InPassing.{IsOfFourKinds, IsPassingCapture, IsPassingFrom, LeavesTarget};
-ghost use Rattle.egt_steps.specs.PawnMoves.{IsAdvance, IsAdvanceFrom, IsClassAfter, IsPromotingCapture, IsPromotingCaptureFrom, officer_of, stand_after, stand_in};
-ghost use Rattle.egt_steps.specs.Takings.{IsClassOf, left_of, stand_left};
+ghost use Rattle.egt_steps.specs.Prelude.{◌≡◌, ◌≢◌, ◌<◌, ◌↔◌, ℕ, Bool, true, false, IsTrue, Option, Some, None};
+ghost use Rattle.egt_steps.specs.Prelude.{other_side, ahead, IsHeld, SettlesTo, Setup, Kind, P, K, Side, HasStand};
+ghost use Rattle.egt_steps.specs.Prelude.{ShelfMen, Stand, Captures, Leads, arriving, Move, IsOfFourKinds};
+ghost use Rattle.egt_steps.specs.Prelude.{IsPassingCapture, IsPassingFrom, LeavesTarget, IsAdvance, IsAdvanceFrom};
+ghost use Rattle.egt_steps.specs.Prelude.{IsClassAfter, IsPromotingCapture, IsPromotingCaptureFrom, officer_of};
+ghost use Rattle.egt_steps.specs.Prelude.{stand_after, stand_in, IsClassOf, left_of, stand_left};
 
 use crate::code_laws::stands_follow_moves;
 use crate::facts::facts;

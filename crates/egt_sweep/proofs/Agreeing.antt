@@ -1,23 +1,9 @@
 -- A notion of winning within so many plies that goes by steps is the one that the graph of a class's game counts by its edges and exits.
-use Rattle.std.proofs.Common.{◌≡◌, ℕ, zero, suc, ◌<◌, ◌⊎◌, ◌↔◌, ◌&&◌, not, true, List, [], ◌∷◌, refl, inl, inr}
-use Rattle.std.proofs.Math.Logic.{⊎_elim}
-use Rattle.std.proofs.lemmas.Bool.{false≢true, and_parts}
-use Rattle.std.specs.List.{list_all, list_any}
-use Rattle.egt_board.specs.Setup.{Setup, IsAdmissible}
-use Rattle.egt_index.specs.Index.{IsIndex}
-use Rattle.egt_moves.specs.Arena.{Value, HasMove, HasValue}
-use Rattle.egt_moves.specs.Chess.{chess}
-use Rattle.egt_moves.specs.Standing.{IsCheckmate}
-use Rattle.egt_graph.specs.Graph.{Graph}
-use Rattle.egt_graph.specs.Value.{is_empty, is_lost_before, is_won_before, has_move, mated_within, mates_within}
-use Rattle.egt_graph.specs.declared.game.Exit.{Exit}
-use Rattle.egt_entries.specs.declared.metric.Metric.{Metric}
-use Rattle.egt_entries.specs.Tables.{Tables}
-use Rattle.egt_sweep.specs.ClassGame.{class_game}
-use Rattle.egt_sweep.specs.Edges.{GoesOn}
-use Rattle.egt_sweep.specs.Laws.{Laws}
-use Rattle.egt_sweep.specs.Nodes.{exit_of}
-use Rattle.egt_sweep.specs.Plies.{Plies}
+use Rattle.egt_sweep.specs.Prelude.{◌≡◌, ℕ, zero, suc, ◌<◌, ◌⊎◌, ◌↔◌, ◌&&◌, not, true, List, [], ◌∷◌, refl, inl, inr}
+use Rattle.egt_sweep.specs.Prelude.{⊎_elim, false≢true, and_parts, list_all, list_any, Setup, IsAdmissible, IsIndex}
+use Rattle.egt_sweep.specs.Prelude.{Value, HasMove, HasValue, chess, IsCheckmate, Graph, is_empty, is_lost_before}
+use Rattle.egt_sweep.specs.Prelude.{is_won_before, has_move, mated_within, mates_within, Exit, Metric, Tables}
+use Rattle.egt_sweep.specs.Prelude.{class_game, GoesOn, Laws, exit_of, Plies}
 use Rattle.egt_sweep.proofs.Members.{In, all_in, in_all, any_in, in_any, both, either, or_left, or_right}
 use Rattle.egt_sweep.proofs.Stepping.{ShowsLeft, Telling, on_or_off, on_index, edge_step, step_edge, exit_step, step_exit, mated_is}
 

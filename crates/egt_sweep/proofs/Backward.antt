@@ -1,28 +1,10 @@
 -- The moves that go on to a position are taken back by its unmoves.
-use Rattle.std.proofs.Common.{◌≡◌, ℕ, ◌<◌, ◌⊎◌, ◌↔◌, Bool, List, IsTrue, IsSome, Option, Some, None, refl, sym, subst, inl, inr, arith}
-use Rattle.std.specs.List.{Contains}
-use Rattle.egt_board.specs.Decided.{Decided, tells, tells_so, tells_where, decided_as}
-use Rattle.egt_board.specs.DecidedMen.{decided_on, decided_kind}
-use Rattle.egt_board.specs.Images.{AreImages}
-use Rattle.egt_board.specs.Settled.{IsSettled, SettlesTo}
-use Rattle.egt_board.specs.Setup.{Setup, IsAdmissible}
-use Rattle.egt_board.specs.Placement.{Placement, Stands}
-use Rattle.egt_board.specs.declared.man.Kind.{Kind}
-use Rattle.egt_board.specs.declared.man.Kind.TheVariants.{P}
-use Rattle.egt_board.specs.declared.man.Man.{Man}
-use Rattle.egt_class.specs.Membership.{IsOf}
-use Rattle.egt_index.specs.Code.{Spells}
-use Rattle.egt_index.specs.Index.{IsIndex, IsVoid}
-use Rattle.egt_moves.specs.Chess.{Zeroes, IsPawnOn}
-use Rattle.egt_moves.specs.Exchange.{Captures}
-use Rattle.egt_moves.specs.Legal.{Leads}
-use Rattle.egt_moves.specs.declared.chess_move.Move.{Move}
-use Rattle.egt_entries.specs.declared.metric.Metric.{Metric}
-use Rattle.egt_entries.specs.declared.metric.Metric.TheVariants.{Mate, Zeroing}
-use Rattle.egt_unmoves.specs.Unmoves.{TakesBack, IsUnmove}
-use Rattle.egt_unmoves.specs.declared.unmove.Unmove.{Unmove}
-use Rattle.egt_sweep.specs.Edges.{IsAt, GoesOn, Connects, GoesBack, ComesFrom}
-use Rattle.egt_sweep.specs.Laws.{Laws}
+use Rattle.egt_sweep.specs.Prelude.{◌≡◌, ℕ, ◌<◌, ◌⊎◌, ◌↔◌, Bool, List, IsTrue, IsSome, Option, Some, None, refl, sym}
+use Rattle.egt_sweep.specs.Prelude.{subst, inl, inr, arith, Contains, Decided, tells, tells_so, tells_where, decided_as}
+use Rattle.egt_sweep.specs.Prelude.{decided_on, decided_kind, AreImages, IsSettled, SettlesTo, Setup, IsAdmissible}
+use Rattle.egt_sweep.specs.Prelude.{Placement, Stands, Kind, P, Man, IsOf, Spells, IsIndex, IsVoid, Zeroes, IsPawnOn}
+use Rattle.egt_sweep.specs.Prelude.{Captures, Leads, Move, Metric, Mate, Zeroing, TakesBack, IsUnmove, Unmove, IsAt}
+use Rattle.egt_sweep.specs.Prelude.{GoesOn, Connects, GoesBack, ComesFrom, Laws}
 use Rattle.egt_sweep.proofs.Staying.{no_promotion}
 
 pub decided_pawn : (men : Placement) (s : ℕ) → Decided (IsPawnOn men s)

@@ -1,29 +1,13 @@
 -- Tables made of the ranks of a class's two games are true.
-use Rattle.std.proofs.Common.{◌≡◌, ℕ, zero, suc, ◌<◌, ◌≤◌, None, not, IsTrue, List, length, slice_index, sym, ap, ◌∙◌, subst, arith}
-use Rattle.std.proofs.lemmas.Bool.{false≢true}
-use Rattle.egt_board.specs.Setup.{Setup, IsAdmissible}
-use Rattle.egt_index.specs.Index.{IsIndex, IsVoid}
-use Rattle.egt_index.specs.Size.{size_of}
-use Rattle.egt_moves.specs.Arena.{Value, Win, Loss, Draw, HasValue}
-use Rattle.egt_moves.specs.Chess.{chess}
-use Rattle.egt_moves.specs.Zeroing.{HasZeroing}
-use Rattle.egt_graph.specs.Graph.{Graph, IsNode}
-use Rattle.egt_graph.specs.Value.{decided_within, entry_of, HasRank, IsWithin, AreRanks, SomeAbove}
-use Rattle.egt_graph.specs.declared.game.Exit.{Exit}
+use Rattle.egt_sweep.specs.Prelude.{◌≡◌, ℕ, zero, suc, ◌<◌, ◌≤◌, None, not, IsTrue, List, length, slice_index, sym, ap}
+use Rattle.egt_sweep.specs.Prelude.{◌∙◌, subst, arith, false≢true, Setup, IsAdmissible, IsIndex, IsVoid, size_of, Value}
+use Rattle.egt_sweep.specs.Prelude.{Win, Loss, Draw, HasValue, chess, HasZeroing, Graph, IsNode, decided_within}
+use Rattle.egt_sweep.specs.Prelude.{entry_of, HasRank, IsWithin, AreRanks, SomeAbove, Exit, Metric, Mate, Zeroing}
+use Rattle.egt_sweep.specs.Prelude.{Column, TableValue, HasColumn, IsTable, entries_of, Shows, Tables, beside, entry_at}
+use Rattle.egt_sweep.specs.Prelude.{Tells, IsTrueTable, IsWithinLimit, AllWithinLimit, class_game, Laws, mate_table}
+use Rattle.egt_sweep.specs.Prelude.{ShowsValues, exit_of}
 use Rattle.egt_graph.specs.declared.game.Exit.TheVariants as exits
-use Rattle.egt_entries.specs.declared.metric.Metric.{Metric}
-use Rattle.egt_entries.specs.declared.metric.Metric.TheVariants.{Mate, Zeroing}
-use Rattle.egt_table.specs.declared.column.Column.{Column}
 use Rattle.egt_table.specs.declared.column.Column.TheVariants as columns
-use Rattle.egt_table.specs.Table.{TableValue, HasColumn, IsTable, entries_of}
-use Rattle.egt_entries.specs.Entry.{Shows}
-use Rattle.egt_entries.specs.Tables.{Tables, beside, entry_at}
-use Rattle.egt_entries.specs.Truth.{Tells, IsTrueTable}
-use Rattle.egt_sweep.specs.Built.{IsWithinLimit, AllWithinLimit}
-use Rattle.egt_sweep.specs.ClassGame.{class_game}
-use Rattle.egt_sweep.specs.Laws.{Laws}
-use Rattle.egt_sweep.specs.MateColumn.{mate_table, ShowsValues}
-use Rattle.egt_sweep.specs.Nodes.{exit_of}
 use Rattle.egt_sweep.proofs.Linked.{node_at, spelled_there, void_is}
 
 -- the ranks of these nodes are what P tells

@@ -1,18 +1,8 @@
 -- The indexes to which the moves of a list lead, one move after the other.
-use Rattle.std.proofs.Common.{◌≡◌, ℕ, ◌+◌, ◌<◌, ◌≤◌, ◌⊎◌, ◌↔◌, inl, inr, Bool, true, false, IsTrue, List, [], get_or, length, Some, sym, subst, arith, ◌∙◌}
-use Rattle.std.specs.List.{Contains}
-use Rattle.std.specs.List.Sorted.{IsStrictlyIncreasing}
-use Rattle.std.proofs.Math.Logic.{⊎_map}
-use Rattle.std.proofs.lemmas.Bool.{cases_lt, false≢true}
-use Rattle.std.proofs.lemmas.List.{get_or_default}
-use Rattle.egt_board.specs.Setup.{Setup, IsAdmissible}
-use Rattle.egt_index.specs.Index.{IsIndex}
-use Rattle.egt_moves.specs.Legal.{Leads, IsLegal}
-use Rattle.egt_moves.specs.declared.chess_move.Move.{Move}
-use Rattle.egt_entries.specs.declared.metric.Metric.{Metric}
-use Rattle.egt_unmoves.specs.declared.unmove.Unmove.{Unmove}
-use Rattle.egt_sweep.specs.Edges.{IsAt, GoesOn, LeadsOn, Connects, GoesBack, ComesFrom}
-use Rattle.egt_sweep.specs.Laws.{Laws}
+use Rattle.egt_sweep.specs.Prelude.{◌≡◌, ℕ, ◌+◌, ◌<◌, ◌≤◌, ◌⊎◌, ◌↔◌, inl, inr, Bool, true, false, IsTrue, List, []}
+use Rattle.egt_sweep.specs.Prelude.{get_or, length, Some, sym, subst, arith, ◌∙◌, Contains, IsStrictlyIncreasing, ⊎_map}
+use Rattle.egt_sweep.specs.Prelude.{cases_lt, false≢true, get_or_default, Setup, IsAdmissible, IsIndex, Leads, IsLegal}
+use Rattle.egt_sweep.specs.Prelude.{Move, Metric, Unmove, IsAt, GoesOn, LeadsOn, Connects, GoesBack, ComesFrom, Laws}
 
 -- a listed move is legal
 pub listed_is_legal : (p : Setup) (moves listed : List Move) (n : ℕ) (m : Move) → n < length moves → m ≡ get_or moves n m → moves ≡ listed → ((x : Move) → Contains listed x ↔ IsLegal p x) → IsLegal p m

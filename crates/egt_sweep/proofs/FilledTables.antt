@@ -1,11 +1,6 @@
 -- A table whose entries keep the rules beside the tables at hand is true, and a check accepts it.
-use Rattle.std.proofs.Common.{◌≡◌, ◌↔◌, Some}
-use Rattle.egt_table.specs.Table.{TableValue, IsTable}
-use Rattle.egt_entries.specs.Library.{IsAccepted, ReachesDown}
-use Rattle.egt_entries.specs.Rules.{KeepsRules}
-use Rattle.egt_entries.specs.Tables.{Tables, HasChildren, beside}
-use Rattle.egt_entries.specs.Truth.{IsTrueTable, HasTrueChildren}
-use Rattle.egt_sweep.specs.Laws.{Laws}
+use Rattle.egt_sweep.specs.Prelude.{◌≡◌, ◌↔◌, Some, TableValue, IsTable, IsAccepted, ReachesDown, KeepsRules, Tables}
+use Rattle.egt_sweep.specs.Prelude.{HasChildren, beside, IsTrueTable, HasTrueChildren, Laws}
 use Rattle.egt_sweep.proofs.OutOfClass.{beside_own}
 use Rattle.egt_sweep.proofs.Shown.{beside_children, beside_reach}
 

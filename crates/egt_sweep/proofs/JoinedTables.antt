@@ -1,26 +1,11 @@
 -- A true table with the column of the nearest mates, as its game is solved, is true too.
-use Rattle.std.proofs.Common.{◌≡◌, ℕ, ◌<◌, ◌↔◌, Bool, true, false, Option, Some, None, IsSome, not, List, length, refl, sym, ap, ◌∙◌}
-use Rattle.std.proofs.lemmas.Bool.{false≢true}
-use Rattle.egt_board.specs.Setup.{Setup, IsAdmissible}
-use Rattle.egt_index.specs.Index.{IsIndex}
-use Rattle.egt_index.specs.Size.{size_of}
-use Rattle.egt_moves.specs.Arena.{Value}
-use Rattle.egt_moves.specs.Chess.{chess}
-use Rattle.egt_moves.specs.Reach.{HasReach}
-use Rattle.egt_graph.specs.Graph.{IsNode}
-use Rattle.egt_graph.specs.Near.{AreNears, HasNear, IsShort, near_entry_of}
-use Rattle.egt_entries.specs.declared.metric.Metric.{Metric}
-use Rattle.egt_entries.specs.declared.metric.Metric.TheVariants.{Mate, Zeroing}
-use Rattle.egt_entries.specs.Entry.{Shows}
-use Rattle.egt_entries.specs.Library.{IsAccepted}
-use Rattle.egt_entries.specs.Reach.{ShowsReach}
-use Rattle.egt_entries.specs.Tables.{Tables, HasChildren, HasReachChildren, beside, entry_at}
-use Rattle.egt_entries.specs.Truth.{Tells, IsTrueReach, IsTrueTable, HasTrueChildren}
-use Rattle.egt_table.specs.declared.column.Column.{Column}
+use Rattle.egt_sweep.specs.Prelude.{◌≡◌, ℕ, ◌<◌, ◌↔◌, Bool, true, false, Option, Some, None, IsSome, not, List, length}
+use Rattle.egt_sweep.specs.Prelude.{refl, sym, ap, ◌∙◌, false≢true, Setup, IsAdmissible, IsIndex, size_of, Value, chess}
+use Rattle.egt_sweep.specs.Prelude.{HasReach, IsNode, AreNears, HasNear, IsShort, near_entry_of, Metric, Mate, Zeroing}
+use Rattle.egt_sweep.specs.Prelude.{Shows, IsAccepted, ShowsReach, Tables, HasChildren, HasReachChildren, beside}
+use Rattle.egt_sweep.specs.Prelude.{entry_at, Tells, IsTrueReach, IsTrueTable, HasTrueChildren, Column, TableValue}
+use Rattle.egt_sweep.specs.Prelude.{HasColumn, IsTable, entries_of, Laws, reach_game}
 use Rattle.egt_table.specs.declared.column.Column.TheVariants as columns
-use Rattle.egt_table.specs.Table.{TableValue, HasColumn, IsTable, entries_of}
-use Rattle.egt_sweep.specs.Laws.{Laws}
-use Rattle.egt_sweep.specs.ReachGame.{reach_game}
 use Rattle.egt_sweep.proofs.Linked.{spelled_there, void_is}
 use Rattle.egt_sweep.proofs.OutOfClass.{beside_own}
 use Rattle.egt_sweep.proofs.Shown.{beside_children, beside_reach}

@@ -1,32 +1,14 @@
 -- The functions of the graph tell what the relations say: positions, indexes, moves that go on.
-use Rattle.std.proofs.Common.{◌≡◌, ℕ, ◌<◌, ◌≤◌, ◌↔◌, ◌&&◌, not, Bool, true, false, List, [], ◌∷◌, Option, Some, None, refl, sym, ap, ◌∙◌, subst, inl, inr, arith}
-use Rattle.std.proofs.Math.Logic.{⊎_elim}
-use Rattle.std.proofs.lemmas.Bool.{false≢true, and_parts, not-true, eqb-true, eq-eqb, cases_lt}
-use Rattle.std.proofs.lemmas.List.Folds.{Any-from_list_any, list_any-from_Any}
-use Rattle.std.specs.List.{Contains}
-use Rattle.std.specs.Option.{is_some}
-use Rattle.egt_board.specs.Decided.{Decided, tells, tells_so, tells_where}
-use Rattle.egt_board.specs.DecidedSetup.{settled_form}
-use Rattle.egt_board.specs.DecidedTurns.{IsTurn, decided_turn}
-use Rattle.egt_board.specs.Images.{AreImages}
-use Rattle.egt_board.specs.Settled.{SettlesTo}
-use Rattle.egt_board.specs.Setup.{Setup, IsAdmissible}
-use Rattle.egt_class.specs.Material.{material_of}
-use Rattle.egt_index.specs.Code.{SpellsBy, Spells}
-use Rattle.egt_index.specs.DecidedSpelled.{decided_spelled}
-use Rattle.egt_index.specs.Index.{IsIndex, IsVoid}
-use Rattle.egt_index.specs.Size.{size_of}
-use Rattle.egt_graph.specs.Passing.{passing_below, passing_has, passing_passes, passing_is_below, first_is_least}
-use Rattle.egt_sweep.specs.Laws.{Laws}
-use Rattle.egt_moves.specs.Chess.{Zeroes}
-use Rattle.egt_moves.specs.DecidedMoves.{decided_zeroes}
-use Rattle.egt_moves.specs.Legal.{Leads}
-use Rattle.egt_moves.specs.Moves.{moves_of, played}
-use Rattle.egt_moves.specs.declared.chess_move.Move.{Move}
-use Rattle.egt_entries.specs.declared.metric.Metric.{Metric}
-use Rattle.egt_entries.specs.declared.metric.Metric.TheVariants.{Mate, Zeroing}
-use Rattle.egt_sweep.specs.Edges.{IsAt, GoesOn, Connects}
-use Rattle.egt_sweep.specs.Nodes.{spelled_by, spelled, is_turned, first_of, index_in, is_number, has_index, kept_if, position_at, goes_on, leads_on, connects_from, connects}
+use Rattle.egt_sweep.specs.Prelude.{◌≡◌, ℕ, ◌<◌, ◌≤◌, ◌↔◌, ◌&&◌, not, Bool, true, false, List, [], ◌∷◌, Option, Some}
+use Rattle.egt_sweep.specs.Prelude.{None, refl, sym, ap, ◌∙◌, subst, inl, inr, arith, ⊎_elim, false≢true, and_parts}
+use Rattle.egt_sweep.specs.Prelude.{not-true, eqb-true, eq-eqb, cases_lt, Any-from_list_any, list_any-from_Any}
+use Rattle.egt_sweep.specs.Prelude.{Contains, is_some, Decided, tells, tells_so, tells_where, settled_form, IsTurn}
+use Rattle.egt_sweep.specs.Prelude.{decided_turn, AreImages, SettlesTo, Setup, IsAdmissible, material_of, SpellsBy}
+use Rattle.egt_sweep.specs.Prelude.{Spells, decided_spelled, IsIndex, IsVoid, size_of, passing_below, passing_has}
+use Rattle.egt_sweep.specs.Prelude.{passing_passes, passing_is_below, first_is_least, Laws, Zeroes, decided_zeroes}
+use Rattle.egt_sweep.specs.Prelude.{Leads, moves_of, played, Move, Metric, Mate, Zeroing, IsAt, GoesOn, Connects}
+use Rattle.egt_sweep.specs.Prelude.{spelled_by, spelled, is_turned, first_of, index_in, is_number, has_index, kept_if}
+use Rattle.egt_sweep.specs.Prelude.{position_at, goes_on, leads_on, connects_from, connects}
 
 module _ (laws : Laws) where
   -- ---- what a code spells

@@ -1,22 +1,10 @@
 -- The ranks of the game of mates are the values of the positions.
-use Rattle.std.proofs.Common.{◌≡◌, ◌≢◌, ℕ, zero, suc, ◌<◌, ◌≤◌, ◌↔◌, ◌||◌, Bool, true, false, sym, ap, ◌∙◌, inl, inr, arith}
-use Rattle.std.proofs.Math.Logic.{⊎_elim}
-use Rattle.std.proofs.lemmas.Bool.{false≢true, ltb-true, lt-ltb, cases_lt}
-use Rattle.egt_board.specs.Setup.{Setup, IsAdmissible}
-use Rattle.egt_index.specs.Index.{IsIndex}
-use Rattle.egt_moves.specs.Arena.{Value, Win, Loss, Draw, HasValue, IsMatedWithin, MatesWithin, AvoidsMateFor, CannotMateWithin}
-use Rattle.egt_moves.specs.Chess.{chess}
-use Rattle.egt_graph.specs.Value.{is_lost_before, is_won_before, mated_within, mates_within, HasRank, SomeAbove}
-use Rattle.egt_graph.specs.declared.game.Exit.{Exit}
-use Rattle.egt_entries.specs.declared.metric.Metric.TheVariants.{Mate}
-use Rattle.egt_entries.specs.Tables.{Tables}
-use Rattle.egt_entries.specs.Truth.{HasTrueValuesBelow}
-use Rattle.egt_sweep.specs.Built.{IsAboveLimit, SomeAboveLimit}
-use Rattle.egt_sweep.specs.ClassGame.{class_game}
-use Rattle.egt_sweep.specs.Edges.{IsAt}
-use Rattle.egt_sweep.specs.Laws.{Laws}
-use Rattle.egt_sweep.specs.Nodes.{exit_of}
-use Rattle.egt_sweep.specs.Plies.{Plies}
+use Rattle.egt_sweep.specs.Prelude.{◌≡◌, ◌≢◌, ℕ, zero, suc, ◌<◌, ◌≤◌, ◌↔◌, ◌||◌, Bool, true, false, sym, ap, ◌∙◌, inl}
+use Rattle.egt_sweep.specs.Prelude.{inr, arith, ⊎_elim, false≢true, ltb-true, lt-ltb, cases_lt, Setup, IsAdmissible}
+use Rattle.egt_sweep.specs.Prelude.{IsIndex, Value, Win, Loss, Draw, HasValue, IsMatedWithin, MatesWithin}
+use Rattle.egt_sweep.specs.Prelude.{AvoidsMateFor, CannotMateWithin, chess, is_lost_before, is_won_before, mated_within}
+use Rattle.egt_sweep.specs.Prelude.{mates_within, HasRank, SomeAbove, Exit, Mate, Tables, HasTrueValuesBelow}
+use Rattle.egt_sweep.specs.Prelude.{IsAboveLimit, SomeAboveLimit, class_game, IsAt, Laws, exit_of, Plies}
 use Rattle.egt_sweep.proofs.Agreeing.{GoesBySteps, agree}
 use Rattle.egt_sweep.proofs.Linked.{node_at}
 use Rattle.egt_sweep.proofs.Members.{either}

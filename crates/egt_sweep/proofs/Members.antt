@@ -1,9 +1,7 @@
 -- Members of lists, one by one.
-use Rattle.std.proofs.Common.{◌≡◌, zero, suc, ◌⊎◌, ◌&&◌, ◌||◌, Bool, true, false, List, [], ◌∷◌, ◌++◌, Option, Some, None, refl, sym, ◌∙◌, subst, inl, inr, arith}
-use Rattle.std.proofs.Math.Logic.{⊎_elim, ⊎_map}
-use Rattle.std.proofs.lemmas.Bool.{false≢true, and_parts}
-use Rattle.std.specs.List.{Contains, list_all, list_any, flat_map}
-use Rattle.std.specs.Option.{option_to_list}
+use Rattle.egt_sweep.specs.Prelude.{◌≡◌, zero, suc, ◌⊎◌, ◌&&◌, ◌||◌, Bool, true, false, List, [], ◌∷◌, ◌++◌, Option}
+use Rattle.egt_sweep.specs.Prelude.{Some, None, refl, sym, ◌∙◌, subst, inl, inr, arith, ⊎_elim, ⊎_map, false≢true}
+use Rattle.egt_sweep.specs.Prelude.{and_parts, Contains, list_all, list_any, flat_map, option_to_list}
 
 abbrev pub In : {X : Type 0} → X → List X → Type 0
 In x [] = ⊥

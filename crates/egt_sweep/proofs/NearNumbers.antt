@@ -1,32 +1,12 @@
 -- The numbers of the game of the nearest mates are how far the nearest checkmates are from the positions.
-use Rattle.std.proofs.Common.{◌≡◌, ℕ, zero, suc, ◌<◌, ◌≤◌, ◌↔◌, ◌||◌, Bool, true, List, [], ◌∷◌, map, Option, Some, None, refl, sym, ap, ◌∙◌, subst, inl, inr, arith}
-use Rattle.std.proofs.Math.Logic.{⊎_elim}
-use Rattle.std.proofs.lemmas.Bool.{false≢true, ltb-true, lt-ltb, cases_lt}
-use Rattle.std.specs.List.{Contains, list_any}
-use Rattle.egt_board.specs.Images.{AreImages}
-use Rattle.egt_board.specs.Setup.{Setup, IsAdmissible}
-use Rattle.egt_class.specs.Children.{children_of}
-use Rattle.egt_class.specs.Membership.{IsOf}
-use Rattle.egt_index.specs.Index.{IsIndex}
-use Rattle.egt_moves.specs.Arena.{Value, Win, Loss, Draw, SomeMove}
-use Rattle.egt_moves.specs.Chess.{chess}
-use Rattle.egt_moves.specs.Reach.{HasReach, ReachesMateWithin}
-use Rattle.egt_moves.specs.Standing.{IsCheckmate}
-use Rattle.egt_graph.specs.Graph.{Graph}
-use Rattle.egt_graph.specs.Near.{HasNear, SomeFar, is_near_exit, near_within}
-use Rattle.egt_graph.specs.declared.game.Exit.{Exit}
-use Rattle.egt_entries.specs.declared.metric.Metric.TheVariants.{Mate}
-use Rattle.egt_entries.specs.Entry.{longest}
-use Rattle.egt_entries.specs.NearTables.{near_entry, near_table, near_tables}
-use Rattle.egt_check.specs.Reading.{read, read_shown}
-use Rattle.egt_entries.specs.Tables.{Tables, reach_at}
-use Rattle.egt_entries.specs.Truth.{HasTrueReachesBelow}
-use Rattle.egt_table.specs.Table.{entries_or_none}
-use Rattle.egt_sweep.specs.Built.{SomeReachesFar}
-use Rattle.egt_sweep.specs.Edges.{GoesOn}
-use Rattle.egt_sweep.specs.Laws.{Laws}
-use Rattle.egt_sweep.specs.Nodes.{exit_of, exits_at, shown_below}
-use Rattle.egt_sweep.specs.ReachGame.{as_win, reach_game}
+use Rattle.egt_sweep.specs.Prelude.{◌≡◌, ℕ, zero, suc, ◌<◌, ◌≤◌, ◌↔◌, ◌||◌, Bool, true, List, [], ◌∷◌, map, Option}
+use Rattle.egt_sweep.specs.Prelude.{Some, None, refl, sym, ap, ◌∙◌, subst, inl, inr, arith, ⊎_elim, false≢true}
+use Rattle.egt_sweep.specs.Prelude.{ltb-true, lt-ltb, cases_lt, Contains, list_any, AreImages, Setup, IsAdmissible}
+use Rattle.egt_sweep.specs.Prelude.{children_of, IsOf, IsIndex, Value, Win, Loss, Draw, SomeMove, chess, HasReach}
+use Rattle.egt_sweep.specs.Prelude.{ReachesMateWithin, IsCheckmate, Graph, HasNear, SomeFar, is_near_exit, near_within}
+use Rattle.egt_sweep.specs.Prelude.{Exit, Mate, longest, near_entry, near_table, near_tables, read, read_shown, Tables}
+use Rattle.egt_sweep.specs.Prelude.{reach_at, HasTrueReachesBelow, entries_or_none, SomeReachesFar, GoesOn, Laws}
+use Rattle.egt_sweep.specs.Prelude.{exit_of, exits_at, shown_below, as_win, reach_game}
 use Rattle.egt_sweep.proofs.Linked.{node_at}
 use Rattle.egt_sweep.proofs.Members.{In, any_in, in_any, either, or_left, or_right}
 use Rattle.egt_sweep.proofs.NearEntries.{near_found, near_shown, near_of_entry, slice_near}

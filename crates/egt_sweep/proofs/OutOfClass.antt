@@ -1,33 +1,14 @@
 -- What is told of where the moves that leave a class lead.
-use Rattle.std.proofs.Common.{◌≡◌, ◌≢◌, ℕ, zero, suc, ◌-◌, ◌/◌, ◌%◌, ◌<◌, ◌≤◌, Bool, true, false, List, if◌then◌else◌, Option, Some, None, IsSome, IfSome, eqb, refl, sym, ap, ◌∙◌, subst, inl, inr, arith}
-use Rattle.std.proofs.Math.Logic.{⊎_elim}
-use Rattle.std.proofs.lemmas.Bool.{cases_eq, eqb-true, eq-eqb}
-use Rattle.std.specs.List.{Contains}
-use Rattle.std.specs.Option.{is_some, option_map}
-use Rattle.egt_board.specs.Setup.{Setup, IsAdmissible}
-use Rattle.egt_class.specs.Children.{children_of}
-use Rattle.egt_class.specs.Membership.{IsOf}
-use Rattle.egt_index.specs.Index.{IsIndex}
-use Rattle.egt_moves.specs.Arena.{Value, Win, Loss, Draw}
-use Rattle.egt_moves.specs.Chess.{Zeroes}
-use Rattle.egt_moves.specs.Legal.{Leads}
-use Rattle.egt_moves.specs.Moves.{played}
-use Rattle.egt_moves.specs.declared.chess_move.Move.{Move}
+use Rattle.egt_sweep.specs.Prelude.{◌≡◌, ◌≢◌, ℕ, zero, suc, ◌-◌, ◌/◌, ◌%◌, ◌<◌, ◌≤◌, Bool, true, false, List}
+use Rattle.egt_sweep.specs.Prelude.{if◌then◌else◌, Option, Some, None, IsSome, IfSome, eqb, refl, sym, ap, ◌∙◌, subst}
+use Rattle.egt_sweep.specs.Prelude.{inl, inr, arith, ⊎_elim, cases_eq, eqb-true, eq-eqb, Contains, is_some, option_map}
+use Rattle.egt_sweep.specs.Prelude.{Setup, IsAdmissible, children_of, IsOf, IsIndex, Value, Win, Loss, Draw, Zeroes}
+use Rattle.egt_sweep.specs.Prelude.{Leads, played, Move, Metric, Mate, TableValue, Shows, read, read_shown, Tables}
+use Rattle.egt_sweep.specs.Prelude.{entry_at, beside, HasChildren, near_if, near_of, near_tables, metric_of, known}
+use Rattle.egt_sweep.specs.Prelude.{Knows, GoesOn, mate_table, Objective, Laws, index_in, plies_left, exit_of, shown_in}
+use Rattle.egt_sweep.specs.Prelude.{shown_below, or_else, goes_on, exit_by}
 use Rattle.egt_graph.specs.declared.game.Exit.TheVariants as exits
-use Rattle.egt_entries.specs.declared.metric.Metric.{Metric}
-use Rattle.egt_entries.specs.declared.metric.Metric.TheVariants.{Mate}
-use Rattle.egt_table.specs.Table.{TableValue}
-use Rattle.egt_entries.specs.Entry.{Shows}
-use Rattle.egt_check.specs.Reading.{read, read_shown}
-use Rattle.egt_entries.specs.Tables.{Tables, entry_at, beside, HasChildren}
-use Rattle.egt_entries.specs.NearTables.{near_if, near_of, near_tables}
-use Rattle.egt_sweep.specs.Objective.{metric_of, known, Knows}
-use Rattle.egt_sweep.specs.Edges.{GoesOn}
-use Rattle.egt_sweep.specs.MateColumn.{mate_table}
-use Rattle.egt_sweep.specs.declared.objective.Objective.{Objective}
 use Rattle.egt_sweep.specs.declared.objective.Objective.TheVariants as objectives
-use Rattle.egt_sweep.specs.Laws.{Laws}
-use Rattle.egt_sweep.specs.Nodes.{index_in, plies_left, exit_of, shown_in, shown_below, or_else, goes_on, exit_by}
 use Rattle.egt_sweep.proofs.Linked.{index_is, goes_is}
 use Rattle.egt_sweep.proofs.Staying.{quiet_goes_on}
 

@@ -1,19 +1,8 @@
 -- Mate entries that are known of a class before its table is made.
-use Rattle.std.proofs.Common.{◌≡◌, ℕ, ◌<◌, Bool, List, length, slice_index, Option, Some, None, IsSome, IfSome, sym, ap, ◌∙◌, subst, arith}
-use Rattle.std.proofs.lemmas.Bool.{false≢true}
-use Rattle.egt_board.specs.Setup.{Setup, IsAdmissible}
-use Rattle.egt_class.specs.Membership.{IsOf}
-use Rattle.egt_index.specs.Index.{IsIndex}
-use Rattle.egt_index.specs.Size.{size_of}
-use Rattle.egt_moves.specs.Arena.{Value}
-use Rattle.egt_entries.specs.declared.metric.Metric.TheVariants.{Mate}
-use Rattle.egt_table.specs.Table.{TableValue}
-use Rattle.egt_entries.specs.Entry.{Shows}
-use Rattle.egt_check.specs.Reading.{in_range, read}
-use Rattle.egt_entries.specs.Tables.{Tables, entry_at}
-use Rattle.egt_sweep.specs.Laws.{Laws}
-use Rattle.egt_sweep.specs.MateColumn.{IsIndexed, IsMateColumn}
-use Rattle.egt_sweep.specs.Nodes.{shown_below}
+use Rattle.egt_sweep.specs.Prelude.{◌≡◌, ℕ, ◌<◌, Bool, List, length, slice_index, Option, Some, None, IsSome, IfSome}
+use Rattle.egt_sweep.specs.Prelude.{sym, ap, ◌∙◌, subst, arith, false≢true, Setup, IsAdmissible, IsOf, IsIndex, size_of}
+use Rattle.egt_sweep.specs.Prelude.{Value, Mate, TableValue, Shows, in_range, read, Tables, entry_at, Laws, IsIndexed}
+use Rattle.egt_sweep.specs.Prelude.{IsMateColumn, shown_below}
 use Rattle.egt_sweep.proofs.Linked.{spelled_there}
 use Rattle.egt_sweep.proofs.OutOfClass.{shown_is}
 

@@ -1,23 +1,9 @@
 -- What true tables show of positions is their value.
-use Rattle.std.proofs.Common.{◌≡◌, ◌≢◌, ℕ, ◌<◌, Bool, Option, Some, IfSome, IsSome, sym, ◌∙◌, subst, arith}
-use Rattle.std.proofs.Math.Logic.{⊎_elim}
-use Rattle.std.specs.List.{Contains}
-use Rattle.egt_board.specs.Setup.{Setup, IsAdmissible}
-use Rattle.egt_class.specs.Children.{children_of}
-use Rattle.egt_class.specs.Membership.{IsOf}
-use Rattle.egt_index.specs.Index.{IsIndex}
-use Rattle.egt_moves.specs.Arena.{Value, HasValue}
-use Rattle.egt_moves.specs.Chess.{chess}
-use Rattle.egt_moves.specs.Legal.{Leads}
-use Rattle.egt_moves.specs.declared.chess_move.Move.{Move}
-use Rattle.egt_entries.specs.declared.metric.Metric.TheVariants.{Mate, Zeroing}
-use Rattle.egt_table.specs.Table.{TableValue}
-use Rattle.egt_check.specs.Reading.{read_shown}
-use Rattle.egt_entries.specs.Tables.{Tables, beside, entry_at, HasReachChildren}
-use Rattle.egt_entries.specs.Truth.{HasTrueChildren, HasTrueValuesBelow}
-use Rattle.egt_sweep.specs.Laws.{Laws}
-use Rattle.egt_sweep.specs.MateColumn.{ShowsValues}
-use Rattle.egt_sweep.specs.Nodes.{shown_below}
+use Rattle.egt_sweep.specs.Prelude.{◌≡◌, ◌≢◌, ℕ, ◌<◌, Bool, Option, Some, IfSome, IsSome, sym, ◌∙◌, subst, arith}
+use Rattle.egt_sweep.specs.Prelude.{⊎_elim, Contains, Setup, IsAdmissible, children_of, IsOf, IsIndex, Value, HasValue}
+use Rattle.egt_sweep.specs.Prelude.{chess, Leads, Move, Mate, Zeroing, TableValue, read_shown, Tables, beside, entry_at}
+use Rattle.egt_sweep.specs.Prelude.{HasReachChildren, HasTrueChildren, HasTrueValuesBelow, Laws, ShowsValues}
+use Rattle.egt_sweep.specs.Prelude.{shown_below}
 use Rattle.egt_sweep.proofs.OutOfClass.{shown_is, beside_other}
 use Rattle.egt_sweep.proofs.Stepping.{ShowsLeft}
 

@@ -1,22 +1,10 @@
 -- Positions at nodes, as the graph's tests tell them.
-use Rattle.std.proofs.Common.{◌≡◌, ℕ, ◌<◌, ◌⊎◌, ◌↔◌, not, Bool, true, false, List, Option, Some, None, IfSome, IfNone, IsFalse, refl, sym, ap, ◌∙◌, subst, inl, inr}
-use Rattle.std.specs.Option.{is_some}
-use Rattle.std.specs.List.{Contains}
-use Rattle.std.specs.List.Sorted.{IsStrictlyIncreasing}
-use Rattle.egt_board.specs.Decided.{Decided, tells, tells_where}
-use Rattle.egt_board.specs.Setup.{Setup}
-use Rattle.egt_index.specs.Code.{Spells}
-use Rattle.egt_index.specs.Index.{IsIndex, IsVoid}
-use Rattle.egt_index.specs.Size.{size_of}
-use Rattle.egt_moves.specs.DecidedMoves.{decided_checkmate}
-use Rattle.egt_moves.specs.Standing.{IsCheckmate, StandsAs}
-use Rattle.egt_moves.specs.declared.outcome.Standing.{Standing}
+use Rattle.egt_sweep.specs.Prelude.{◌≡◌, ℕ, ◌<◌, ◌⊎◌, ◌↔◌, not, Bool, true, false, List, Option, Some, None, IfSome}
+use Rattle.egt_sweep.specs.Prelude.{IfNone, IsFalse, refl, sym, ap, ◌∙◌, subst, inl, inr, is_some, Contains}
+use Rattle.egt_sweep.specs.Prelude.{IsStrictlyIncreasing, Decided, tells, tells_where, Setup, Spells, IsIndex, IsVoid}
+use Rattle.egt_sweep.specs.Prelude.{size_of, decided_checkmate, IsCheckmate, StandsAs, Standing, passing_below}
+use Rattle.egt_sweep.specs.Prelude.{passing_is, Metric, IsAt, Connects, Laws, position_at, is_mated, connects}
 use Rattle.egt_moves.specs.declared.outcome.Standing.TheVariants.{Stalemate, HasMove}
-use Rattle.egt_graph.specs.Passing.{passing_below, passing_is}
-use Rattle.egt_entries.specs.declared.metric.Metric.{Metric}
-use Rattle.egt_sweep.specs.Edges.{IsAt, Connects}
-use Rattle.egt_sweep.specs.Laws.{Laws}
-use Rattle.egt_sweep.specs.Nodes.{position_at, is_mated, connects}
 use Rattle.egt_sweep.proofs.Linked.{position_is, void_is, there_is, node_at, connects_is}
 
 pub denied : (b x : Bool) → not b ≡ x → b ≡ not x

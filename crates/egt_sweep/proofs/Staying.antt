@@ -1,22 +1,9 @@
 -- Which moves stay in a class.
-use Rattle.std.proofs.Common.{◌≡◌, ℕ, ◌<◌, ◌↔◌, not, Bool, true, false, Option, Some, None, IsTrue, eqb, refl, sym, subst, ◌∙◌, inl, inr}
-use Rattle.std.proofs.lemmas.Bool.{false≢true, and_parts, eqb-true, eq-eqb}
-use Rattle.egt_board.specs.Setup.{Setup, IsAdmissible}
-use Rattle.egt_board.specs.declared.man.Kind.{Kind}
-use Rattle.egt_board.specs.declared.man.Kind.TheVariants.{Q, R, B, N, P, K}
-use Rattle.egt_board.specs.Pawn.{last_rank}
-use Rattle.egt_board.specs.Square.{rank_of}
-use Rattle.egt_class.specs.Membership.{IsOf}
-use Rattle.egt_index.specs.Index.{IsIndex}
-use Rattle.egt_moves.specs.Chess.{Zeroes, IsPawnOn}
-use Rattle.egt_moves.specs.Exchange.{Captures}
-use Rattle.egt_moves.specs.Legal.{Leads}
-use Rattle.egt_moves.specs.Promotion.{FitsPromotion, promotes, is_pawn}
-use Rattle.egt_moves.specs.declared.chess_move.Move.{Move}
-use Rattle.egt_entries.specs.declared.metric.Metric.{Metric}
-use Rattle.egt_entries.specs.declared.metric.Metric.TheVariants.{Mate, Zeroing}
-use Rattle.egt_sweep.specs.Edges.{GoesOn}
-use Rattle.egt_sweep.specs.Laws.{Laws}
+use Rattle.egt_sweep.specs.Prelude.{◌≡◌, ℕ, ◌<◌, ◌↔◌, not, Bool, true, false, Option, Some, None, IsTrue, eqb, refl}
+use Rattle.egt_sweep.specs.Prelude.{sym, subst, ◌∙◌, inl, inr, false≢true, and_parts, eqb-true, eq-eqb, Setup}
+use Rattle.egt_sweep.specs.Prelude.{IsAdmissible, Kind, Q, R, B, N, P, K, last_rank, rank_of, IsOf, IsIndex, Zeroes}
+use Rattle.egt_sweep.specs.Prelude.{IsPawnOn, Captures, Leads, FitsPromotion, promotes, is_pawn, Move, Metric, Mate}
+use Rattle.egt_sweep.specs.Prelude.{Zeroing, GoesOn, Laws}
 
 -- a test of what does not hold
 pub does_not_zero : {Z : Type 0} (b : Bool) → (IsTrue b ↔ Z) → IsTrue (not b) ↔ ¬ Z

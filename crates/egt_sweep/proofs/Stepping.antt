@@ -1,31 +1,11 @@
 -- The edges and the exits of a class's game are the steps of play.
-use Rattle.std.proofs.Common.{◌≡◌, ℕ, ◌<◌, ◌⊎◌, ◌↔◌, if◌then◌else◌, Bool, true, false, Option, Some, None, refl, sym, ap, ◌∙◌, subst, inl, inr}
-use Rattle.std.proofs.Math.Logic.{⊎_elim}
-use Rattle.std.proofs.lemmas.Bool.{false≢true}
-use Rattle.egt_board.specs.Decided.{tells, tells_so, tells_where}
-use Rattle.egt_board.specs.Images.{AreImages}
-use Rattle.egt_board.specs.Setup.{Setup, IsAdmissible}
-use Rattle.egt_class.specs.Membership.{IsOf}
-use Rattle.egt_index.specs.Code.{Spells}
-use Rattle.egt_index.specs.Index.{IsIndex, IsVoid}
-use Rattle.egt_index.specs.Size.{size_of}
-use Rattle.egt_moves.specs.Arena.{Value}
-use Rattle.egt_moves.specs.Chess.{chess, Zeroes}
-use Rattle.egt_moves.specs.DecidedMoves.{decided_checkmate}
-use Rattle.egt_moves.specs.Legal.{Leads}
-use Rattle.egt_moves.specs.Moves.{moves_of, played}
-use Rattle.egt_moves.specs.Standing.{IsCheckmate}
-use Rattle.egt_moves.specs.declared.chess_move.Move.{Move}
-use Rattle.egt_graph.specs.Graph.{Graph}
-use Rattle.egt_graph.specs.Passing.{passing_has, passing_passes}
-use Rattle.egt_graph.specs.declared.game.Exit.{Exit}
-use Rattle.egt_entries.specs.declared.metric.Metric.{Metric}
-use Rattle.egt_entries.specs.declared.metric.Metric.TheVariants.{Mate, Zeroing}
-use Rattle.egt_entries.specs.Tables.{Tables}
-use Rattle.egt_sweep.specs.ClassGame.{class_game}
-use Rattle.egt_sweep.specs.Edges.{IsAt, GoesOn, Connects}
-use Rattle.egt_sweep.specs.Laws.{Laws}
-use Rattle.egt_sweep.specs.Nodes.{position_at, is_mated, connects, goes_on, exit_of, exit_by, exits_at, exits_from, shown_below}
+use Rattle.egt_sweep.specs.Prelude.{◌≡◌, ℕ, ◌<◌, ◌⊎◌, ◌↔◌, if◌then◌else◌, Bool, true, false, Option, Some, None, refl}
+use Rattle.egt_sweep.specs.Prelude.{sym, ap, ◌∙◌, subst, inl, inr, ⊎_elim, false≢true, tells, tells_so, tells_where}
+use Rattle.egt_sweep.specs.Prelude.{AreImages, Setup, IsAdmissible, IsOf, Spells, IsIndex, IsVoid, size_of, Value}
+use Rattle.egt_sweep.specs.Prelude.{chess, Zeroes, decided_checkmate, Leads, moves_of, played, IsCheckmate, Move, Graph}
+use Rattle.egt_sweep.specs.Prelude.{passing_has, passing_passes, Exit, Metric, Mate, Zeroing, Tables, class_game, IsAt}
+use Rattle.egt_sweep.specs.Prelude.{GoesOn, Connects, Laws, position_at, is_mated, connects, goes_on, exit_of, exit_by}
+use Rattle.egt_sweep.specs.Prelude.{exits_at, exits_from, shown_below}
 use Rattle.egt_sweep.proofs.Backward.{image_index}
 use Rattle.egt_sweep.proofs.Linked.{position_is, goes_is, connects_is}
 use Rattle.egt_sweep.proofs.Members.{In, contains_in, in_contains, in_given, given_in}

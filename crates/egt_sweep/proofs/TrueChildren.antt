@@ -1,10 +1,6 @@
 -- The tables of a class's children are true, as a library says of each table that it has.
-use Rattle.std.proofs.Common.{◌≡◌, ℕ, Option, Some, None, IsSome, IfSome, refl, sym}
-use Rattle.std.proofs.lemmas.Bool.{false≢true}
-use Rattle.egt_table.specs.Table.{TableValue}
-use Rattle.egt_entries.specs.Tables.{Tables, HasChildren}
-use Rattle.egt_entries.specs.Truth.{IsTrueTable, HasTrueChildren}
-use Rattle.egt_sweep.specs.Built.{HasNoFalseChild}
+use Rattle.egt_sweep.specs.Prelude.{◌≡◌, ℕ, Option, Some, None, IsSome, IfSome, refl, sym, false≢true, TableValue}
+use Rattle.egt_sweep.specs.Prelude.{Tables, HasChildren, IsTrueTable, HasTrueChildren, HasNoFalseChild}
 
 of_table : (d : ℕ) (o x : Option TableValue) → o ≡ x → IsSome o → IfSome o (λ t. (t.class ≡ d) × IsTrueTable t) → (t : TableValue) × (x ≡ Some t) × (t.class ≡ d) × IsTrueTable t
 of_table d None x e some told = absurd (false≢true some)

@@ -1,18 +1,8 @@
 -- Whether the mates of a true table are within a limit.
-use Rattle.std.proofs.Common.{◌≡◌, ℕ, ◌+◌, ◌*◌, ◌<◌, ◌≤◌, ◌⊎◌, inl, inr, subst, arith}
-use Rattle.egt_board.specs.Setup.{Setup, IsAdmissible}
-use Rattle.egt_index.specs.Code.{Spells}
-use Rattle.egt_index.specs.Index.{IsIndex, IsVoid}
-use Rattle.egt_index.specs.Size.{size_of}
-use Rattle.egt_moves.specs.Arena.{Value, Win, Loss, Draw, HasValue}
-use Rattle.egt_moves.specs.Chess.{chess}
-use Rattle.egt_entries.specs.Entry.{Shows}
-use Rattle.egt_entries.specs.Tables.{entry_at}
-use Rattle.egt_entries.specs.Truth.{IsTrueTable}
-use Rattle.egt_entries.specs.declared.metric.Metric.TheVariants.{Mate}
-use Rattle.egt_table.specs.Table.{TableValue}
-use Rattle.egt_sweep.specs.Built.{AllWithinLimit, IsAboveLimit, IsWithinLimit, SomeAboveLimit}
-use Rattle.egt_sweep.specs.Laws.{Laws}
+use Rattle.egt_sweep.specs.Prelude.{◌≡◌, ℕ, ◌+◌, ◌*◌, ◌<◌, ◌≤◌, ◌⊎◌, inl, inr, subst, arith, Setup, IsAdmissible}
+use Rattle.egt_sweep.specs.Prelude.{Spells, IsIndex, IsVoid, size_of, Value, Win, Loss, Draw, HasValue, chess, Shows}
+use Rattle.egt_sweep.specs.Prelude.{entry_at, IsTrueTable, Mate, TableValue, AllWithinLimit, IsAboveLimit}
+use Rattle.egt_sweep.specs.Prelude.{IsWithinLimit, SomeAboveLimit, Laws}
 
 shown_within : (x limit : ℕ) (v : Value) → Shows x v → x ≤ 3 + 2 * limit → IsWithinLimit limit v
 shown_within x limit (Win n) shows le = omega (arith, shows.1, le)

@@ -1,29 +1,13 @@
 -- The ranks of the game of zeroing moves are the zeroing distances of the positions.
-use Rattle.std.proofs.Common.{◌≡◌, ℕ, zero, suc, ◌<◌, ◌≤◌, ◌⊎◌, ◌↔◌, Bool, true, IsTrue, Option, Some, None, refl, sym, ap, ◌∙◌, subst, inl, inr, arith}
-use Rattle.std.proofs.Math.Logic.{⊎_elim}
-use Rattle.std.proofs.lemmas.Bool.{false≢true, lt-ltb}
-use Rattle.egt_board.specs.Decided.{Decided, tells, tells_so, tells_where}
-use Rattle.egt_board.specs.DecidedSetup.{decided_admissible}
-use Rattle.egt_board.specs.Setup.{Setup, IsAdmissible}
-use Rattle.egt_index.specs.Index.{IsIndex}
-use Rattle.egt_moves.specs.Arena.{Value, Win, Loss, Draw, HasMove, SomeMove, IsStalemate, HasValue, IsWon, IsLost, IsMatedWithin, MatesWithin, AvoidsMateFor, CannotMateWithin}
-use Rattle.egt_moves.specs.Chess.{chess, Zeroes}
-use Rattle.egt_moves.specs.DecidedMoves.{decided_zeroes}
-use Rattle.egt_moves.specs.Entries.{Fits, JudgedOver}
-use Rattle.egt_moves.specs.Zeroing.{HasZeroing, ZeroesLosingWithin, ZeroesWinningWithin}
-use Rattle.egt_graph.specs.Value.{is_lost_before, is_won_before, mated_within, mates_within, decided_within, HasRank}
-use Rattle.egt_graph.specs.declared.game.Exit.{Exit}
-use Rattle.egt_entries.specs.declared.metric.Metric.TheVariants.{Mate, Zeroing}
-use Rattle.egt_table.specs.Table.{TableValue}
-use Rattle.egt_entries.specs.Tables.{Tables}
-use Rattle.egt_entries.specs.Truth.{HasTrueValuesBelow}
-use Rattle.egt_sweep.specs.Built.{IsWithinLimit}
-use Rattle.egt_sweep.specs.ClassGame.{class_game}
-use Rattle.egt_sweep.specs.Edges.{GoesOn}
-use Rattle.egt_sweep.specs.Laws.{Laws}
-use Rattle.egt_sweep.specs.MateColumn.{ShowsValues}
-use Rattle.egt_sweep.specs.Nodes.{index_in, exit_of, shown_below}
-use Rattle.egt_sweep.specs.Plies.{Plies}
+use Rattle.egt_sweep.specs.Prelude.{◌≡◌, ℕ, zero, suc, ◌<◌, ◌≤◌, ◌⊎◌, ◌↔◌, Bool, true, IsTrue, Option, Some, None, refl}
+use Rattle.egt_sweep.specs.Prelude.{sym, ap, ◌∙◌, subst, inl, inr, arith, ⊎_elim, false≢true, lt-ltb, Decided, tells}
+use Rattle.egt_sweep.specs.Prelude.{tells_so, tells_where, decided_admissible, Setup, IsAdmissible, IsIndex, Value, Win}
+use Rattle.egt_sweep.specs.Prelude.{Loss, Draw, HasMove, SomeMove, IsStalemate, HasValue, IsWon, IsLost, IsMatedWithin}
+use Rattle.egt_sweep.specs.Prelude.{MatesWithin, AvoidsMateFor, CannotMateWithin, chess, Zeroes, decided_zeroes, Fits}
+use Rattle.egt_sweep.specs.Prelude.{JudgedOver, HasZeroing, ZeroesLosingWithin, ZeroesWinningWithin, is_lost_before}
+use Rattle.egt_sweep.specs.Prelude.{is_won_before, mated_within, mates_within, decided_within, HasRank, Exit, Mate}
+use Rattle.egt_sweep.specs.Prelude.{Zeroing, TableValue, Tables, HasTrueValuesBelow, IsWithinLimit, class_game, GoesOn}
+use Rattle.egt_sweep.specs.Prelude.{Laws, ShowsValues, index_in, exit_of, shown_below, Plies}
 use Rattle.egt_sweep.proofs.Agreeing.{GoesBySteps, agree}
 use Rattle.egt_sweep.proofs.Linked.{index_is}
 use Rattle.egt_sweep.proofs.Members.{either, or_left, or_right}

@@ -8,3 +8,4 @@ pub mod MateColumn
 pub mod Objective
 pub mod Built
 pub mod Fault
+pub mod Prelude

@@ -1,15 +1,8 @@
 //! The builder of tables.
-ghost use Rattle.std.specs.Prelude.{◌≡◌, ◌≤◌, ℕ, Some, length, IfOk, IfErr, IfSome, IsSome};
-ghost use Rattle.egt_graph.specs.Near.{AreNears};
-ghost use Rattle.egt_graph.specs.Value.{AreRanks};
-ghost use Rattle.egt_index.specs.Size.{size_of};
-ghost use Rattle.egt_entries.specs.declared.metric.Metric.TheVariants.{Mate, Zeroing};
-ghost use Rattle.egt_entries.specs.Tables.{table_at, beside, HasChildren, HasReachChildren};
-ghost use Rattle.egt_entries.specs.Truth.{IsTrueTable};
-ghost use Rattle.egt_sweep.specs.Built.{AllWithinLimit, IsBuilt, IsNotBuilt, HasNoFalseChild, SomeReachesFar};
-ghost use Rattle.egt_sweep.specs.ClassGame.{class_game};
-ghost use Rattle.egt_sweep.specs.MateColumn.{mate_table};
-ghost use Rattle.egt_sweep.specs.ReachGame.{reach_game};
+ghost use Rattle.egt_sweep.specs.Prelude.{◌≡◌, ◌≤◌, ℕ, Some, length, IfOk, IfErr, IfSome, IsSome, AreNears, AreRanks};
+ghost use Rattle.egt_sweep.specs.Prelude.{size_of, Mate, Zeroing, table_at, beside, HasChildren, HasReachChildren};
+ghost use Rattle.egt_sweep.specs.Prelude.{IsTrueTable, AllWithinLimit, IsBuilt, IsNotBuilt, HasNoFalseChild};
+ghost use Rattle.egt_sweep.specs.Prelude.{SomeReachesFar, class_game, mate_table, reach_game};
 
 use crate::build_fault::BuildFault;
 use crate::filling::filled;

@@ -1,11 +1,7 @@
 //! The moves that go on in a class's game.
-ghost use Rattle.std.specs.Prelude.{◌≡◌, ◌↔◌, ◌+◌, ◌≤◌, ◌<◌, ◌⊎◌, ℕ, Bool, IsTrue};
-ghost use Rattle.std.specs.List.{Contains};
-ghost use Rattle.std.specs.List.Sorted.{IsStrictlyIncreasing};
-ghost use Rattle.arrayvec.specs.ArrayVec.{array_vec_len};
-ghost use Rattle.egt_class.specs.Membership.{IsOf};
-ghost use Rattle.egt_moves.specs.Legal.{Leads, IsLegal};
-ghost use Rattle.egt_sweep.specs.Edges.{IsAt, GoesOn, LeadsOn, Connects};
+ghost use Rattle.egt_sweep.specs.Prelude.{◌≡◌, ◌↔◌, ◌+◌, ◌≤◌, ◌<◌, ◌⊎◌, ℕ, Bool, IsTrue, Contains};
+ghost use Rattle.egt_sweep.specs.Prelude.{IsStrictlyIncreasing, array_vec_len, IsOf, Leads, IsLegal, IsAt, GoesOn};
+ghost use Rattle.egt_sweep.specs.Prelude.{LeadsOn, Connects};
 
 use crate::ascending::put;
 use crate::laws::laws;

@@ -1,19 +1,8 @@
 //! What the moves that leave a game are worth in it.
-ghost use Rattle.std.specs.Prelude.{◌≡◌, ◌+◌, ◌++◌, ◌≤◌, ◌<◌, ℕ, Bool, Some, IsSome, IfSome};
-ghost use Rattle.std.specs.Option.{option_to_list};
-ghost use Rattle.arrayvec.specs.ArrayVec.{array_vec_len};
-ghost use Rattle.egt_class.specs.Membership.{IsOf};
-ghost use Rattle.egt_moves.specs.Arena.{Value};
-ghost use Rattle.egt_moves.specs.Legal.{IsLegal};
-ghost use Rattle.egt_moves.specs.Moves.{played};
-ghost use Rattle.egt_entries.specs.declared.metric.Metric.TheVariants.{Mate};
-ghost use Rattle.egt_entries.specs.Entry.{Shows};
-ghost use Rattle.egt_entries.specs.NearTables.{near_tables};
-ghost use Rattle.egt_check.specs.Reading.{read};
-ghost use Rattle.egt_entries.specs.Tables.{table_at, entry_at, HasChildren};
-ghost use Rattle.egt_sweep.specs.Objective.{metric_of, known, Knows};
-ghost use Rattle.egt_sweep.specs.MateColumn.{IsIndexed};
-ghost use Rattle.egt_sweep.specs.Nodes.{plies_left, exit_of, shown_below, exit_by, exits_from};
+ghost use Rattle.egt_sweep.specs.Prelude.{◌≡◌, ◌+◌, ◌++◌, ◌≤◌, ◌<◌, ℕ, Bool, Some, IsSome, IfSome, option_to_list};
+ghost use Rattle.egt_sweep.specs.Prelude.{array_vec_len, IsOf, Value, IsLegal, played, Mate, Shows, near_tables, read};
+ghost use Rattle.egt_sweep.specs.Prelude.{table_at, entry_at, HasChildren, metric_of, known, Knows, IsIndexed};
+ghost use Rattle.egt_sweep.specs.Prelude.{plies_left, exit_of, shown_below, exit_by, exits_from};
 
 use crate::edges::goes_on;
 use crate::laws::laws;

@@ -1,10 +1,6 @@
 //! Whether the mates of a true table are within a limit.
-ghost use Rattle.std.specs.Prelude.{◌≡◌, ◌+◌, ◌*◌, ◌≤◌, ◌<◌, ℕ, IfOk, IfErr, IfSome, IfNone};
-ghost use Rattle.egt_entries.specs.Tables.{entry_at};
-ghost use Rattle.egt_entries.specs.Truth.{IsTrueTable};
-ghost use Rattle.egt_entries.specs.declared.metric.Metric.TheVariants.{Mate};
-ghost use Rattle.egt_index.specs.Size.{size_of};
-ghost use Rattle.egt_sweep.specs.Built.{AllWithinLimit, SomeAboveLimit};
+ghost use Rattle.egt_sweep.specs.Prelude.{◌≡◌, ◌+◌, ◌*◌, ◌≤◌, ◌<◌, ℕ, IfOk, IfErr, IfSome, IfNone, entry_at};
+ghost use Rattle.egt_sweep.specs.Prelude.{IsTrueTable, Mate, size_of, AllWithinLimit, SomeAboveLimit};
 ghost use Rattle.egt_sweep.specs.declared.build_fault.BuildFault.TheVariants as faults;
 
 use crate::build_fault::BuildFault;

@@ -1,7 +1,5 @@
 //! The game of mates over a class.
-ghost use Rattle.egt_entries.specs.Tables.{table_at, HasChildren};
-ghost use Rattle.egt_entries.specs.declared.metric.Metric.TheVariants.{Mate};
-ghost use Rattle.egt_sweep.specs.ClassGame.{class_game, class_game_is_lawful};
+ghost use Rattle.egt_sweep.specs.Prelude.{table_at, HasChildren, Mate, class_game, class_game_is_lawful};
 
 use crate::missing::Missing;
 use crate::nodes::{exits, is_mated, is_void, predecessors, successors};

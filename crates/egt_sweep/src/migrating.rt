@@ -1,8 +1,6 @@
 //! Tables without the column of the nearest mates get it.
-ghost use Rattle.std.specs.Prelude.{◌≡◌, None, IfOk, IfErr};
-ghost use Rattle.egt_entries.specs.Library.{IsAccepted};
-ghost use Rattle.egt_entries.specs.Tables.{table_at, HasReachChildren};
-ghost use Rattle.egt_sweep.specs.Built.{IsMigrated, IsNotMigrated};
+ghost use Rattle.egt_sweep.specs.Prelude.{◌≡◌, None, IfOk, IfErr, IsAccepted, table_at, HasReachChildren, IsMigrated};
+ghost use Rattle.egt_sweep.specs.Prelude.{IsNotMigrated};
 
 use crate::building::{children_are_true, reach_column};
 use crate::laws::laws;

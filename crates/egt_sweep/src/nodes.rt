@@ -1,12 +1,6 @@
 //! The nodes of a class's game.
-ghost use Rattle.std.specs.Prelude.{◌≡◌, not, IsFalse};
-ghost use Rattle.std.specs.Option.{is_some};
-ghost use Rattle.egt_index.specs.Size.{size_of};
-ghost use Rattle.egt_graph.specs.Passing.{passing_below};
-ghost use Rattle.egt_entries.specs.Tables.{table_at, HasChildren};
-ghost use Rattle.egt_sweep.specs.Objective.{metric_of, known, Knows};
-ghost use Rattle.egt_sweep.specs.Edges.{IsAt};
-ghost use Rattle.egt_sweep.specs.Nodes.{position_at, is_mated, connects, exits_at};
+ghost use Rattle.egt_sweep.specs.Prelude.{◌≡◌, not, IsFalse, is_some, size_of, passing_below, table_at, HasChildren};
+ghost use Rattle.egt_sweep.specs.Prelude.{metric_of, known, Knows, IsAt, position_at, is_mated, connects, exits_at};
 
 use crate::edges::edges;
 use crate::exits::exits_of;

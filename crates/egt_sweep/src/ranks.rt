@@ -1,23 +1,9 @@
 //! What the ranks of games mean. These functions do nothing: a caller calls one to know what it ensures.
-ghost use Rattle.std.specs.Prelude.{ℕ, ◌<◌, Option, IsTrue};
-ghost use Rattle.egt_board.specs.Setup.{Setup, IsAdmissible};
-ghost use Rattle.egt_index.specs.Index.{IsIndex};
-ghost use Rattle.egt_moves.specs.Arena.{Value, HasValue};
-ghost use Rattle.egt_moves.specs.Chess.{chess};
-ghost use Rattle.egt_moves.specs.Reach.{HasReach};
-ghost use Rattle.egt_moves.specs.Zeroing.{HasZeroing};
-ghost use Rattle.egt_graph.specs.Near.{HasNear, SomeFar};
-ghost use Rattle.egt_graph.specs.Value.{decided_within, HasRank, SomeAbove};
-ghost use Rattle.egt_entries.specs.declared.metric.Metric.TheVariants.{Mate, Zeroing};
-ghost use Rattle.egt_table.specs.Table.{TableValue};
-ghost use Rattle.egt_entries.specs.Tables.{Tables, beside};
-ghost use Rattle.egt_entries.specs.Truth.{HasTrueReachesBelow, HasTrueValuesBelow};
-ghost use Rattle.egt_sweep.specs.Built.{IsWithinLimit, SomeAboveLimit, SomeReachesFar};
-ghost use Rattle.egt_sweep.specs.ClassGame.{class_game};
-ghost use Rattle.egt_sweep.specs.MateColumn.{ShowsValues};
-ghost use Rattle.egt_sweep.specs.Nodes.{exit_of};
-ghost use Rattle.egt_sweep.specs.ReachGame.{reach_game};
-ghost use Rattle.egt_sweep.specs.Plies.{Plies};
+ghost use Rattle.egt_sweep.specs.Prelude.{ℕ, ◌<◌, Option, IsTrue, Setup, IsAdmissible, IsIndex, Value, HasValue, chess};
+ghost use Rattle.egt_sweep.specs.Prelude.{HasReach, HasZeroing, HasNear, SomeFar, decided_within, HasRank, SomeAbove};
+ghost use Rattle.egt_sweep.specs.Prelude.{Mate, Zeroing, TableValue, Tables, beside, HasTrueReachesBelow};
+ghost use Rattle.egt_sweep.specs.Prelude.{HasTrueValuesBelow, IsWithinLimit, SomeAboveLimit, SomeReachesFar};
+ghost use Rattle.egt_sweep.specs.Prelude.{class_game, ShowsValues, exit_of, reach_game, Plies};
 
 use crate::laws::laws;
 use egt_moves::laws::{

@@ -1,8 +1,6 @@
 //! The game of the nearest mates over a class.
-ghost use Rattle.std.specs.Prelude.{◌≡◌, map};
-ghost use Rattle.egt_entries.specs.Tables.{table_at, HasChildren, HasReachChildren};
-ghost use Rattle.egt_sweep.specs.Objective.{reach_children_prop};
-ghost use Rattle.egt_sweep.specs.ReachGame.{as_win, reach_game, reach_game_is_lawful};
+ghost use Rattle.egt_sweep.specs.Prelude.{◌≡◌, map, table_at, HasChildren, HasReachChildren, reach_children_prop};
+ghost use Rattle.egt_sweep.specs.Prelude.{as_win, reach_game, reach_game_is_lawful};
 
 use crate::build_fault::BuildFault;
 use crate::nodes::{exits, is_mated, is_void, predecessors, successors};

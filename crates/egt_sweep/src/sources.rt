@@ -1,11 +1,7 @@
 //! The moves that go on, backwards.
-ghost use Rattle.std.specs.Prelude.{◌≡◌, ◌↔◌, ◌+◌, ◌≤◌, ◌<◌, ◌⊎◌, ℕ, Bool, IsTrue};
-ghost use Rattle.std.specs.List.{Contains};
-ghost use Rattle.std.specs.List.Sorted.{IsStrictlyIncreasing};
-ghost use Rattle.arrayvec.specs.ArrayVec.{array_vec_len};
-ghost use Rattle.egt_class.specs.Membership.{IsOf};
-ghost use Rattle.egt_board.specs.Settled.{IsSettled};
-ghost use Rattle.egt_sweep.specs.Edges.{IsAt, GoesBack, ComesFrom, Connects};
+ghost use Rattle.egt_sweep.specs.Prelude.{◌≡◌, ◌↔◌, ◌+◌, ◌≤◌, ◌<◌, ◌⊎◌, ℕ, Bool, IsTrue, Contains};
+ghost use Rattle.egt_sweep.specs.Prelude.{IsStrictlyIncreasing, array_vec_len, IsOf, IsSettled, IsAt, GoesBack};
+ghost use Rattle.egt_sweep.specs.Prelude.{ComesFrom, Connects};
 
 use crate::ascending::put;
 use crate::laws::laws;

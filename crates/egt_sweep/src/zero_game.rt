@@ -1,10 +1,7 @@
 //! The game of zeroing moves over a class.
-ghost use Rattle.std.specs.Prelude.{◌≡◌, ◌≢◌, ◌<◌, ◌≤◌, ℕ, true, length, slice_index};
-ghost use Rattle.std.specs.Option.{is_some};
-ghost use Rattle.egt_entries.specs.Tables.{table_at, beside, HasChildren};
-ghost use Rattle.egt_entries.specs.declared.metric.Metric.TheVariants.{Zeroing};
-ghost use Rattle.egt_sweep.specs.ClassGame.{class_game, class_game_is_lawful};
-ghost use Rattle.egt_sweep.specs.MateColumn.{mate_table, IsMateColumn};
+ghost use Rattle.egt_sweep.specs.Prelude.{◌≡◌, ◌≢◌, ◌<◌, ◌≤◌, ℕ, true, length, slice_index, is_some, table_at, beside};
+ghost use Rattle.egt_sweep.specs.Prelude.{HasChildren, Zeroing, class_game, class_game_is_lawful, mate_table};
+ghost use Rattle.egt_sweep.specs.Prelude.{IsMateColumn};
 
 use crate::missing::Missing;
 use crate::nodes::{exits, is_mated, is_void, predecessors, successors};

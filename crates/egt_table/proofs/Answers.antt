@@ -1,16 +1,14 @@
 -- What the parts of a file that were read tell of all its bytes.
-use Rattle.std.proofs.Common.{◌≡◌, ℕ, ◌+◌, ◌^◌, ◌<◌, ◌≤◌, nat_lt, ◌==◌, ◌⊎◌, inl, inr, Bool, true, false, le-ltb, lt-ltb, List, [], ◌∷◌, ◌++◌, length, drop, Option, Some, None, refl, sym, ap, subst, ◌∙◌, arith, length-append, IfSome, if◌then◌else◌}
-use Rattle.std.specs.Io.KnownBytes.{Consumes}
-use Rattle.byteorder.specs.Endian.{little_number}
-use Rattle.egt_index.specs.Size.{size_of}
-use Rattle.egt_table.specs.declared.fault.FileFault.{FileFault}
+use Rattle.egt_table.specs.Prelude.{◌≡◌, ℕ, ◌+◌, ◌^◌, ◌<◌, ◌≤◌, nat_lt, ◌==◌, ◌⊎◌, inl, inr, Bool, true, false, le-ltb}
+use Rattle.egt_table.specs.Prelude.{lt-ltb, List, [], ◌∷◌, ◌++◌, length, drop, Option, Some, None, refl, sym, ap, subst}
+use Rattle.egt_table.specs.Prelude.{◌∙◌, arith, length-append, IfSome, if◌then◌else◌, Consumes, little_number, size_of}
+use Rattle.egt_table.specs.Prelude.{FileFault, AreBytes, Field, bytes_of, column_bytes, HasHeader, IsAnswer}
+use Rattle.egt_table.specs.Prelude.{first_fault, header_fields, header_fault, header_of, file_fault, file_length}
+use Rattle.egt_table.specs.Prelude.{version_of, stated_version, CountsFault, IsCut, IsMisfit, TableValue, IsTable}
+use Rattle.egt_table.specs.Prelude.{columns_of, flat_map}
 use Rattle.egt_table.specs.declared.fault.FileFault.TheVariants as faults
-use Rattle.egt_table.specs.File.{AreBytes, Field, bytes_of, column_bytes, HasHeader, IsAnswer, first_fault, header_fields, header_fault, header_of, file_fault, file_length, version_of, stated_version}
-use Rattle.egt_table.specs.Reading.{CountsFault, IsCut, IsMisfit}
 use Rattle.egt_table.proofs.Fields.{AllFit, fault_in_front, fields_right, no_fault, widths}
 use Rattle.egt_table.proofs.Versions.{body_length, told_of_all, told_of_table, version_small}
-use Rattle.egt_table.specs.Table.{TableValue, IsTable, columns_of}
-use Rattle.std.specs.List.{flat_map}
 
 -- the faults of fields
 abbrev pub IsOfField : FileFault → Type 0

@@ -1,8 +1,6 @@
 -- Entries as bytes, two bytes each.
-use Rattle.std.proofs.Common.{◌≡◌, ℕ, suc, ◌*◌, List, [], ◌∷◌, ◌++◌, length, drop, refl, ap, ◌∙◌, arith}
-use Rattle.byteorder.specs.Endian.{little_bytes, little_number, IsRead}
-use Rattle.std.proofs.lemmas.Grind.{flat_map-append}
-use Rattle.egt_table.specs.File.{AreBytes, entries_bytes}
+use Rattle.egt_table.specs.Prelude.{◌≡◌, ℕ, suc, ◌*◌, List, [], ◌∷◌, ◌++◌, length, drop, refl, ap, ◌∙◌, arith}
+use Rattle.egt_table.specs.Prelude.{little_bytes, little_number, IsRead, flat_map-append, AreBytes, entries_bytes}
 use Rattle.egt_table.proofs.Digits.{bytes_back}
 
 pub entries_length : (xs : List ℕ) → length (entries_bytes xs) ≡ 2 * length xs

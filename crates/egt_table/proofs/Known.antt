@@ -1,10 +1,7 @@
 -- Known bytes over several calls.
-use Rattle.std.proofs.Common.{◌≡◌, ℕ, ◌+◌, ◌≤◌, min, List, [], ◌++◌, length, take, Option, Some, None, append_assoc, sym, ap, subst, ◌∙◌, arith}
-use Rattle.std.specs.Io.KnownBytes.{Consumes, Appends, Keeps}
-use Rattle.std.proofs.lemmas.Grind.{common_steps}
-use Rattle.std.proofs.lemmas.List.{take-append-le, take_min}
-use Rattle.std.proofs.Math.Seq.{take-append-add, take-append_seam}
-use Rattle.egt_table.specs.Stream.{AppendsFront}
+use Rattle.egt_table.specs.Prelude.{◌≡◌, ℕ, ◌+◌, ◌≤◌, min, List, [], ◌++◌, length, take, Option, Some, None}
+use Rattle.egt_table.specs.Prelude.{append_assoc, sym, ap, subst, ◌∙◌, arith, Consumes, Appends, Keeps, common_steps}
+use Rattle.egt_table.specs.Prelude.{take-append-le, take_min, take-append-add, take-append_seam, AppendsFront}
 
 -- what two calls took, one after the other
 pub consumes_more : (a b c : Option (List ℕ)) (x y z : List ℕ) → Consumes a b x → Consumes b c y → z ≡ x ++ y → Consumes a c z

@@ -1,15 +1,10 @@
 -- Files of both versions: what their bytes tell of the version, and what stands behind the header.
-use Rattle.std.proofs.Common.{◌≡◌, ℕ, ◌+◌, ◌*◌, ◌≤◌, inl, inr, List, ◌++◌, length, drop, Option, Some, None, IsSome, refl, ap, ◌∙◌, arith, length-append, length-drop}
-use Rattle.std.specs.List.{flat_map}
-use Rattle.std.proofs.lemmas.List.{append-nil, drop-append-le}
-use Rattle.byteorder.specs.Endian.{little_number}
-use Rattle.byteorder.specs.Numbers.{little_from-append}
-use Rattle.egt_index.specs.Size.{size_of}
-use Rattle.egt_table.specs.declared.column.Column.{Column}
-use Rattle.egt_table.specs.declared.column.Column.TheVariants.{Mate, Zeroing, Reach}
-use Rattle.egt_table.specs.File.{bytes_of, column_bytes, columns_in, entries_bytes, file_length, header_fields, header_of, version_of, stated_version}
-use Rattle.egt_table.specs.Reading.{IsVersion, length_in}
-use Rattle.egt_table.specs.Table.{IsTable, TableValue, columns_of, entries_or_none, reach_columns}
+use Rattle.egt_table.specs.Prelude.{◌≡◌, ℕ, ◌+◌, ◌*◌, ◌≤◌, inl, inr, List, ◌++◌, length, drop, Option, Some, None}
+use Rattle.egt_table.specs.Prelude.{IsSome, refl, ap, ◌∙◌, arith, length-append, length-drop, flat_map, append-nil}
+use Rattle.egt_table.specs.Prelude.{drop-append-le, little_number, little_from-append, size_of, Column, Mate, Zeroing}
+use Rattle.egt_table.specs.Prelude.{Reach, bytes_of, column_bytes, columns_in, entries_bytes, file_length}
+use Rattle.egt_table.specs.Prelude.{header_fields, header_of, version_of, stated_version, IsVersion, length_in, IsTable}
+use Rattle.egt_table.specs.Prelude.{TableValue, columns_of, entries_or_none, reach_columns}
 use Rattle.egt_table.proofs.Entries.{entries_length}
 
 -- the version stands in the first six bytes

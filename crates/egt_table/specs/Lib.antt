@@ -5,3 +5,4 @@ pub mod Table
 pub mod File
 pub mod Reading
 pub mod Offsets
+pub mod Prelude

@@ -1,9 +1,7 @@
 //! Laws of files. Each is what the contract of a function that does nothing says.
-ghost use Rattle.std.specs.Prelude.{◌≡◌, ◌<◌, ◌^◌, ℕ, List, length, None};
-ghost use Rattle.byteorder.specs.Endian.{little_bytes, little_number};
-ghost use Rattle.egt_table.specs.File.{AreBytes, bytes_of, file_fault};
-ghost use Rattle.egt_table.specs.Offsets.{EntriesFit, EntriesStand, HeaderStands};
-ghost use Rattle.egt_table.specs.Table.{IsTable, TableValue};
+ghost use Rattle.egt_table.specs.Prelude.{◌≡◌, ◌<◌, ◌^◌, ℕ, List, length, None, little_bytes, little_number, AreBytes};
+ghost use Rattle.egt_table.specs.Prelude.{bytes_of, file_fault, EntriesFit, EntriesStand, HeaderStands, IsTable};
+ghost use Rattle.egt_table.specs.Prelude.{TableValue};
 
 use egt_class::Class;
 use egt_index::size;

@@ -1,8 +1,6 @@
 //! Tables.
-ghost use Rattle.std.specs.Prelude.{◌≡◌, ◌≢◌, ◌<◌, ◌↔◌, ℕ, length, slice_index, IsSome, IsOk, IfOk, IfErr, IsTrue};
-ghost use Rattle.egt_index.specs.Size.{size_of};
-ghost use Rattle.egt_table.specs.Table.{HasColumn, IsTable, columns_of, entries_of};
-ghost use Rattle.egt_table.specs.declared.column.Column.TheVariants.{Reach};
+ghost use Rattle.egt_table.specs.Prelude.{◌≡◌, ◌≢◌, ◌<◌, ◌↔◌, ℕ, length, slice_index, IsSome, IsOk, IfOk, IfErr};
+ghost use Rattle.egt_table.specs.Prelude.{IsTrue, size_of, HasColumn, IsTable, columns_of, entries_of, Reach};
 
 use crate::column::Column;
 use egt_class::Class;

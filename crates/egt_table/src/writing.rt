@@ -1,8 +1,6 @@
 //! Tables written to files.
-ghost use Rattle.std.specs.Prelude.{◌≡◌, ◌≤◌, length, OnOk, OnErr};
-ghost use Rattle.std.specs.Io.KnownBytes.{Appends};
-ghost use Rattle.egt_table.specs.File.{bytes_of, entries_bytes, version_of};
-ghost use Rattle.egt_table.specs.Stream.{CountsFailure, AppendsFront};
+ghost use Rattle.egt_table.specs.Prelude.{◌≡◌, ◌≤◌, length, OnOk, OnErr, Appends, bytes_of, entries_bytes, version_of};
+ghost use Rattle.egt_table.specs.Prelude.{CountsFailure, AppendsFront};
 
 use crate::device::Device;
 use crate::header::{WITH_REACH, WITHOUT_REACH, header};

@@ -1,22 +1,11 @@
 -- What a move that neither captures nor promotes does to the men, and taking it back.
-use Rattle.std.proofs.Common.{◌≡◌, ◌≢◌, ℕ, ◌&&◌, Option, Some, None, false, refl, sym, ap, ◌∙◌, inl, inr, if◌then◌else◌}
+use Rattle.egt_unmoves.specs.Prelude.{◌≡◌, ◌≢◌, ℕ, ◌&&◌, Option, Some, None, false, refl, sym, ap, ◌∙◌, inl, inr}
+use Rattle.egt_unmoves.specs.Prelude.{if◌then◌else◌, cases_eq, eqb_tells, Kind, Q, R, B, N, P, K, Man, other_side}
+use Rattle.egt_unmoves.specs.Prelude.{ahead, Placement, Stands, IsFree, one_man, same_men, get-insert_same}
+use Rattle.egt_unmoves.specs.Prelude.{get-insert_other, get-remove_same, get-remove_other, Setup, SettlesTo, Move, Goes}
+use Rattle.egt_unmoves.specs.Prelude.{plain, is_target, takes_in_passing, men_left, is_pawn, arriving, ComesBy}
+use Rattle.egt_unmoves.specs.Prelude.{MayComeFrom, GoesOver, men_before, setup_before, side_twice, side_cases}
 use Rattle.std.specs.FinMap as map
-use Rattle.std.proofs.lemmas.Bool.{cases_eq}
-use Rattle.std.proofs.lemmas.Bool.Decides.{eqb_tells}
-use Rattle.egt_board.specs.declared.man.Kind.{Kind}
-use Rattle.egt_board.specs.declared.man.Kind.TheVariants.{Q, R, B, N, P, K}
-use Rattle.egt_board.specs.declared.man.Man.{Man}
-use Rattle.egt_board.specs.Man.{other_side}
-use Rattle.egt_board.specs.Pawn.{ahead}
-use Rattle.egt_board.specs.Placement.{Placement, Stands, IsFree, one_man, same_men, get-insert_same, get-insert_other, get-remove_same, get-remove_other}
-use Rattle.egt_board.specs.Setup.{Setup}
-use Rattle.egt_board.specs.Settled.{SettlesTo}
-use Rattle.egt_moves.specs.declared.chess_move.Move.{Move}
-use Rattle.egt_moves.specs.Going.{Goes}
-use Rattle.egt_moves.specs.Legal.{plain, is_target, takes_in_passing, men_left}
-use Rattle.egt_moves.specs.Promotion.{is_pawn, arriving}
-use Rattle.egt_unmoves.specs.Unmoves.{ComesBy, MayComeFrom, GoesOver, men_before, setup_before}
-use Rattle.egt_board.proofs.Sides.{side_twice, side_cases}
 pub use Rattle.egt_board.proofs.Facing.{unput_free}
 
 pub not_free : {A : Type 0} (men : Placement) (s : ℕ) (man : Man) → IsFree men s → Stands men s man → A

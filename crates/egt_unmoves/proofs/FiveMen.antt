@@ -1,27 +1,12 @@
 -- Four men leave room for one target that a pawn stands ready to take.
-use Rattle.std.proofs.Common.{◌≡◌, ◌≢◌, ℕ, suc, zero, ◌-◌, ◌≤◌, ◌⊎◌, Option, Some, None, IfSome, cond, arith, refl, sym, ap, ◌∙◌, inl, inr, subst}
-use Rattle.std.specs.Option.{is_some}
+use Rattle.egt_unmoves.specs.Prelude.{◌≡◌, ◌≢◌, ℕ, suc, zero, ◌-◌, ◌≤◌, ◌⊎◌, Option, Some, None, IfSome, cond, arith}
+use Rattle.egt_unmoves.specs.Prelude.{refl, sym, ap, ◌∙◌, inl, inr, subst, is_some, nat_cmp_total, nat_cmp, cases_eq}
+use Rattle.egt_unmoves.specs.Prelude.{Side, White, Black, P, K, Man, other_side, king_of, pawn_of, ahead, HasPawnBeside}
+use Rattle.egt_unmoves.specs.Prelude.{Placement, Stands, one_man, get-remove_other, Setup, IsAdmissible, IsSettled}
+use Rattle.egt_unmoves.specs.Prelude.{rank_of, IsTarget, target_rank, Move, advanced_rank, ComesBy, MayComeFrom}
+use Rattle.egt_unmoves.specs.Prelude.{side_twice, sides_differ}
 use Rattle.std.specs.FinMap as map
-use Rattle.std.specs.Cmp.{nat_cmp_total}
-use Rattle.std.specs.Ordering.{nat_cmp}
-use Rattle.std.proofs.lemmas.Bool.{cases_eq}
-use Rattle.egt_board.specs.declared.man.Side.{Side}
-use Rattle.egt_board.specs.declared.man.Side.TheVariants.{White, Black}
-use Rattle.egt_board.specs.declared.man.Kind.TheVariants.{P, K}
-use Rattle.egt_board.specs.declared.man.Man.{Man}
-use Rattle.egt_board.specs.Man.{other_side}
-use Rattle.egt_board.specs.Attack.{king_of}
-use Rattle.egt_board.specs.Pawn.{pawn_of, ahead, HasPawnBeside}
-use Rattle.egt_board.specs.Placement.{Placement, Stands, one_man, get-remove_other}
-use Rattle.egt_board.specs.Setup.{Setup, IsAdmissible}
-use Rattle.egt_board.specs.Settled.{IsSettled}
-use Rattle.egt_board.specs.Square.{rank_of}
-use Rattle.egt_board.specs.Target.{IsTarget, target_rank}
-use Rattle.egt_moves.specs.declared.chess_move.Move.{Move}
-use Rattle.egt_unmoves.specs.Targets.{advanced_rank}
-use Rattle.egt_unmoves.specs.Unmoves.{ComesBy, MayComeFrom}
 use Rattle.egt_unmoves.proofs.Came.{Came, came, not_free}
-use Rattle.egt_board.proofs.Sides.{side_twice, sides_differ}
 use Rattle.egt_unmoves.proofs.Went.{elsewhere, stood}
 
 -- a man less

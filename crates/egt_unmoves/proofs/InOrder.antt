@@ -1,14 +1,9 @@
 -- The list of moves backwards as it grows.
-use Rattle.std.proofs.Common.{◌≡◌, ℕ, ◌+◌, ◌*◌, ◌<◌, ◌≤◌, ◌↔◌, List, [], ◌∷◌, ◌++◌, arith, refl, ap, inl, inr, subst, suc, Option, Some, None}
-use Rattle.std.specs.List.{Contains}
-use Rattle.std.proofs.lemmas.Bool.{cases_lt}
-use Rattle.std.proofs.lemmas.List.Elements.{Contains-push, Contains-push_cases, Contains-append_left}
-use Rattle.egt_board.specs.Setup.{Setup}
-use Rattle.egt_moves.specs.declared.chess_move.Move.{Move}
-use Rattle.egt_moves.specs.DecidedMoves.{goes_on_board}
-use Rattle.egt_unmoves.specs.declared.unmove.Unmove.{Unmove}
-use Rattle.egt_unmoves.specs.Unmoves.{ComesBy, TakesBack, IsUnmove}
-use Rattle.egt_unmoves.specs.Order.{place_of, target_place, ComesFirst, IsInOrder, ListsBelow}
+use Rattle.egt_unmoves.specs.Prelude.{◌≡◌, ℕ, ◌+◌, ◌*◌, ◌<◌, ◌≤◌, ◌↔◌, List, [], ◌∷◌, ◌++◌, arith, refl, ap, inl, inr}
+use Rattle.egt_unmoves.specs.Prelude.{subst, suc, Option, Some, None, Contains, cases_lt, Contains-push}
+use Rattle.egt_unmoves.specs.Prelude.{Contains-push_cases, Contains-append_left, Setup, Move, goes_on_board, Unmove}
+use Rattle.egt_unmoves.specs.Prelude.{ComesBy, TakesBack, IsUnmove, place_of, target_place, ComesFirst, IsInOrder}
+use Rattle.egt_unmoves.specs.Prelude.{ListsBelow}
 use Rattle.egt_unmoves.proofs.Came.{same_move}
 
 -- both squares of a move are on the board

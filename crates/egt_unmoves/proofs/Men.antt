@@ -1,22 +1,9 @@
 -- The unmoves of all men of the side that waits, and room for them: two a goal, of which a man has 28 and the king 8.
-use Rattle.std.proofs.Common.{◌≡◌, ◌≢◌, ℕ, ◌+◌, ◌*◌, ◌<◌, ◌≤◌, ◌↔◌, List, [], length, arith, refl, sym, ap, ◌∙◌, inl, inr, subst}
-use Rattle.std.specs.Int.{bit_at}
-use Rattle.std.proofs.lemmas.Bool.{cases_eq, cases_lt}
-use Rattle.std.proofs.lemmas.Nat.Bits.{bit_at-lt}
-use Rattle.egt_board.specs.declared.man.Side.{Side}
-use Rattle.egt_board.specs.declared.man.Side.TheVariants.{White, Black}
-use Rattle.egt_board.specs.declared.man.Kind.{Kind}
-use Rattle.egt_board.specs.declared.man.Kind.TheVariants.{Q, R, B, N, P, K}
-use Rattle.egt_board.specs.declared.man.Man.{Man}
-use Rattle.egt_board.specs.declared.square_set.SquareSet.{SquareSet}
-use Rattle.egt_board.specs.Man.{other_side}
-use Rattle.egt_board.specs.Attack.{king_of}
-use Rattle.egt_board.specs.Placement.{Stands, IsHeld, one_man}
-use Rattle.egt_board.specs.SquareSet.{Has, size_of, size_of-some}
-use Rattle.egt_board.specs.Setup.{Setup, IsAdmissible, IsKingOn}
-use Rattle.egt_moves.specs.Room.{most_goals}
-use Rattle.egt_unmoves.specs.declared.unmove.Unmove.{Unmove}
-use Rattle.egt_unmoves.specs.Order.{ListsBelow}
+use Rattle.egt_unmoves.specs.Prelude.{◌≡◌, ◌≢◌, ℕ, ◌+◌, ◌*◌, ◌<◌, ◌≤◌, ◌↔◌, List, [], length, arith, refl, sym, ap, ◌∙◌}
+use Rattle.egt_unmoves.specs.Prelude.{inl, inr, subst, bit_at, cases_eq, cases_lt, bit_at-lt, Side, White, Black, Kind}
+use Rattle.egt_unmoves.specs.Prelude.{Q, R, B, N, P, K, Man, SquareSet, other_side, king_of, Stands, IsHeld, one_man}
+use Rattle.egt_unmoves.specs.Prelude.{Has, size_of, size_of-some, Setup, IsAdmissible, IsKingOn, most_goals, Unmove}
+use Rattle.egt_unmoves.specs.Prelude.{ListsBelow}
 use Rattle.egt_unmoves.proofs.Came.{came}
 use Rattle.egt_unmoves.proofs.InOrder.{squares_within, target_place_small, ListsBelow-none, ListsBelow-skip}
 

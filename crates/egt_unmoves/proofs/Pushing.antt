@@ -1,24 +1,10 @@
 -- The unmoves of one place, of one square before, and of one man.
-use Rattle.std.proofs.Common.{◌≡◌, ◌≢◌, ℕ, ◌+◌, ◌*◌, ◌<◌, ◌≤◌, ◌↔◌, ◌⊎◌, List, [], ◌∷◌, ◌++◌, length, Bool, true, false, IsTrue, Option, Some, None, arith, refl, sym, ap, ◌∙◌, inl, inr, subst}
-use Rattle.std.specs.Int.{bit_at}
-use Rattle.std.proofs.lemmas.Bool.{cases_eq, cases_lt, false≢true}
-use Rattle.egt_board.specs.declared.man.Kind.TheVariants.{P}
-use Rattle.egt_board.specs.declared.man.Man.{Man}
-use Rattle.egt_board.specs.declared.square_set.SquareSet.{SquareSet}
-use Rattle.egt_board.specs.declared.man.Side.{Side}
-use Rattle.egt_board.specs.Man.{other_side}
-use Rattle.egt_board.specs.Pawn.{ahead, HasPawnBeside}
-use Rattle.egt_board.specs.Placement.{Placement, Stands, one_man}
-use Rattle.egt_board.specs.Target.{IsTarget}
-use Rattle.egt_board.specs.SquareSet.{Has, size_of}
-use Rattle.egt_board.specs.Setup.{Setup}
-use Rattle.egt_moves.specs.declared.chess_move.Move.{Move}
-use Rattle.egt_moves.specs.Chess.{IsPawnOn}
-use Rattle.egt_moves.specs.Legal.{plain}
-use Rattle.egt_moves.specs.Room.{most_goals}
-use Rattle.egt_unmoves.specs.declared.unmove.Unmove.{Unmove}
-use Rattle.egt_unmoves.specs.Unmoves.{ComesBy, TakesBack, MayComeFrom, Went, men_before}
-use Rattle.egt_unmoves.specs.Order.{place_of, target_place, ListsBelow}
+use Rattle.egt_unmoves.specs.Prelude.{◌≡◌, ◌≢◌, ℕ, ◌+◌, ◌*◌, ◌<◌, ◌≤◌, ◌↔◌, ◌⊎◌, List, [], ◌∷◌, ◌++◌, length, Bool}
+use Rattle.egt_unmoves.specs.Prelude.{true, false, IsTrue, Option, Some, None, arith, refl, sym, ap, ◌∙◌, inl, inr}
+use Rattle.egt_unmoves.specs.Prelude.{subst, bit_at, cases_eq, cases_lt, false≢true, P, Man, SquareSet, Side}
+use Rattle.egt_unmoves.specs.Prelude.{other_side, ahead, HasPawnBeside, Placement, Stands, one_man, IsTarget, Has}
+use Rattle.egt_unmoves.specs.Prelude.{size_of, Setup, Move, IsPawnOn, plain, most_goals, Unmove, ComesBy, TakesBack}
+use Rattle.egt_unmoves.specs.Prelude.{MayComeFrom, Went, men_before, place_of, target_place, ListsBelow}
 use Rattle.egt_unmoves.proofs.Came.{Came, came, before_is}
 use Rattle.egt_unmoves.proofs.FiveMen.{target_of}
 use Rattle.egt_unmoves.proofs.Went.{comes_went}

@@ -1,17 +1,10 @@
 -- Squares on which a man leaves the king of the side to move unattacked.
-use Rattle.std.proofs.Common.{◌≡◌, ◌≢◌, ◌↔◌, ℕ, refl, sym, ap, ◌∙◌, inl, inr, subst}
+use Rattle.egt_unmoves.specs.Prelude.{◌≡◌, ◌≢◌, ◌↔◌, ℕ, refl, sym, ap, ◌∙◌, inl, inr, subst, cases_eq, Side, Man}
+use Rattle.egt_unmoves.specs.Prelude.{king_of, IsAttacked, IsInCheck, Reaches, Reaches-free, other_side, Placement}
+use Rattle.egt_unmoves.specs.Prelude.{Stands, IsFree, one_man, get-insert_same, get-insert_other, get-remove_same}
+use Rattle.egt_unmoves.specs.Prelude.{get-remove_other, IsKeptFrom, Setup, IsKingOn, sides_differ}
 use Rattle.std.specs.FinMap as map
-use Rattle.std.proofs.lemmas.Bool.{cases_eq}
-use Rattle.egt_board.specs.declared.man.Side.{Side}
-use Rattle.egt_board.specs.declared.man.Man.{Man}
-use Rattle.egt_board.specs.Attack.{king_of, IsAttacked, IsInCheck}
-use Rattle.egt_board.specs.AttackLines.{Reaches, Reaches-free}
-use Rattle.egt_board.specs.Man.{other_side}
-use Rattle.egt_board.specs.Placement.{Placement, Stands, IsFree, one_man, get-insert_same, get-insert_other, get-remove_same, get-remove_other}
-use Rattle.egt_board.specs.Safety.{IsKeptFrom}
-use Rattle.egt_board.specs.Setup.{Setup, IsKingOn}
 use Rattle.egt_unmoves.proofs.Came.{not_free}
-use Rattle.egt_board.proofs.Sides.{sides_differ}
 
 -- which man stands on a square plays no part in which squares are free
 free_alike : (left : Placement) (one other : Man) (s u : ℕ) → IsFree (map.insert left s one) u → IsFree (map.insert left s other) u

@@ -1,11 +1,7 @@
 -- A man taken back leaves as many men.
-use Rattle.std.proofs.Common.{◌≡◌, ℕ, ◌+◌, ◌-◌, ◌<◌, ◌≤◌, Option, cond, Bool, true, false, arith, ap, ◌∙◌}
-use Rattle.std.specs.Option.{is_some}
+use Rattle.egt_unmoves.specs.Prelude.{◌≡◌, ℕ, ◌+◌, ◌-◌, ◌<◌, ◌≤◌, Option, cond, Bool, true, false, arith, ap, ◌∙◌}
+use Rattle.egt_unmoves.specs.Prelude.{is_some, nat_cmp_total, Man, Placement, Stands, men_before}
 use Rattle.std.specs.FinMap as map
-use Rattle.std.specs.Cmp.{nat_cmp_total}
-use Rattle.egt_board.specs.declared.man.Man.{Man}
-use Rattle.egt_board.specs.Placement.{Placement, Stands}
-use Rattle.egt_unmoves.specs.Unmoves.{men_before}
 
 -- a man taken off leaves room for one
 pub few_left : (men : Placement) (man : Man) (to : ℕ) → Stands men to man → map.len men ≤ 4 → map.len (map.remove men to) < 4

@@ -1,19 +1,9 @@
 -- Two kings in the corners are a position.
-use Rattle.std.proofs.Common.{◌≡◌, ◌≢◌, ℕ, ◌+◌, ◌≤◌, ◌⊎◌, Some, None, cond, Bool, true, false, arith, refl, sym, ap, ◌∙◌, inl, inr, subst}
-use Rattle.std.specs.Option.{is_some}
+use Rattle.egt_unmoves.specs.Prelude.{◌≡◌, ◌≢◌, ℕ, ◌+◌, ◌≤◌, ◌⊎◌, Some, None, cond, Bool, true, false, arith, refl, sym}
+use Rattle.egt_unmoves.specs.Prelude.{ap, ◌∙◌, inl, inr, subst, is_some, nat_cmp_total, nat_cmp, cases_eq, Side, White}
+use Rattle.egt_unmoves.specs.Prelude.{Black, P, K, Man, king_of, IsInCheck, corners, Reaches, Placement, Stands, IsFree}
+use Rattle.egt_unmoves.specs.Prelude.{get-insert_same, get-insert_other, IsAdmissible, IsKingOn}
 use Rattle.std.specs.FinMap as map
-use Rattle.std.specs.Cmp.{nat_cmp_total}
-use Rattle.std.specs.Ordering.{nat_cmp}
-use Rattle.std.proofs.lemmas.Bool.{cases_eq}
-use Rattle.egt_board.specs.declared.man.Side.{Side}
-use Rattle.egt_board.specs.declared.man.Side.TheVariants.{White, Black}
-use Rattle.egt_board.specs.declared.man.Kind.TheVariants.{P, K}
-use Rattle.egt_board.specs.declared.man.Man.{Man}
-use Rattle.egt_board.specs.Attack.{king_of, IsInCheck}
-use Rattle.egt_board.specs.Corners.{corners}
-use Rattle.egt_board.specs.AttackLines.{Reaches}
-use Rattle.egt_board.specs.Placement.{Placement, Stands, IsFree, get-insert_same, get-insert_other}
-use Rattle.egt_board.specs.Setup.{IsAdmissible, IsKingOn}
 
 no_more : (m : Placement) (s : ℕ) (man : Man) → map.len (map.insert m s man) ≤ map.len m + 1
 no_more m s man = by_key (is_some (map.get m s)) (map.len-insert nat_cmp_total m s man)

@@ -1,28 +1,12 @@
 -- The unmoves of an image.
-use Rattle.std.proofs.Common.{◌≡◌, ℕ, ◌<◌, ◌↔◌, ◌/◌, ◌%◌, ◌==◌, Bool, true, false, Option, Some, None, IfSome, arith, refl, sym, ap, ◌∙◌, inl, inr, subst}
-use Rattle.std.specs.Option.{option_map}
+use Rattle.egt_unmoves.specs.Prelude.{◌≡◌, ℕ, ◌<◌, ◌↔◌, ◌/◌, ◌%◌, ◌==◌, Bool, true, false, Option, Some, None, IfSome}
+use Rattle.egt_unmoves.specs.Prelude.{arith, refl, sym, ap, ◌∙◌, inl, inr, subst, option_map, cases_eq, Side, White}
+use Rattle.egt_unmoves.specs.Prelude.{Black, Man, Mirror, Files, Ranks, Diagonal, Colours, square_by, square_by-within}
+use Rattle.egt_unmoves.specs.Prelude.{square_by-twice, HasNoPawn, Stands, IsFree, one_man, get-insert_other}
+use Rattle.egt_unmoves.specs.Prelude.{get-remove_other, Setup, IsAdmissible, IsSettled, SettlesTo, rank_of, square_if}
+use Rattle.egt_unmoves.specs.Prelude.{square_of, KeepsPlay, IsTarget, target_rank, turned_square, turned_man, IsSetBy}
+use Rattle.egt_unmoves.specs.Prelude.{Move, IsPawnOn, Leads, turned_move, ComesBy}
 use Rattle.std.specs.FinMap as map
-use Rattle.std.proofs.lemmas.Bool.{cases_eq}
-use Rattle.egt_board.specs.declared.man.Side.{Side}
-use Rattle.egt_board.specs.declared.man.Side.TheVariants.{White, Black}
-use Rattle.egt_board.specs.declared.man.Man.{Man}
-use Rattle.egt_board.specs.declared.mirror.Mirror.{Mirror}
-use Rattle.egt_board.specs.declared.mirror.Mirror.TheVariants.{Files, Ranks, Diagonal, Colours}
-use Rattle.egt_board.specs.Mirror.{square_by}
-use Rattle.egt_board.specs.MirrorLaws.{square_by-within, square_by-twice}
-use Rattle.egt_board.specs.Pawn.{HasNoPawn}
-use Rattle.egt_board.specs.Placement.{Stands, IsFree, one_man, get-insert_other, get-remove_other}
-use Rattle.egt_board.specs.Setup.{Setup, IsAdmissible}
-use Rattle.egt_board.specs.Settled.{IsSettled, SettlesTo}
-use Rattle.egt_board.specs.Square.{rank_of}
-use Rattle.egt_board.specs.Symmetry.{square_if, square_of, KeepsPlay}
-use Rattle.egt_board.specs.Target.{IsTarget, target_rank}
-use Rattle.egt_board.specs.Turned.{turned_square, turned_man, IsSetBy}
-use Rattle.egt_moves.specs.declared.chess_move.Move.{Move}
-use Rattle.egt_moves.specs.Chess.{IsPawnOn}
-use Rattle.egt_moves.specs.Legal.{Leads}
-use Rattle.egt_moves.specs.Turned.{turned_move}
-use Rattle.egt_unmoves.specs.Unmoves.{ComesBy}
 use Rattle.egt_unmoves.proofs.Came.{Came, came, not_free}
 use Rattle.egt_unmoves.proofs.InOrder.{squares_within}
 

@@ -1,17 +1,8 @@
 -- The ways back.
-use Rattle.std.proofs.Common.{◌≡◌, ℕ, zero, suc, ◌+◌, ◌-◌, ◌<◌, ◌≤◌, ◌⊎◌, arith, refl, sym, ap, ◌∙◌, inl, inr, if◌then◌else◌, ◌==◌, Bool, true, false, Some, None, ◌&&◌, ◌||◌, ◌/◌}
-use Rattle.std.proofs.lemmas.Bool.{false≢true}
-use Rattle.std.proofs.lemmas.Bool.Decides.{eqb_tells}
-use Rattle.egt_board.specs.declared.man.Side.{Side}
-use Rattle.egt_board.specs.declared.man.Side.TheVariants.{White, Black}
-use Rattle.egt_board.specs.declared.man.Kind.TheVariants.{P}
-use Rattle.egt_board.specs.declared.man.Man.{Man}
-use Rattle.egt_board.specs.Man.{other_side}
-use Rattle.egt_board.specs.Square.{rank_of}
-use Rattle.egt_board.specs.Step.{Away}
-use Rattle.egt_board.specs.Pawn.{ahead, forward, home_rank, farthest_advance, Advances}
-use Rattle.egt_moves.specs.Legal.{passed, is_two_ranks}
-use Rattle.egt_moves.specs.Promotion.{is_pawn}
+use Rattle.egt_unmoves.specs.Prelude.{◌≡◌, ℕ, zero, suc, ◌+◌, ◌-◌, ◌<◌, ◌≤◌, ◌⊎◌, arith, refl, sym, ap, ◌∙◌, inl, inr}
+use Rattle.egt_unmoves.specs.Prelude.{if◌then◌else◌, ◌==◌, Bool, true, false, Some, None, ◌&&◌, ◌||◌, ◌/◌, false≢true}
+use Rattle.egt_unmoves.specs.Prelude.{eqb_tells, Side, White, Black, P, Man, other_side, rank_of, Away, ahead, forward}
+use Rattle.egt_unmoves.specs.Prelude.{home_rank, farthest_advance, Advances, passed, is_two_ranks, is_pawn}
 
 -- a pawn steps one square at least
 some_advance : (side : Side) (s : ℕ) → 1 ≤ farthest_advance side s

@@ -1,30 +1,16 @@
 -- A move led here from a square exactly where what `Went` asks of the square holds.
-use Rattle.std.proofs.Common.{◌≡◌, ◌≢◌, ◌↔◌, ℕ, ◌<◌, ◌⊎◌, ◌==◌, ◌&&◌, Option, Some, None, IfSome, arith, refl, sym, ap, ◌∙◌, inl, inr, subst}
+use Rattle.egt_unmoves.specs.Prelude.{◌≡◌, ◌≢◌, ◌↔◌, ℕ, ◌<◌, ◌⊎◌, ◌==◌, ◌&&◌, Option, Some, None, IfSome, arith, refl}
+use Rattle.egt_unmoves.specs.Prelude.{sym, ap, ◌∙◌, inl, inr, subst, cases_eq, eqb_tells, Side, White, Black, Kind, Q}
+use Rattle.egt_unmoves.specs.Prelude.{R, B, N, P, K, Man, king_of, IsInCheck, Rides-free, other_side, pawn_of, ahead}
+use Rattle.egt_unmoves.specs.Prelude.{forward, last_rank, farthest_advance, MayStand, Advances, HasPawnBeside}
+use Rattle.egt_unmoves.specs.Prelude.{Placement, Stands, IsFree, one_man, get-insert_other, get-remove_other, Setup}
+use Rattle.egt_unmoves.specs.Prelude.{IsAdmissible, IsKingOn, HasKings, IsSettled, SettlesTo, rank_of, FitsTarget}
+use Rattle.egt_unmoves.specs.Prelude.{IsTarget, Move, Goes, plain, passed, men_after, after, is_pawn, promotes}
+use Rattle.egt_unmoves.specs.Prelude.{FitsPromotion, ComesBy, MayComeFrom, Went, GoesOver, led_to, men_before}
+use Rattle.egt_unmoves.specs.Prelude.{setup_before, side_twice, sides_differ}
 use Rattle.std.specs.FinMap as map
-use Rattle.std.proofs.lemmas.Bool.{cases_eq}
-use Rattle.std.proofs.lemmas.Bool.Decides.{eqb_tells}
-use Rattle.egt_board.specs.declared.man.Side.{Side}
-use Rattle.egt_board.specs.declared.man.Side.TheVariants.{White, Black}
-use Rattle.egt_board.specs.declared.man.Kind.{Kind}
-use Rattle.egt_board.specs.declared.man.Kind.TheVariants.{Q, R, B, N, P, K}
-use Rattle.egt_board.specs.declared.man.Man.{Man}
-use Rattle.egt_board.specs.Attack.{king_of, IsInCheck}
-use Rattle.egt_board.specs.AttackLines.{Rides-free}
-use Rattle.egt_board.specs.Man.{other_side}
-use Rattle.egt_board.specs.Pawn.{pawn_of, ahead, forward, last_rank, farthest_advance, MayStand, Advances, HasPawnBeside}
-use Rattle.egt_board.specs.Placement.{Placement, Stands, IsFree, one_man, get-insert_other, get-remove_other}
-use Rattle.egt_board.specs.Setup.{Setup, IsAdmissible, IsKingOn, HasKings}
-use Rattle.egt_board.specs.Settled.{IsSettled, SettlesTo}
-use Rattle.egt_board.specs.Square.{rank_of}
-use Rattle.egt_board.specs.Target.{FitsTarget, IsTarget}
-use Rattle.egt_moves.specs.declared.chess_move.Move.{Move}
-use Rattle.egt_moves.specs.Going.{Goes}
-use Rattle.egt_moves.specs.Legal.{plain, passed, men_after, after}
-use Rattle.egt_moves.specs.Promotion.{is_pawn, promotes, FitsPromotion}
-use Rattle.egt_unmoves.specs.Unmoves.{ComesBy, MayComeFrom, Went, GoesOver, led_to, men_before, setup_before}
 use Rattle.egt_unmoves.proofs.Came.{Came, came, came_man, moved_on, not_free, left_whole, settles_men, settles_side, settles_once}
 use Rattle.egt_unmoves.proofs.Room.{few_before}
-use Rattle.egt_board.proofs.Sides.{side_twice, sides_differ}
 use Rattle.egt_unmoves.proofs.Ways.{passed_over, ahead_passed}
 
 -- a move that led here went so

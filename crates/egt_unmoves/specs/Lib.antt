@@ -1,3 +1,4 @@
 pub mod Unmoves
 pub mod Order
 pub mod Targets
+pub mod Prelude

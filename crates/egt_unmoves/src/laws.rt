@@ -1,12 +1,6 @@
 //! What holds of moves backwards. These functions do nothing: a caller calls one to know what it ensures.
-ghost use Rattle.std.specs.Prelude.{◌≡◌, ◌<◌, ℕ, Bool};
-ghost use Rattle.egt_board.specs.Images.{AreImages};
-ghost use Rattle.egt_board.specs.Setup.{Setup, IsAdmissible};
-ghost use Rattle.egt_board.specs.Symmetry.{KeepsPlay};
-ghost use Rattle.egt_board.specs.Turned.{IsTurnedBy};
-ghost use Rattle.egt_moves.specs.declared.chess_move.Move.{Move};
-ghost use Rattle.egt_unmoves.specs.Unmoves.{ComesBy, IsUnmove};
-ghost use Rattle.egt_unmoves.specs.declared.unmove.Unmove.{Unmove};
+ghost use Rattle.egt_unmoves.specs.Prelude.{◌≡◌, ◌<◌, ℕ, Bool, AreImages, Setup, IsAdmissible, KeepsPlay, IsTurnedBy};
+ghost use Rattle.egt_unmoves.specs.Prelude.{Move, ComesBy, IsUnmove, Unmove};
 
 use egt_board::laws::{
     images_are_turns, images_keep_men, images_settle_alike, positions_settle_once, turns_make_one,

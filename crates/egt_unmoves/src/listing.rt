@@ -1,18 +1,9 @@
 //! The list of moves backwards.
-ghost use Rattle.std.specs.Prelude.{◌≡◌, ◌+◌, ◌*◌, ◌<◌, ◌≤◌, ◌↔◌, ◌⊎◌, None};
+ghost use Rattle.egt_unmoves.specs.Prelude.{◌≡◌, ◌+◌, ◌*◌, ◌<◌, ◌≤◌, ◌↔◌, ◌⊎◌, None, Contains, array_vec_len, Stands};
+ghost use Rattle.egt_unmoves.specs.Prelude.{other_side, Setup, IsSettled, Move, plain, most_goals, ComesBy};
+ghost use Rattle.egt_unmoves.specs.Prelude.{MayComeFrom, MayHaveLeft, IsUnmove, men_before, setup_before, IsInOrder};
+ghost use Rattle.egt_unmoves.specs.Prelude.{ListsBelow, target_place, Unmove};
 ghost use Rattle.std.specs.FinMap as map;
-ghost use Rattle.std.specs.List.{Contains};
-ghost use Rattle.arrayvec.specs.ArrayVec.{array_vec_len};
-ghost use Rattle.egt_board.specs.Placement.{Stands};
-ghost use Rattle.egt_board.specs.Man.{other_side};
-ghost use Rattle.egt_board.specs.Setup.{Setup};
-ghost use Rattle.egt_board.specs.Settled.{IsSettled};
-ghost use Rattle.egt_moves.specs.declared.chess_move.Move.{Move};
-ghost use Rattle.egt_moves.specs.Legal.{plain};
-ghost use Rattle.egt_moves.specs.Room.{most_goals};
-ghost use Rattle.egt_unmoves.specs.Unmoves.{ComesBy, MayComeFrom, MayHaveLeft, IsUnmove, men_before, setup_before};
-ghost use Rattle.egt_unmoves.specs.Order.{IsInOrder, ListsBelow, target_place};
-ghost use Rattle.egt_unmoves.specs.declared.unmove.Unmove.{Unmove};
 
 use crate::sources::sources;
 use crate::taking_back::{before, is_pawn, went};

@@ -1,16 +1,7 @@
 //! Where a man may have come from.
-ghost use Rattle.std.specs.Prelude.{◌≡◌, ℕ, ◌<◌, ◌≤◌, ◌↔◌};
+ghost use Rattle.egt_unmoves.specs.Prelude.{◌≡◌, ℕ, ◌<◌, ◌≤◌, ◌↔◌, IsInCheck, other_side, Stands, IsFree, Reaches};
+ghost use Rattle.egt_unmoves.specs.Prelude.{Advances, IsKingOn, rank_of, Has, size_of, most_goals, MayHaveLeft, Went};
 ghost use Rattle.std.specs.FinMap as map;
-ghost use Rattle.egt_board.specs.Attack.{IsInCheck};
-ghost use Rattle.egt_board.specs.Man.{other_side};
-ghost use Rattle.egt_board.specs.Placement.{Stands, IsFree};
-ghost use Rattle.egt_board.specs.AttackLines.{Reaches};
-ghost use Rattle.egt_board.specs.Pawn.{Advances};
-ghost use Rattle.egt_board.specs.Setup.{IsKingOn};
-ghost use Rattle.egt_board.specs.Square.{rank_of};
-ghost use Rattle.egt_board.specs.SquareSet.{Has, size_of};
-ghost use Rattle.egt_moves.specs.Room.{most_goals};
-ghost use Rattle.egt_unmoves.specs.Unmoves.{MayHaveLeft, Went};
 
 use crate::taking_back::is_pawn;
 use egt_board::safety::reach_passes_over_its_end;

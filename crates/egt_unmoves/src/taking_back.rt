@@ -1,14 +1,7 @@
 //! One man back on the square that it may have come from.
-ghost use Rattle.std.specs.Prelude.{◌≡◌, ◌↔◌, IsTrue};
-ghost use Rattle.egt_board.specs.declared.man.Man.{Man};
-ghost use Rattle.egt_board.specs.Man.{other_side};
-ghost use Rattle.egt_board.specs.Pawn.{MayStand, Advances};
-ghost use Rattle.egt_board.specs.Placement.{IsFree};
-ghost use Rattle.egt_board.specs.Settled.{SettlesTo};
-ghost use Rattle.egt_board.specs.Setup.{IsKingOn};
-ghost use Rattle.egt_board.specs.declared.man.Kind.TheVariants.{P};
-ghost use Rattle.egt_moves.specs.Legal.{plain};
-ghost use Rattle.egt_unmoves.specs.Unmoves.{ComesBy, MayComeFrom, MayHaveLeft, Went, led_to, men_before, setup_before};
+ghost use Rattle.egt_unmoves.specs.Prelude.{◌≡◌, ◌↔◌, IsTrue, Man, other_side, MayStand, Advances, IsFree, SettlesTo};
+ghost use Rattle.egt_unmoves.specs.Prelude.{IsKingOn, P, plain, ComesBy, MayComeFrom, MayHaveLeft, Went, led_to};
+ghost use Rattle.egt_unmoves.specs.Prelude.{men_before, setup_before};
 
 use egt_board::{Board, Kind, Man, Position, Side, Square};
 use egt_moves::going::passed;

@@ -1,14 +1,6 @@
 //! The target that a position may have had before the last move.
-ghost use Rattle.std.specs.Prelude.{◌≡◌, ◌⊎◌, ◌↔◌, None, IsTrue};
-ghost use Rattle.egt_board.specs.Man.{other_side};
-ghost use Rattle.egt_board.specs.Pawn.{pawn_of, ahead, HasPawnBeside};
-ghost use Rattle.egt_board.specs.Placement.{Stands};
-ghost use Rattle.egt_board.specs.Setup.{Setup};
-ghost use Rattle.egt_board.specs.Square.{rank_of};
-ghost use Rattle.egt_board.specs.Target.{IsTarget};
-ghost use Rattle.egt_moves.specs.declared.chess_move.Move.{Move};
-ghost use Rattle.egt_unmoves.specs.Targets.{advanced_rank};
-ghost use Rattle.egt_unmoves.specs.Unmoves.{ComesBy};
+ghost use Rattle.egt_unmoves.specs.Prelude.{◌≡◌, ◌⊎◌, ◌↔◌, None, IsTrue, other_side, pawn_of, ahead, HasPawnBeside};
+ghost use Rattle.egt_unmoves.specs.Prelude.{Stands, Setup, rank_of, IsTarget, Move, advanced_rank, ComesBy};
 
 use egt_board::{Board, Position, Side, Square};
 

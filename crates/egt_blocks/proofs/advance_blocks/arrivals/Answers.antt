@@ -1,10 +1,5 @@
-use Rattle.std.proofs.Common.{◌-◌, ◌∙◌, ◌≡◌, ◌↔◌, IfSome, Option, ap, cond, eqb, min, subst, sym}
-use Rattle.std.specs.Int.{bit_at}
-use Rattle.std.proofs.lemmas.Nat.Bits.{bit_at_ones}
-use Rattle.egt_board.specs.Pawn.{last_rank}
-use Rattle.egt_board.specs.Square.{rank_of}
-use Rattle.egt_board.specs.declared.man.Kind.{Kind}
-use Rattle.egt_moves.specs.Promotion.{FitsPromotion, IsOfficer}
+use Rattle.egt_blocks.specs.Prelude.{◌-◌, ◌∙◌, ◌≡◌, ◌↔◌, IfSome, Option, ap, cond, eqb, min, subst, sym, bit_at}
+use Rattle.egt_blocks.specs.Prelude.{bit_at_ones, last_rank, rank_of, Kind, FitsPromotion, IsOfficer}
 use Rattle.egt_blocks.proofs.AdvanceRaising.{arrives_promoted, arrives_unpromoted}
 use Rattle.egt_blocks.proofs.advance_blocks.arrivals.Goals as goal
 

@@ -1,7 +1,4 @@
-use Rattle.std.proofs.Common.{◌∙◌, ap, refl}
-use Rattle.egt_board.specs.Pawn.{pawn_of}
-use Rattle.egt_board.specs.declared.man.Side.{Side}
-use Rattle.egt_lanes.specs.Blocks.{at}
+use Rattle.egt_blocks.specs.Prelude.{◌∙◌, ap, refl, pawn_of, Side, at}
 use Rattle.egt_blocks.proofs.LeapRaising.{all_leaps}
 use Rattle.egt_blocks.proofs.advance_blocks.leap_block.Goals as goal
 

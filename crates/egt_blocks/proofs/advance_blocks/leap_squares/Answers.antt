@@ -1,8 +1,4 @@
-use Rattle.std.proofs.Common.{◌≡◌, ◌↔◌, sym, subst}
-use Rattle.std.specs.Int.{bit_at}
-use Rattle.egt_board.specs.Square.{rank_of}
-use Rattle.egt_board.specs.declared.man.Side.{Side}
-use Rattle.egt_blocks.specs.Leaps.{leap_rank}
+use Rattle.egt_blocks.specs.Prelude.{◌≡◌, ◌↔◌, sym, subst, bit_at, rank_of, Side, leap_rank}
 use Rattle.egt_blocks.proofs.LeapRaising.{on_rank}
 use Rattle.egt_blocks.proofs.advance_blocks.leap_squares.Goals as goal
 

@@ -1,11 +1,5 @@
-use Rattle.std.proofs.Common.{◌≡◌, ◌∙◌, ap, arith, cond, eqb, max, refl, subst}
-use Rattle.std.specs.Prelude.{slice_index}
-use Rattle.egt_board.specs.AttackLines.{Reaches}
-use Rattle.egt_board.specs.Square.{rank_of}
-use Rattle.egt_index.specs.declared.shelf_codes.ShelfMen.{ShelfMen}
-use Rattle.egt_lanes.specs.Blocks.{at}
-use Rattle.egt_lanes.specs.Raised.{IsRaised}
-use Rattle.egt_steps.specs.Takings.{IsPastKings}
+use Rattle.egt_blocks.specs.Prelude.{◌≡◌, ◌∙◌, ap, arith, cond, eqb, max, refl, subst, slice_index, Reaches, rank_of}
+use Rattle.egt_blocks.specs.Prelude.{ShelfMen, at, IsRaised, IsPastKings}
 use Rattle.egt_blocks.proofs.AdvanceRaising.{all_captures}
 use Rattle.egt_blocks.proofs.advance_blocks.promoting_block.Goals as goal
 

@@ -1,5 +1,4 @@
-use Rattle.std.proofs.Common.{Some, refl}
-use Rattle.egt_lanes.specs.Blocks.{at}
+use Rattle.egt_blocks.specs.Prelude.{Some, refl, at}
 use Rattle.egt_blocks.proofs.AdvanceRaising.{all_advances}
 use Rattle.egt_blocks.proofs.BlockRaising.{all_squares}
 use Rattle.egt_blocks.proofs.advance_blocks.promotion_block.Goals as goal

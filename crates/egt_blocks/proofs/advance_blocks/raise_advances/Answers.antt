@@ -1,10 +1,5 @@
-use Rattle.std.proofs.Common.{◌≡◌, ◌<◌, ◌↔◌, ℕ, [], get_or, subst}
-use Rattle.std.specs.Int.{bit_at}
-use Rattle.egt_board.specs.Pawn.{Advances}
-use Rattle.egt_lanes.specs.Blocks.{at}
-use Rattle.egt_steps.specs.QuietStands.{IsClear}
+use Rattle.egt_blocks.specs.Prelude.{◌≡◌, ◌<◌, ◌↔◌, ℕ, [], get_or, subst, bit_at, Advances, at, IsClear, rows_more}
 use Rattle.egt_blocks.proofs.AdvanceRaising.{arrived_raised, clear_without}
-use Rattle.egt_lanes.proofs.Rowwise.{rows_more}
 use Rattle.egt_blocks.proofs.advance_blocks.raise_advances.Goals as goal
 
 pub loop-a-preserved : goal.loop-a-preserved

@@ -1,9 +1,4 @@
-use Rattle.std.proofs.Common.{◌≡◌}
-use Rattle.std.specs.Int.{bit_at}
-use Rattle.egt_board.specs.Pawn.{Advances}
-use Rattle.egt_lanes.specs.Blocks.{at}
-use Rattle.egt_steps.specs.QuietStands.{IsClear}
-use Rattle.egt_lanes.proofs.Rowwise.{RowsRaised}
+use Rattle.egt_blocks.specs.Prelude.{◌≡◌, bit_at, Advances, at, IsClear, RowsRaised}
 use Rattle.egt_blocks.proofs.advance_blocks.raise_advances.Given as goal
 
 abbrev pub invariant-loop-a : goal.invariant-loop-a

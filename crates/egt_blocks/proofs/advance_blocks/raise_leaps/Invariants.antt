@@ -1,8 +1,4 @@
-use Rattle.egt_lanes.specs.Advances.{AdvancesBy}
-use Rattle.egt_lanes.specs.Blocks.{at}
-use Rattle.egt_blocks.specs.Leaps.{IsBesideWhere}
-use Rattle.egt_steps.specs.QuietStands.{IsClear}
-use Rattle.egt_lanes.proofs.Rowwise.{RowsRaised}
+use Rattle.egt_blocks.specs.Prelude.{AdvancesBy, at, IsBesideWhere, IsClear, RowsRaised}
 use Rattle.egt_blocks.proofs.advance_blocks.raise_leaps.Given as goal
 
 abbrev pub invariant-loop-a : goal.invariant-loop-a

@@ -1,11 +1,6 @@
-use Rattle.std.proofs.Common.{◌≡◌, ◌<◌, ◌↔◌, ℕ, [], get_or, subst}
-use Rattle.std.specs.Int.{bit_at}
-use Rattle.egt_lanes.specs.Advances.{AdvancesBy}
-use Rattle.egt_lanes.specs.Blocks.{at}
-use Rattle.egt_steps.specs.QuietStands.{IsClear}
+use Rattle.egt_blocks.specs.Prelude.{◌≡◌, ◌<◌, ◌↔◌, ℕ, [], get_or, subst, bit_at, AdvancesBy, at, IsClear, rows_more}
 use Rattle.egt_blocks.proofs.AdvanceRaising.{clear_without}
 use Rattle.egt_blocks.proofs.LeapRaising.{arrived_by}
-use Rattle.egt_lanes.proofs.Rowwise.{rows_more}
 use Rattle.egt_blocks.proofs.advance_blocks.raise_steps.Goals as goal
 
 pub loop-a-preserved : goal.loop-a-preserved

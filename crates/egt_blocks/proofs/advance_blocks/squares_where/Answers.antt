@@ -1,7 +1,4 @@
-use Rattle.std.proofs.Common.{Bool, ◌≡◌, ◌↔◌, sym, subst}
-use Rattle.std.specs.Int.{bit_at}
-use Rattle.egt_board.specs.Pawn.{IsBeside}
-use Rattle.egt_blocks.specs.Leaps.{IsBesideWhere}
+use Rattle.egt_blocks.specs.Prelude.{Bool, ◌≡◌, ◌↔◌, sym, subst, bit_at, IsBeside, IsBesideWhere}
 use Rattle.egt_blocks.proofs.LeapRaising.{others_lack}
 use Rattle.egt_blocks.proofs.advance_blocks.squares_where.Goals as goal
 

@@ -1,9 +1,4 @@
-use Rattle.std.proofs.Common.{◌≢◌, ◌∙◌, None, ap, false, refl, sym}
-use Rattle.std.proofs.lemmas.Bool.{false≢true}
-use Rattle.egt_board.specs.Man.{other_side}
-use Rattle.egt_board.specs.Pawn.{pawn_of}
-use Rattle.egt_board.specs.declared.man.Side.{Side}
-use Rattle.egt_lanes.specs.Blocks.{at}
+use Rattle.egt_blocks.specs.Prelude.{◌≢◌, ◌∙◌, None, ap, false, refl, sym, false≢true, other_side, pawn_of, Side, at}
 use Rattle.egt_blocks.proofs.AdvanceRaising.{all_advances}
 use Rattle.egt_blocks.proofs.LeapRaising.{all_steps, steps_alone}
 use Rattle.egt_blocks.proofs.advance_blocks.step_block.Goals as goal

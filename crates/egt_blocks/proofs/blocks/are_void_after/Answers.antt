@@ -1,6 +1,4 @@
-use Rattle.std.proofs.Common.{arith, refl}
-use Rattle.egt_index.specs.Went.{AreOnBoard}
-use Rattle.egt_steps.specs.Stands.{stand_on}
+use Rattle.egt_blocks.specs.Prelude.{arith, refl, AreOnBoard, stand_on}
 use Rattle.egt_blocks.proofs.blocks.are_void_after.Goals as goal
 
 pub returns : goal.returns

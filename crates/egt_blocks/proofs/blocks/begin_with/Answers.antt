@@ -1,6 +1,4 @@
-use Rattle.std.proofs.Common.{subst}
-use Rattle.std.proofs.lemmas.Bool.{eqb-true}
-use Rattle.egt_blocks.specs.Blocks.{AreShelvesOf}
+use Rattle.egt_blocks.specs.Prelude.{subst, eqb-true, AreShelvesOf}
 use Rattle.egt_blocks.proofs.blocks.begin_with.Goals as goal
 
 pub returns-in-Some : goal.returns-in-Some

@@ -1,10 +1,5 @@
-use Rattle.std.proofs.Common.{◌≡◌, ℕ, Bool, Option, refl, ap, ◌∙◌, subst}
-use Rattle.egt_class.specs.Material.{material_of}
-use Rattle.egt_index.specs.Home.{AreHome}
-use Rattle.egt_index.specs.Size.{has_pawns}
-use Rattle.egt_lanes.specs.Blocks.{at}
-use Rattle.egt_steps.specs.Stands.{stand_on}
-use Rattle.egt_blocks.specs.Blocks.{IsCodeAfter}
+use Rattle.egt_blocks.specs.Prelude.{◌≡◌, ℕ, Bool, Option, refl, ap, ◌∙◌, subst, material_of, AreHome, has_pawns, at}
+use Rattle.egt_blocks.specs.Prelude.{stand_on, IsCodeAfter}
 use Rattle.egt_blocks.proofs.BlockRaising.{home_by_one, home_by_two, raised_max}
 use Rattle.egt_blocks.proofs.blocks.home_block.Goals as goal
 

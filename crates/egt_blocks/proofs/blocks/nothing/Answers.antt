@@ -1,5 +1,4 @@
-use Rattle.std.proofs.Common.{List, [], ℕ, ap, get_or, replicate, ◌∙◌}
-use Rattle.std.proofs.lemmas.List.{get_or-replicate}
+use Rattle.egt_blocks.specs.Prelude.{List, [], ℕ, ap, get_or, replicate, ◌∙◌, get_or-replicate}
 use Rattle.egt_blocks.proofs.blocks.nothing.Goals as goal
 
 pub returns : goal.returns

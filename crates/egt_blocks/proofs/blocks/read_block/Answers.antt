@@ -1,7 +1,4 @@
-use Rattle.std.proofs.Common.{◌∙◌, ap, refl, sym, subst}
-use Rattle.egt_class.specs.Material.{has_equal_sides}
-use Rattle.egt_steps.specs.Stands.{stand_on}
-use Rattle.egt_blocks.specs.Scored.{IsReadWith}
+use Rattle.egt_blocks.specs.Prelude.{◌∙◌, ap, refl, sym, subst, has_equal_sides, stand_on, IsReadWith}
 use Rattle.egt_blocks.proofs.BlockRaising.{settled_raised}
 use Rattle.egt_blocks.proofs.blocks.read_block.Goals as goal
 

@@ -1,18 +1,7 @@
-use Rattle.std.proofs.Common.{◌≡◌, ◌<◌, ◌+◌, inl, inr, refl, ◌/◌, ◌%◌, eqb, arith, sym, ap, ◌∙◌, subst}
-use Rattle.std.specs.Prelude.{slice_index}
-use Rattle.std.proofs.lemmas.Bool.{false≢true}
-use Rattle.std.proofs.lemmas.List.{get_or-replicate}
-use Rattle.egt_board.specs.Pawn.{MayStand}
-use Rattle.egt_board.specs.Turned.{turned_side, turned_square}
-use Rattle.egt_board.specs.declared.man.Side.{Side}
-use Rattle.egt_index.specs.Scales.{kind_digits, kind_less}
-use Rattle.egt_index.specs.ShelfCodes.{IsShelfOf, IsWithin, stand_with}
-use Rattle.egt_index.specs.TellsMen.{TellsMen}
-use Rattle.egt_index.specs.TurnedMen.{turned_by}
-use Rattle.egt_index.specs.declared.shelf_codes.ShelfMen.{ShelfMen}
-use Rattle.egt_lanes.specs.Raised.{IsRaised}
-use Rattle.egt_steps.specs.Stands.{men_on, stand_on}
-use Rattle.egt_blocks.specs.Blocks.{IsCodeAfter, IsRaisedAfter, turned_from}
+use Rattle.egt_blocks.specs.Prelude.{◌≡◌, ◌<◌, ◌+◌, inl, inr, refl, ◌/◌, ◌%◌, eqb, arith, sym, ap, ◌∙◌, subst}
+use Rattle.egt_blocks.specs.Prelude.{slice_index, false≢true, get_or-replicate, MayStand, turned_side, turned_square}
+use Rattle.egt_blocks.specs.Prelude.{Side, kind_digits, kind_less, IsShelfOf, IsWithin, stand_with, TellsMen, turned_by}
+use Rattle.egt_blocks.specs.Prelude.{ShelfMen, IsRaised, men_on, stand_on, IsCodeAfter, IsRaisedAfter, turned_from}
 use Rattle.egt_blocks.proofs.BlockRaising.{raised_by_none, turned_in}
 use Rattle.egt_blocks.proofs.ShelfRuns.{digit_there}
 use Rattle.egt_blocks.proofs.blocks.row_after.Goals as goal

@@ -1,11 +1,5 @@
-use Rattle.std.proofs.Common.{◌≡◌, ◌+◌, ◌*◌, ◌/◌, ◌≤◌, ◌∙◌, ap, arith, subst}
-use Rattle.std.proofs.Math.Nat.{mul-le-mul_right}
-use Rattle.std.proofs.lemmas.Nat.{div-add-mod'}
-use Rattle.egt_index.specs.Scales.{kind_less}
-use Rattle.egt_index.specs.ShelfCodes.{IsShelfOf}
-use Rattle.egt_index.specs.Size.{size_of}
-use Rattle.egt_index.specs.declared.shelf_codes.ShelfMen.{ShelfMen}
-use Rattle.egt_steps.specs.Stands.{men_on}
+use Rattle.egt_blocks.specs.Prelude.{◌≡◌, ◌+◌, ◌*◌, ◌/◌, ◌≤◌, ◌∙◌, ap, arith, subst, mul-le-mul_right, div-add-mod'}
+use Rattle.egt_blocks.specs.Prelude.{kind_less, IsShelfOf, size_of, ShelfMen, men_on}
 use Rattle.egt_blocks.proofs.ShelfRuns.{shelf_up}
 use Rattle.egt_blocks.proofs.blocks.shelves_of.Goals as goal
 

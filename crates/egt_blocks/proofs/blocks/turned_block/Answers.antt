@@ -1,13 +1,6 @@
-use Rattle.std.proofs.Common.{◌≡◌, ◌≢◌, ℕ, Bool, List, [], get_or, get_or-set_other, arith, ap, sym, ◌∙◌, inl, inr, subst}
-use Rattle.std.proofs.Math.ListN.{length-set}
-use Rattle.std.proofs.lemmas.Bool.{cases_lt}
-use Rattle.std.proofs.lemmas.Grind.{get_or-set_at}
-use Rattle.std.specs.Int.{bit_at}
-use Rattle.egt_index.specs.Index.{IsVoid}
-use Rattle.egt_index.specs.TurnedMen.{IsTurnedCodeWith}
-use Rattle.egt_index.specs.declared.shelf_codes.ShelfMen.{ShelfMen}
-use Rattle.egt_steps.specs.Stands.{stand_on}
-use Rattle.egt_blocks.specs.Blocks.{AreShelvesOf, IsCodeAfter, IsRaisedAfter, turned_from}
+use Rattle.egt_blocks.specs.Prelude.{◌≡◌, ◌≢◌, ℕ, Bool, List, [], get_or, get_or-set_other, arith, ap, sym, ◌∙◌, inl}
+use Rattle.egt_blocks.specs.Prelude.{inr, subst, length-set, cases_lt, get_or-set_at, bit_at, IsVoid, IsTurnedCodeWith}
+use Rattle.egt_blocks.specs.Prelude.{ShelfMen, stand_on, AreShelvesOf, IsCodeAfter, IsRaisedAfter, turned_from}
 use Rattle.egt_blocks.proofs.BlockRaising.{raised_by_zeros}
 use Rattle.egt_blocks.proofs.blocks.turned_block.Goals as goal
 

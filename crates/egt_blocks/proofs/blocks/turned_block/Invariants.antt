@@ -1,8 +1,4 @@
-use Rattle.std.proofs.Common.{◌≡◌, ℕ, ◌<◌, length}
-use Rattle.egt_board.specs.SquareSet.{Has}
-use Rattle.egt_lanes.specs.Blocks.{at}
-use Rattle.egt_steps.specs.Stands.{stand_on}
-use Rattle.egt_blocks.specs.Blocks.{IsRaisedAfter}
+use Rattle.egt_blocks.specs.Prelude.{◌≡◌, ℕ, ◌<◌, length, Has, at, stand_on, IsRaisedAfter}
 use Rattle.egt_blocks.proofs.blocks.turned_block.Given as goal
 
 -- those of the rows below a are written

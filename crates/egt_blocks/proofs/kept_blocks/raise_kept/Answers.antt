@@ -1,7 +1,4 @@
-use Rattle.std.proofs.Common.{[], false, slice_index_or}
-use Rattle.egt_index.specs.TurnedMen.{IsSomeTurnedCode}
-use Rattle.egt_lanes.specs.Blocks.{at}
-use Rattle.egt_steps.specs.Stands.{stand_on}
+use Rattle.egt_blocks.specs.Prelude.{[], false, slice_index_or, IsSomeTurnedCode, at, stand_on}
 use Rattle.egt_blocks.proofs.BlockRaising.{raised_max}
 use Rattle.egt_blocks.proofs.kept_blocks.raise_kept.Goals as goal
 

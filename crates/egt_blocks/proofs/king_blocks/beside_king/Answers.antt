@@ -1,7 +1,4 @@
-use Rattle.std.proofs.Common.{◌≡◌, sym, subst}
-use Rattle.std.specs.Int.{bit_at}
-use Rattle.egt_board.specs.Attack.{king_of}
-use Rattle.egt_board.specs.AttackLines.{Reaches}
+use Rattle.egt_blocks.specs.Prelude.{◌≡◌, sym, subst, bit_at, king_of, Reaches}
 use Rattle.egt_blocks.proofs.king_blocks.beside_king.Goals as goal
 
 pub returns : goal.returns

@@ -1,17 +1,6 @@
-use Rattle.std.proofs.Common.{◌≡◌, ◌∙◌, ℕ, List, Option, false, arith, sym, ap, subst, inl, inr}
-use Rattle.std.specs.Int.{bit_at}
-use Rattle.std.proofs.lemmas.Bool.{cases_eq}
-use Rattle.egt_board.specs.Man.{other_side}
-use Rattle.egt_board.specs.declared.man.Side.{Side}
-use Rattle.egt_table.specs.declared.column.Column.{Column}
-use Rattle.egt_index.specs.declared.shelf_codes.ShelfMen.{ShelfMen}
-use Rattle.egt_index.specs.TurnedMen.{IsSomeTurnedCode}
-use Rattle.egt_lanes.specs.Blocks.{at}
-use Rattle.egt_lanes.specs.Raised.{IsRaised}
-use Rattle.egt_steps.specs.Stands.{IsBesideKing, stand_on, with_king}
-use Rattle.egt_blocks.specs.Blocks.{AreKingCodes}
-use Rattle.egt_blocks.specs.Kept.{AreKept}
-use Rattle.egt_blocks.specs.declared.kept_blocks.BlockKey.{BlockKey}
+use Rattle.egt_blocks.specs.Prelude.{◌≡◌, ◌∙◌, ℕ, List, Option, false, arith, sym, ap, subst, inl, inr, bit_at}
+use Rattle.egt_blocks.specs.Prelude.{cases_eq, other_side, Side, Column, ShelfMen, IsSomeTurnedCode, at, IsRaised}
+use Rattle.egt_blocks.specs.Prelude.{IsBesideKing, stand_on, with_king, AreKingCodes, AreKept, BlockKey}
 use Rattle.egt_blocks.proofs.BlockRaising.{GoneKing, kept_beside, king_goes, raised_alike, raised_by_none}
 use Rattle.egt_blocks.proofs.king_blocks.king_block.Goals as goal
 

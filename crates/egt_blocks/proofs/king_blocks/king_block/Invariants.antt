@@ -1,11 +1,4 @@
-use Rattle.std.proofs.Common.{ℕ, ◌<◌}
-use Rattle.egt_board.specs.Man.{other_side}
-use Rattle.egt_board.specs.SquareSet.{Has}
-use Rattle.egt_lanes.specs.Blocks.{at}
-use Rattle.egt_lanes.specs.Raised.{IsRaised}
-use Rattle.egt_steps.specs.Stands.{IsBesideKing}
-use Rattle.egt_blocks.specs.Blocks.{AreKingCodes}
-use Rattle.egt_blocks.specs.Kept.{AreKept}
+use Rattle.egt_blocks.specs.Prelude.{ℕ, ◌<◌, other_side, Has, at, IsRaised, IsBesideKing, AreKingCodes, AreKept}
 use Rattle.egt_blocks.proofs.BlockRaising.{GoneKing}
 use Rattle.egt_blocks.proofs.king_blocks.king_block.Given as goal
 

@@ -1,11 +1,5 @@
-use Rattle.std.proofs.Common.{◌/◌, ◌%◌, eqb, max, arith, ap, ◌∙◌, subst}
-use Rattle.std.specs.Prelude.{slice_index, false}
-use Rattle.egt_board.specs.Turned.{turned_side, turned_square}
-use Rattle.egt_board.specs.declared.man.Side.{Side}
-use Rattle.egt_index.specs.LoneCodes.{lone_stand}
-use Rattle.egt_index.specs.TellsMen.{TellsMen}
-use Rattle.egt_lanes.specs.Raised.{IsRaised}
-use Rattle.egt_blocks.specs.Blocks.{IsCodeAfter}
+use Rattle.egt_blocks.specs.Prelude.{◌/◌, ◌%◌, eqb, max, arith, ap, ◌∙◌, subst, slice_index, false, turned_side}
+use Rattle.egt_blocks.specs.Prelude.{turned_square, Side, lone_stand, TellsMen, IsRaised, IsCodeAfter}
 use Rattle.egt_blocks.proofs.BlockRaising.{raised_max, turned_in}
 use Rattle.egt_blocks.proofs.lone_rows.raise_lone.Goals as goal
 

@@ -1,14 +1,5 @@
-use Rattle.std.proofs.Common.{◌<◌, ◌≡◌, ◌∙◌, max, arith, ap, refl, subst}
-use Rattle.egt_board.specs.AttackLines.{Reaches}
-use Rattle.egt_board.specs.Man.{other_side}
-use Rattle.egt_board.specs.Pawn.{pawn_of}
-use Rattle.egt_board.specs.declared.man.Side.{Side}
-use Rattle.egt_index.specs.declared.shelf_codes.ShelfMen.{ShelfMen}
-use Rattle.egt_lanes.specs.Blocks.{at}
-use Rattle.egt_lanes.specs.Raised.{IsRaised}
-use Rattle.std.specs.Prelude.{slice_index}
-use Rattle.egt_steps.specs.Takings.{IsPastKings, left_of, stand_left}
-use Rattle.egt_blocks.specs.Scored.{IsRead}
+use Rattle.egt_blocks.specs.Prelude.{◌<◌, ◌≡◌, ◌∙◌, max, arith, ap, refl, subst, Reaches, other_side, pawn_of, Side}
+use Rattle.egt_blocks.specs.Prelude.{ShelfMen, at, IsRaised, slice_index, IsPastKings, left_of, stand_left, IsRead}
 use Rattle.egt_blocks.proofs.PassingRaising.{all_passing}
 use Rattle.egt_blocks.proofs.passing_blocks.passing_block.Goals as goal
 

@@ -1,5 +1,4 @@
-use Rattle.std.proofs.Common.{ℕ, ◌<◌, get_or, subst}
-use Rattle.egt_blocks.specs.PassedRows.{IsAtPassed}
+use Rattle.egt_blocks.specs.Prelude.{ℕ, ◌<◌, get_or, subst, IsAtPassed}
 use Rattle.egt_blocks.proofs.PassingRaising.{rows_set}
 use Rattle.egt_blocks.proofs.passing_blocks.take_passed.Goals as goal
 

@@ -1,12 +1,5 @@
-use Rattle.std.proofs.Common.{◌<◌, ℕ, false, sym, subst}
-use Rattle.egt_board.specs.Man.{other_side}
-use Rattle.egt_board.specs.declared.man.Side.{Side}
-use Rattle.egt_index.specs.TurnedMen.{IsSomeTurnedCode}
-use Rattle.egt_lanes.specs.Blocks.{at}
-use Rattle.egt_lanes.specs.Raised.{IsRaised}
-use Rattle.egt_steps.specs.Stands.{stand_on}
-use Rattle.egt_blocks.specs.Kept.{AreKept}
-use Rattle.egt_blocks.specs.Scored.{IsRead}
+use Rattle.egt_blocks.specs.Prelude.{◌<◌, ℕ, false, sym, subst, other_side, Side, IsSomeTurnedCode, at, IsRaised}
+use Rattle.egt_blocks.specs.Prelude.{stand_on, AreKept, IsRead}
 use Rattle.egt_blocks.proofs.QuietRaising.{all_quiet, king_alone, no_piece}
 use Rattle.egt_blocks.proofs.quiet_blocks.quiet_block.Goals as goal
 

@@ -1,8 +1,4 @@
-use Rattle.std.proofs.Common.{ℕ}
-use Rattle.egt_board.specs.AttackLines.{Reaches}
-use Rattle.egt_lanes.specs.Blocks.{IsOpen, at}
-use Rattle.egt_steps.specs.QuietStands.{IsClear}
-use Rattle.egt_blocks.specs.QuietSteps.{IsFirstStep}
+use Rattle.egt_blocks.specs.Prelude.{ℕ, Reaches, IsOpen, at, IsClear, IsFirstStep}
 use Rattle.egt_blocks.proofs.QuietRaising.{no_pawn}
 use Rattle.egt_blocks.proofs.BlockRaising.{raised_alike}
 use Rattle.egt_blocks.proofs.QuietRaising.{open_is_clear, steps_raised}

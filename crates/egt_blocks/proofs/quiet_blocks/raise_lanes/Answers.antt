@@ -1,10 +1,5 @@
-use Rattle.std.proofs.Common.{◌≡◌, ◌↔◌, ◌<◌, ℕ, get_or, subst}
-use Rattle.std.specs.Int.{bit_at}
-use Rattle.egt_board.specs.AttackLines.{Reaches}
-use Rattle.egt_lanes.specs.Blocks.{at}
-use Rattle.egt_steps.specs.QuietStands.{IsClear}
+use Rattle.egt_blocks.specs.Prelude.{◌≡◌, ◌↔◌, ◌<◌, ℕ, get_or, subst, bit_at, Reaches, at, IsClear, rows_more}
 use Rattle.egt_blocks.proofs.QuietRaising.{steps_raised}
-use Rattle.egt_lanes.proofs.Rowwise.{rows_more}
 use Rattle.egt_blocks.proofs.quiet_blocks.raise_lanes.Goals as goal
 
 pub loop-a-preserved : goal.loop-a-preserved

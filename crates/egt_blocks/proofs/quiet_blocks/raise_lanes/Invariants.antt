@@ -1,7 +1,4 @@
-use Rattle.egt_board.specs.AttackLines.{Reaches}
-use Rattle.egt_lanes.specs.Blocks.{at}
-use Rattle.egt_steps.specs.QuietStands.{IsClear}
-use Rattle.egt_lanes.proofs.Rowwise.{RowsRaised}
+use Rattle.egt_blocks.specs.Prelude.{Reaches, at, IsClear, RowsRaised}
 use Rattle.egt_blocks.proofs.quiet_blocks.raise_lanes.Given as goal
 
 abbrev pub invariant-loop-a : goal.invariant-loop-a

@@ -1,9 +1,4 @@
-use Rattle.std.proofs.Common.{◌≡◌, ◌↔◌, ◌∙◌, ap, get_or, max, subst}
-use Rattle.std.specs.Int.{bit_at}
-use Rattle.std.specs.Prelude.{slice_index}
-use Rattle.egt_board.specs.AttackLines.{Reaches}
-use Rattle.egt_lanes.specs.Blocks.{at}
-use Rattle.egt_lanes.proofs.Rowwise.{rows_more}
+use Rattle.egt_blocks.specs.Prelude.{◌≡◌, ◌↔◌, ◌∙◌, ap, get_or, max, subst, bit_at, slice_index, Reaches, at, rows_more}
 use Rattle.egt_blocks.proofs.Taking.{IsTake, take_raised}
 use Rattle.egt_blocks.proofs.taken_blocks.raise_takes.Goals as goal
 

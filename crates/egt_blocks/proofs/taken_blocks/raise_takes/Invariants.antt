@@ -1,5 +1,4 @@
-use Rattle.std.specs.Prelude.{slice_index}
-use Rattle.egt_lanes.proofs.Rowwise.{RowsRaised}
+use Rattle.egt_blocks.specs.Prelude.{slice_index, RowsRaised}
 use Rattle.egt_blocks.proofs.Taking.{IsTake}
 use Rattle.egt_blocks.proofs.taken_blocks.raise_takes.Given as goal
 

@@ -1,10 +1,5 @@
-use Rattle.std.proofs.Common.{arith, refl, subst}
-use Rattle.std.specs.Prelude.{slice_index}
-use Rattle.std.proofs.Math.ListN.{set}
-use Rattle.egt_board.specs.Man.{other_side}
-use Rattle.egt_index.specs.declared.shelf_codes.ShelfMen.{ShelfMen}
-use Rattle.egt_steps.specs.Takings.{left_of, stand_left}
-use Rattle.egt_blocks.specs.Scored.{IsRead}
+use Rattle.egt_blocks.specs.Prelude.{arith, refl, subst, slice_index, set, other_side, ShelfMen, left_of, stand_left}
+use Rattle.egt_blocks.specs.Prelude.{IsRead}
 use Rattle.egt_blocks.proofs.Taking.{RowsTaken, taken_all, taken_more, taken_none}
 use Rattle.egt_blocks.proofs.taken_blocks.read_king_takes.Goals as goal
 

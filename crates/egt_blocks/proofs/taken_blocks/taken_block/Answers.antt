@@ -1,6 +1,4 @@
-use Rattle.std.proofs.Common.{◌∙◌, refl, sym}
-use Rattle.std.proofs.lemmas.Bool.{false≢true}
-use Rattle.egt_lanes.specs.Blocks.{at}
+use Rattle.egt_blocks.specs.Prelude.{◌∙◌, refl, sym, false≢true, at}
 use Rattle.egt_blocks.proofs.Taking.{both_take, king_raised, king_takes}
 use Rattle.egt_blocks.proofs.taken_blocks.taken_block.Goals as goal
 

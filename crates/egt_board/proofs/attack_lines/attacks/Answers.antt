@@ -1,5 +1,4 @@
-use Rattle.std.proofs.Common.{sym, ◌∙◌, arith}
-use Rattle.std.proofs.lemmas.Bool.{false≢true}
+use Rattle.egt_board.specs.Prelude.{sym, ◌∙◌, arith, false≢true}
 use Rattle.egt_board.proofs.Hiding.{Reaches-bare, attacks_open}
 use Rattle.egt_board.proofs.attack_lines.attacks.Goals as goal
 

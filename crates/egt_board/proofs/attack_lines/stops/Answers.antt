@@ -1,7 +1,4 @@
-use Rattle.std.proofs.Common.{ap, sym, ◌∙◌}
-use Rattle.std.specs.Int.{bit_at}
-use Rattle.std.proofs.lemmas.Bool.{false≢true}
-use Rattle.std.proofs.lemmas.Nat.Bits.{bit_at_ones}
+use Rattle.egt_board.specs.Prelude.{ap, sym, ◌∙◌, bit_at, false≢true, bit_at_ones}
 use Rattle.egt_board.proofs.Hiding.{stops_none, stops_between}
 use Rattle.egt_board.proofs.attack_lines.stops.Goals as goal
 

@@ -1,7 +1,4 @@
-use Rattle.std.proofs.Common.{ap, ◌∙◌, arith}
-use Rattle.std.specs.Int.Bits.{bit_and}
-use Rattle.std.proofs.lemmas.Nat.{and_le_l}
-use Rattle.egt_board.specs.Lookup.{line_of}
+use Rattle.egt_board.specs.Prelude.{ap, ◌∙◌, arith, bit_and, and_le_l, line_of}
 use Rattle.egt_board.proofs.Computed.{behind_shows}
 use Rattle.egt_board.proofs.lookup.behind.Goals as goal
 

@@ -1,7 +1,4 @@
-use Rattle.std.proofs.Common.{ap, ◌∙◌, arith}
-use Rattle.std.specs.Int.Bits.{bit_and, bit_xor}
-use Rattle.std.proofs.lemmas.Nat.{and_le_l}
-use Rattle.egt_board.specs.Lookup.{below, line_of}
+use Rattle.egt_board.specs.Prelude.{ap, ◌∙◌, arith, bit_and, bit_xor, and_le_l, below, line_of}
 use Rattle.egt_board.proofs.Computed.{between_shows}
 use Rattle.egt_board.proofs.lookup.between.Goals as goal
 

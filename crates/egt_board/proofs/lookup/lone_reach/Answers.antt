@@ -1,5 +1,4 @@
-use Rattle.std.proofs.Common.{◌+◌, ◌*◌, get_or, ap, ◌∙◌, arith}
-use Rattle.egt_board.specs.declared.tables.TheConstants.{LONE}
+use Rattle.egt_board.specs.Prelude.{◌+◌, ◌*◌, get_or, ap, ◌∙◌, arith, LONE}
 use Rattle.egt_board.proofs.Computed.{lone_shows}
 use Rattle.egt_board.proofs.lookup.lone_reach.Goals as goal
 

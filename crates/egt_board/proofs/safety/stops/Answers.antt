@@ -1,10 +1,6 @@
-use Rattle.std.proofs.Common.{◌≡◌, true, refl, sym, ◌∙◌, ap}
-use Rattle.std.proofs.lemmas.Bool.{false≢true}
-use Rattle.std.proofs.lemmas.Nat.Bits.{bit_at_ones}
+use Rattle.egt_board.specs.Prelude.{◌≡◌, true, refl, sym, ◌∙◌, ap, false≢true, bit_at_ones, the_type, Side, White}
+use Rattle.egt_board.specs.Prelude.{Black}
 use denote.Enum.Bare.{sameb}
-use Rattle.egt_board.specs.contracts.man.Side.{the_type}
-use Rattle.egt_board.specs.declared.man.Side.{Side}
-use Rattle.egt_board.specs.declared.man.Side.TheVariants.{White, Black}
 use Rattle.egt_board.proofs.safety.stops.Goals as goal
 
 pub returns-in_default : goal.returns-in_default

@@ -1,5 +1,4 @@
-use Rattle.std.proofs.Common.{◌≢◌, ◌<◌, ℕ}
-use Rattle.egt_class.specs.Name.{name_of}
+use Rattle.egt_c.specs.Prelude.{◌≢◌, ◌<◌, ℕ, name_of}
 use Rattle.egt_c.proofs.class_calls.egtb_class.Given as goal
 
 abbrev pub invariant-loop-number : goal.invariant-loop-number

@@ -1,6 +1,4 @@
-use Rattle.std.proofs.Common.{List, ℕ, refl, sym, subst, ◌∙◌}
-use Rattle.egt_table.specs.File.{IsAnswer}
-use Rattle.egt_c.specs.Calls.{NotRead, TurnedAway, Added}
+use Rattle.egt_c.specs.Prelude.{List, ℕ, refl, sym, subst, ◌∙◌, IsAnswer, NotRead, TurnedAway, Added}
 use Rattle.egt_c.proofs.Reading.{memory_never_fails}
 use Rattle.egt_c.proofs.library_calls.add_class.Goals as goal
 

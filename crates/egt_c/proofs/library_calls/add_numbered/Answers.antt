@@ -1,5 +1,4 @@
-use Rattle.std.proofs.Common.{ℕ, subst}
-use Rattle.egt_c.specs.Calls.{Adds}
+use Rattle.egt_c.specs.Prelude.{ℕ, subst, Adds}
 use Rattle.egt_c.proofs.library_calls.add_numbered.Goals as goal
 
 pub returns-in-Some : goal.returns-in-Some

@@ -1,7 +1,4 @@
-use Rattle.std.proofs.Common.{IfSome, ap, refl}
-use Rattle.std.specs.Arc.{arc_value}
-use Rattle.egt_c.specs.Calls.{Adds}
-use Rattle.egt_c.specs.Held.{Places, held}
+use Rattle.egt_c.specs.Prelude.{IfSome, ap, refl, arc_value, Adds, Places, held}
 use Rattle.egt_c.proofs.Kept.{if_held}
 use Rattle.egt_c.proofs.library_calls.egtb_add.Goals as goal
 

@@ -1,8 +1,4 @@
-use Rattle.std.proofs.Common.{◌≡◌, None, sym, ap, ◌∙◌, subst}
-use Rattle.std.specs.Arc.{arc_value}
-use Rattle.egt_entries.specs.Tables.{table_at}
-use Rattle.egt_c.specs.Calls.{Opened}
-use Rattle.egt_c.specs.Held.{Places}
+use Rattle.egt_c.specs.Prelude.{◌≡◌, None, sym, ap, ◌∙◌, subst, arc_value, table_at, Opened, Places}
 use Rattle.egt_c.proofs.library_calls.egtb_open.Goals as goal
 
 pub returns : goal.returns

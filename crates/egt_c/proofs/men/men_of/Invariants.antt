@@ -1,6 +1,4 @@
-use Rattle.std.proofs.Common.{◌≡◌, take, Some}
-use Rattle.arrayvec.specs.ArrayVec.{array_vec_len}
-use Rattle.egt_c.specs.Men.{men_of}
+use Rattle.egt_c.specs.Prelude.{◌≡◌, take, Some, array_vec_len, men_of}
 use Rattle.egt_c.proofs.men.men_of.Given as goal
 
 -- the men so far are named

@@ -1,5 +1,4 @@
-use Rattle.std.proofs.Common.{rules, arith}
-use Rattle.egt_c.specs.Men.{NoPosition}
+use Rattle.egt_c.specs.Prelude.{rules, arith, NoPosition}
 use Rattle.egt_c.proofs.men.position_of.Goals as goal
 
 pub returns-in-Err-clause-fault : goal.returns-in-Err-clause-fault

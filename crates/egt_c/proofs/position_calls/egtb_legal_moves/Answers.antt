@@ -1,7 +1,4 @@
-use Rattle.std.proofs.Common.{◌≡◌, List, length, map, take, ap, ◌∙◌, subst}
-use Rattle.egt_moves.specs.declared.chess_move.Move.{Move}
-use Rattle.egt_c.specs.Calls.{Answered, Listed}
-use Rattle.egt_c.specs.Move.{written}
+use Rattle.egt_c.specs.Prelude.{◌≡◌, List, length, map, take, ap, ◌∙◌, subst, Move, Answered, Listed, written}
 use Rattle.egt_c.proofs.position_calls.egtb_legal_moves.Goals as goal
 
 pub returns-in-Ok : goal.returns-in-Ok

@@ -1,8 +1,4 @@
-use Rattle.std.proofs.Common.{sym}
-use Rattle.std.specs.Arc.{arc_value}
-use Rattle.egt_probe.specs.Shelves.{loaded_in}
-use Rattle.egt_c.specs.Calls.{OfText, TellsRoot}
-use Rattle.egt_c.specs.Held.{Places, held}
+use Rattle.egt_c.specs.Prelude.{sym, arc_value, loaded_in, OfText, TellsRoot, Places, held}
 use Rattle.egt_c.proofs.Kept.{if_held}
 use Rattle.egt_c.proofs.position_calls.egtb_root.Goals as goal
 

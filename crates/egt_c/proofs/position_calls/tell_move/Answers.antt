@@ -1,5 +1,4 @@
-use Rattle.std.proofs.Common.{refl}
-use Rattle.egt_c.specs.Calls.{NotLoaded, Best}
+use Rattle.egt_c.specs.Prelude.{refl, NotLoaded, Best}
 use Rattle.egt_c.proofs.position_calls.tell_move.Goals as goal
 
 pub returns-in-Ok : goal.returns-in-Ok

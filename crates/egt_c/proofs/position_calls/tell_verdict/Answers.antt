@@ -1,5 +1,4 @@
-use Rattle.std.proofs.Common.{refl}
-use Rattle.egt_c.specs.Calls.{Unloaded, Told}
+use Rattle.egt_c.specs.Prelude.{refl, Unloaded, Told}
 use Rattle.egt_c.proofs.position_calls.tell_verdict.Goals as goal
 
 pub returns-in-Ok : goal.returns-in-Ok

@@ -1,5 +1,4 @@
-use Rattle.std.proofs.Common.{refl}
-use Rattle.egt_c.specs.Calls.{Refused, Answered}
+use Rattle.egt_c.specs.Prelude.{refl, Refused, Answered}
 use Rattle.egt_c.proofs.position_calls.verdict_by_men.Goals as goal
 
 pub returns-in-Ok : goal.returns-in-Ok

@@ -1,17 +1,8 @@
-use Rattle.std.proofs.Common.{◌≡◌, ◌+◌, ◌<◌, ℕ, ap, arith, inl, inr, subst, sym}
-use Rattle.std.proofs.lemmas.Bool.{cases_lt}
-use Rattle.std.specs.Int.{bit_at}
-use Rattle.egt_board.specs.declared.man.Man.{Man}
-use Rattle.egt_index.specs.Numbers.{code_of}
-use Rattle.egt_index.specs.Scales.{kind_digits, kind_less}
-use Rattle.egt_index.specs.ShelfCodes.{IsShelfOf, number_in}
-use Rattle.egt_index.specs.Size.{size_of}
-use Rattle.egt_index.specs.declared.shelf_codes.ShelfMen.{ShelfMen}
-use Rattle.egt_blocks.specs.Blocks.{AreShelvesOf}
-use Rattle.egt_check.specs.Worth.{column_score}
+use Rattle.egt_check.specs.Prelude.{◌≡◌, ◌+◌, ◌<◌, ℕ, ap, arith, inl, inr, subst, sym, cases_lt, bit_at, Man, code_of}
+use Rattle.egt_check.specs.Prelude.{kind_digits, kind_less, IsShelfOf, number_in, size_of, ShelfMen, AreShelvesOf}
+use Rattle.egt_check.specs.Prelude.{column_score, run_at}
 use Rattle.egt_check.proofs.LaneRight.{blank_lane}
 use Rattle.egt_check.proofs.Marks.{mark, none_marked}
-use Rattle.egt_blocks.proofs.ShelfRuns.{run_at}
 use Rattle.egt_check.proofs.blank.shelves_are_blank.Goals as goal
 
 pub marks_of-requires-clause-shelf : goal.marks_of-requires-clause-shelf

@@ -1,8 +1,4 @@
-use Rattle.std.specs.Prelude.{ℕ, ◌+◌, ◌<◌}
-use Rattle.egt_index.specs.Numbers.{code_of}
-use Rattle.egt_index.specs.Scales.{kind_digits}
-use Rattle.egt_index.specs.ShelfCodes.{number_in}
-use Rattle.egt_check.specs.Blank.{IsBlank}
+use Rattle.egt_check.specs.Prelude.{ℕ, ◌+◌, ◌<◌, code_of, kind_digits, number_in, IsBlank}
 use Rattle.egt_check.proofs.blank.shelves_are_blank.Given as goal
 
 -- the shelves below this digit are

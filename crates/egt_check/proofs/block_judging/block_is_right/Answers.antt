@@ -1,11 +1,5 @@
-use Rattle.std.proofs.Common.{◌+◌, true, false, subst, arith}
-use Rattle.egt_index.specs.Numbers.{code_of}
-use Rattle.egt_index.specs.Scales.{kind_less}
-use Rattle.egt_index.specs.ShelfCodes.{number_in}
-use Rattle.egt_lanes.specs.Blocks.{at}
-use Rattle.egt_table.specs.Table.{TableValue}
-use Rattle.egt_check.specs.RightBlock.{AreJudged, IsRightLane}
-use Rattle.egt_blocks.proofs.ShelfRead.{square_in}
+use Rattle.egt_check.specs.Prelude.{◌+◌, true, false, subst, arith, code_of, kind_less, number_in, at, TableValue}
+use Rattle.egt_check.specs.Prelude.{AreJudged, IsRightLane, square_in}
 use Rattle.egt_check.proofs.block_judging.block_is_right.Goals as goal
 
 pub returns-then-half-eq0-clause-judged : goal.returns-then-half-eq0-clause-judged

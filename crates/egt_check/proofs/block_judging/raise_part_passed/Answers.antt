@@ -1,7 +1,4 @@
-use Rattle.std.proofs.Common.{false, true, subst, sym}
-use Rattle.egt_lanes.specs.Blocks.{at}
-use Rattle.egt_check.specs.ReachScores.{AreAllScoresOf}
-use Rattle.egt_check.specs.declared.part.Part.{Part}
+use Rattle.egt_check.specs.Prelude.{false, true, subst, sym, at, AreAllScoresOf, Part}
 use Rattle.egt_check.proofs.block_judging.raise_part_passed.Goals as goal
 
 pub returns-in-Values : goal.returns-in-Values

@@ -1,18 +1,7 @@
-use Rattle.std.proofs.Common.{◌≡◌, ◌≢◌, ℕ, ◌+◌, ◌<◌, ap, arith, inl, inr, subst, sym}
-use Rattle.std.proofs.lemmas.Bool.{cases_lt}
-use Rattle.egt_index.specs.Numbers.{code_of}
-use Rattle.egt_index.specs.Scales.{kind_digits, kind_less}
-use Rattle.egt_index.specs.ShelfCodes.{IsShelfOf, number_in}
-use Rattle.egt_index.specs.Size.{size_of}
-use Rattle.egt_index.specs.declared.shelf_codes.ShelfMen.{ShelfMen}
-use Rattle.egt_board.specs.declared.man.Man.{Man}
-use Rattle.egt_lanes.specs.Blocks.{at}
-use Rattle.egt_blocks.specs.Blocks.{AreShelvesOf}
-use Rattle.egt_check.specs.Parts.{column_of}
-use Rattle.egt_check.specs.RightRow.{IsRightAtOf}
-use Rattle.egt_check.specs.Worth.{column_score}
+use Rattle.egt_check.specs.Prelude.{◌≡◌, ◌≢◌, ℕ, ◌+◌, ◌<◌, ap, arith, inl, inr, subst, sym, cases_lt, code_of}
+use Rattle.egt_check.specs.Prelude.{kind_digits, kind_less, IsShelfOf, number_in, size_of, ShelfMen, Man, at}
+use Rattle.egt_check.specs.Prelude.{AreShelvesOf, column_of, IsRightAtOf, column_score, run_at}
 use Rattle.egt_check.proofs.LaneRight.{right_lane}
-use Rattle.egt_blocks.proofs.ShelfRuns.{run_at}
 use Rattle.egt_check.proofs.block_judging.shelves_are_right.Goals as goal
 
 pub row_is_right-requires-clause-shelf : goal.row_is_right-requires-clause-shelf

@@ -1,9 +1,4 @@
-use Rattle.std.specs.Prelude.{ℕ, ◌+◌, ◌<◌}
-use Rattle.egt_index.specs.Numbers.{code_of}
-use Rattle.egt_index.specs.Scales.{kind_digits, kind_less}
-use Rattle.egt_index.specs.ShelfCodes.{number_in}
-use Rattle.egt_lanes.specs.Blocks.{at}
-use Rattle.egt_check.specs.RightBlock.{IsRightLane}
+use Rattle.egt_check.specs.Prelude.{ℕ, ◌+◌, ◌<◌, code_of, kind_digits, kind_less, number_in, at, IsRightLane}
 use Rattle.egt_check.proofs.block_judging.shelves_are_right.Given as goal
 
 -- the shelves below this digit are right

@@ -1,7 +1,4 @@
-use Rattle.std.proofs.Common.{◌<◌, ℕ, List, ap, subst, sym, slice_index}
-use Rattle.egt_lanes.specs.Alike.{AreVoidOrAlike}
-use Rattle.egt_entries.specs.declared.metric.Metric.TheVariants.{Zeroing}
-use Rattle.egt_entries.specs.Tables.{entry_at}
+use Rattle.egt_check.specs.Prelude.{◌<◌, ℕ, List, ap, subst, sym, slice_index, AreVoidOrAlike, Zeroing, entry_at}
 use Rattle.egt_check.proofs.bytes.are_alike.Goals as goal
 
 pub returns : goal.returns

@@ -1,7 +1,4 @@
-use Rattle.std.specs.Prelude.{◌≤◌}
-use Rattle.egt_index.specs.Size.{size_of}
-use Rattle.egt_entries.specs.Rules.{KeepsReachBelow}
-use Rattle.egt_entries.specs.Tables.{table_at, beside}
+use Rattle.egt_check.specs.Prelude.{◌≤◌, size_of, KeepsReachBelow, table_at, beside}
 use Rattle.egt_check.proofs.checking.first_bad_reach.Given as goal
 
 abbrev pub invariant-loop-index : goal.invariant-loop-index

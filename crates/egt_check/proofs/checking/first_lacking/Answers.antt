@@ -1,10 +1,5 @@
-use Rattle.std.proofs.Common.{◌≡◌, ℕ, List, sym, subst, ◌∙◌}
-use Rattle.std.specs.List.{Contains}
-use Rattle.std.specs.List.Sorted.{IsStrictlyIncreasing}
-use Rattle.egt_class.specs.Children.{children_of}
-use Rattle.egt_entries.specs.Library.{LacksReach}
-use Rattle.egt_entries.specs.Tables.{table_at}
-use Rattle.egt_entries.proofs.Ascending.{first_is_least}
+use Rattle.egt_check.specs.Prelude.{◌≡◌, ℕ, List, sym, subst, ◌∙◌, Contains, IsStrictlyIncreasing, children_of}
+use Rattle.egt_check.specs.Prelude.{LacksReach, table_at, first_is_least}
 use Rattle.egt_check.proofs.checking.first_lacking.Goals as goal
 
 pub returns-then-lacks_reach-clause-some : goal.returns-then-lacks_reach-clause-some

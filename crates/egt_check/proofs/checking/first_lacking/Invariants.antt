@@ -1,6 +1,4 @@
-use Rattle.std.proofs.Common.{◌≡◌, ℕ, ◌<◌, get_or}
-use Rattle.egt_entries.specs.Library.{LacksReach}
-use Rattle.egt_entries.specs.Tables.{table_at}
+use Rattle.egt_check.specs.Prelude.{◌≡◌, ℕ, ◌<◌, get_or, LacksReach, table_at}
 use Rattle.egt_check.proofs.checking.first_lacking.Given as goal
 
 -- no child so far lacks the column

@@ -1,6 +1,4 @@
-use Rattle.std.proofs.Common.{◌≡◌, ℕ, ◌<◌, get_or}
-use Rattle.std.specs.Option.{IsSome}
-use Rattle.egt_entries.specs.Tables.{table_at}
+use Rattle.egt_check.specs.Prelude.{◌≡◌, ℕ, ◌<◌, get_or, IsSome, table_at}
 use Rattle.egt_check.proofs.checking.first_missing.Given as goal
 
 -- the children so far have their tables

@@ -1,10 +1,5 @@
-use Rattle.std.proofs.Common.{◌≡◌, ◌+◌, ap, subst, sym, ◌∙◌, arith}
-use Rattle.egt_index.specs.Size.{size_of}
-use Rattle.egt_entries.specs.declared.metric.Metric.TheVariants.{Mate, Zeroing}
-use Rattle.egt_entries.specs.FirstBad.{IsFirstBad}
-use Rattle.egt_entries.specs.Rules.{IsJudged, KeepsBelow}
-use Rattle.egt_entries.specs.Tables.{table_at, beside}
-use Rattle.egt_entries.proofs.Judged.{keeps_more, first_bad_more}
+use Rattle.egt_check.specs.Prelude.{◌≡◌, ◌+◌, ap, subst, sym, ◌∙◌, arith, size_of, Mate, Zeroing, IsFirstBad, IsJudged}
+use Rattle.egt_check.specs.Prelude.{KeepsBelow, table_at, beside, keeps_more, first_bad_more}
 use Rattle.egt_check.proofs.checking.judge_from.Goals as goal
 
 pub loop-index-init : goal.loop-index-init

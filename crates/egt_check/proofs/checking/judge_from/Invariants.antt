@@ -1,9 +1,4 @@
-use Rattle.std.specs.Prelude.{◌≤◌}
-use Rattle.egt_index.specs.Size.{size_of}
-use Rattle.egt_entries.specs.declared.metric.Metric.TheVariants.{Mate}
-use Rattle.egt_entries.specs.FirstBad.{IsFirstBad}
-use Rattle.egt_entries.specs.Rules.{KeepsBelow}
-use Rattle.egt_entries.specs.Tables.{table_at, beside}
+use Rattle.egt_check.specs.Prelude.{◌≤◌, size_of, Mate, IsFirstBad, KeepsBelow, table_at, beside}
 use Rattle.egt_check.proofs.checking.judge_from.Given as goal
 
 abbrev pub invariant-loop-index : goal.invariant-loop-index

@@ -1,8 +1,4 @@
-use Rattle.std.proofs.Common.{refl, subst}
-use Rattle.egt_index.specs.Size.{size_of}
-use Rattle.egt_entries.specs.FirstBad.{IsFirstBad}
-use Rattle.egt_entries.specs.Tables.{table_at, beside}
-use Rattle.egt_entries.proofs.Judged.{keeps_both}
+use Rattle.egt_check.specs.Prelude.{refl, subst, size_of, IsFirstBad, table_at, beside, keeps_both}
 use Rattle.egt_check.proofs.checking.judge_values.Goals as goal
 
 pub returns-in-Ok-None-clause-exact : goal.returns-in-Ok-None-clause-exact

@@ -1,9 +1,5 @@
-use Rattle.std.proofs.Common.{◌≡◌, ◌∙◌, ◌*◌, ◌/◌, ◌%◌, ◌<◌, ℕ, List, length, map, ap, arith, sym, subst}
-use Rattle.std.proofs.lemmas.List.{ext_get_or, length-map}
-use Rattle.egt_index.specs.Numbers.{places}
-use Rattle.egt_index.specs.Size.{size_of}
-use Rattle.egt_table.specs.Table.{TableValue, entries_of}
-use Rattle.egt_check.specs.Found.{IsToldEntry, told}
+use Rattle.egt_check.specs.Prelude.{◌≡◌, ◌∙◌, ◌*◌, ◌/◌, ◌%◌, ◌<◌, ℕ, List, length, map, ap, arith, sym, subst}
+use Rattle.egt_check.specs.Prelude.{ext_get_or, length-map, places, size_of, TableValue, entries_of, IsToldEntry, told}
 use Rattle.egt_check.proofs.FoundTold.{told_at, told_none}
 use Rattle.egt_check.proofs.ScoreRowsRead.{whole_class}
 use Rattle.egt_check.proofs.ScoresDrawn.{of_code}

@@ -1,8 +1,4 @@
-use Rattle.std.proofs.Common.{ℕ, ◌<◌}
-use Rattle.egt_board.specs.declared.man.Side.{Side}
-use Rattle.egt_index.specs.Numbers.{code_of, places}
-use Rattle.egt_index.specs.ShelfCodes.{number_in}
-use Rattle.egt_check.specs.Found.{IsToldEntry, IsToldFrom}
+use Rattle.egt_check.specs.Prelude.{ℕ, ◌<◌, Side, code_of, places, number_in, IsToldEntry, IsToldFrom}
 use Rattle.egt_check.proofs.found.tell_column.Given as goal
 
 -- the codes of the shelves so far are told

@@ -1,11 +1,6 @@
-use Rattle.std.proofs.Common.{◌≡◌, ◌∙◌, ◌+◌, ◌*◌, ◌<◌, ℕ, ap, arith, below_more, length, sym, subst, slice_index}
-use Rattle.std.proofs.lemmas.List.{get_or_default}
-use Rattle.egt_index.specs.Numbers.{code_of}
-use Rattle.egt_index.specs.Scales.{kind_digits, kind_less}
-use Rattle.egt_index.specs.ShelfCodes.{number_in}
-use Rattle.egt_blocks.proofs.ShelfRead.{square_in}
-use Rattle.egt_table.specs.Table.{TableValue}
-use Rattle.egt_check.specs.Found.{IsToldEntry, told}
+use Rattle.egt_check.specs.Prelude.{◌≡◌, ◌∙◌, ◌+◌, ◌*◌, ◌<◌, ℕ, ap, arith, below_more, length, sym, subst, slice_index}
+use Rattle.egt_check.specs.Prelude.{get_or_default, code_of, kind_digits, kind_less, number_in, square_in, TableValue}
+use Rattle.egt_check.specs.Prelude.{IsToldEntry, told}
 use Rattle.egt_check.proofs.FoundTold.{told_here, told_more, told_still}
 use Rattle.egt_check.proofs.found.tell_side.Goals as goal
 

@@ -1,7 +1,4 @@
-use Rattle.std.proofs.Common.{ℕ, ◌<◌}
-use Rattle.egt_index.specs.Numbers.{code_of}
-use Rattle.egt_index.specs.ShelfCodes.{number_in}
-use Rattle.egt_check.specs.Found.{IsToldEntry, IsToldFrom}
+use Rattle.egt_check.specs.Prelude.{ℕ, ◌<◌, code_of, number_in, IsToldEntry, IsToldFrom}
 use Rattle.egt_check.proofs.found.tell_side.Given as goal
 
 -- the codes of the digits so far are told

@@ -1,6 +1,4 @@
-use Rattle.egt_entries.specs.Steps.{shown_by}
-use Rattle.egt_entries.specs.Tables.{table_at, beside}
-use Rattle.egt_entries.proofs.Due.{both_due, at_end_due}
+use Rattle.egt_check.specs.Prelude.{shown_by, table_at, beside, both_due, at_end_due}
 use Rattle.egt_check.proofs.Showing.{one_after}
 use Rattle.egt_check.proofs.judging.due.Goals as goal
 

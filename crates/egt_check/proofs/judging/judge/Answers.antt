@@ -1,10 +1,5 @@
-use Rattle.std.proofs.Common.{ℕ, false, sym, subst}
-use Rattle.egt_board.specs.Setup.{Setup}
-use Rattle.egt_index.specs.Code.{Spells}
-use Rattle.egt_index.specs.Index.{IsVoid}
-use Rattle.egt_entries.specs.declared.metric.Metric.TheVariants.{Mate, Zeroing}
-use Rattle.egt_entries.specs.Judged.{Finds, FindsVoid}
-use Rattle.egt_entries.specs.Tables.{table_at, beside, entry_at}
+use Rattle.egt_check.specs.Prelude.{ℕ, false, sym, subst, Setup, Spells, IsVoid, Mate, Zeroing, Finds, FindsVoid}
+use Rattle.egt_check.specs.Prelude.{table_at, beside, entry_at}
 use Rattle.egt_check.proofs.FirstRule.{judged, void_judged}
 use Rattle.egt_check.proofs.judging.judge.Goals as goal
 

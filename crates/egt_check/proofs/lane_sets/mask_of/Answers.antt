@@ -1,9 +1,5 @@
-use Rattle.std.proofs.Common.{◌≡◌, ◌∙◌, ℕ, arith, inl, inr, replicate, sym}
-use Rattle.std.specs.Int.{bit_at}
-use Rattle.std.specs.Prelude.{slice_index}
-use Rattle.std.proofs.lemmas.Bool.{cases_eq}
-use Rattle.std.proofs.lemmas.List.{get_or-replicate}
-use Rattle.std.proofs.lemmas.Nat.Bits.{bit_at-lt}
+use Rattle.egt_check.specs.Prelude.{◌≡◌, ◌∙◌, ℕ, arith, inl, inr, replicate, sym, bit_at, slice_index, cases_eq}
+use Rattle.egt_check.specs.Prelude.{get_or-replicate, bit_at-lt}
 use Rattle.egt_check.proofs.ByteJudged.{if_not, if_same}
 use Rattle.egt_check.proofs.lane_sets.mask_of.Goals as goal
 

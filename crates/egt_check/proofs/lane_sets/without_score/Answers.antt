@@ -1,5 +1,4 @@
-use Rattle.std.proofs.Common.{◌==◌, if◌then◌else◌, ◌∙◌, ap, slice_index}
-use Rattle.std.proofs.lemmas.List.{get_or-replicate}
+use Rattle.egt_check.specs.Prelude.{◌==◌, if◌then◌else◌, ◌∙◌, ap, slice_index, get_or-replicate}
 use Rattle.egt_check.proofs.lane_sets.without_score.Goals as goal
 
 pub returns : goal.returns

@@ -1,17 +1,6 @@
-use Rattle.std.proofs.Common.{◌≡◌, ◌≢◌, ◌<◌, ℕ, Bool, true, false, Some, inl, max, refl, sym, subst, arith}
-use Rattle.egt_board.specs.declared.man.Kind.TheVariants.{P, K}
-use Rattle.egt_board.specs.declared.man.Side.{Side}
-use Rattle.egt_board.specs.Setup.{Setup}
-use Rattle.egt_index.specs.Stood.{HasStand}
-use Rattle.egt_index.specs.declared.shelf_codes.ShelfMen.{ShelfMen}
-use Rattle.egt_lanes.specs.Scores.{zeroing_score}
-use Rattle.egt_steps.specs.Stands.{stand_on}
-use Rattle.egt_check.specs.Given.{AreGiven}
-use Rattle.egt_check.specs.MoveScores.{AreAllScores, AreMoveScores, AreTablesOf}
-use Rattle.egt_steps.specs.PawnMoves.{stand_in}
-use Rattle.egt_entries.specs.Tables.{Tables}
-use Rattle.egt_blocks.specs.Taken.{men_swapped}
-use Rattle.egt_check.specs.declared.move_scores.FourMen.{FourMen}
+use Rattle.egt_check.specs.Prelude.{◌≡◌, ◌≢◌, ◌<◌, ℕ, Bool, true, false, Some, inl, max, refl, sym, subst, arith, P, K}
+use Rattle.egt_check.specs.Prelude.{Side, Setup, HasStand, ShelfMen, zeroing_score, stand_on, AreGiven, AreAllScores}
+use Rattle.egt_check.specs.Prelude.{AreMoveScores, AreTablesOf, stand_in, Tables, men_swapped, FourMen}
 use Rattle.egt_check.proofs.ByteJudged.{zeroing_max}
 use Rattle.egt_check.proofs.PawnsGiven.{IsEitherPassing, PawnLaws, loud_given, nothing_passing, passing_given}
 use Rattle.egt_check.proofs.laws.all_scores_give_all_moves.Goals as goal

@@ -1,9 +1,4 @@
-use Rattle.egt_entries.specs.declared.metric.Metric.TheVariants.{Mate, Zeroing}
-use Rattle.egt_entries.specs.declared.metric.Metric.{Metric}
-use Rattle.egt_entries.specs.Truth.{Tells}
-use Rattle.egt_board.specs.Setup.{Setup}
-use Rattle.egt_moves.specs.Arena.{Value}
-use Rattle.std.proofs.Common.{◌≡◌}
+use Rattle.egt_check.specs.Prelude.{Mate, Zeroing, Metric, Tells, Setup, Value, ◌≡◌}
 use Rattle.egt_check.proofs.EqualTables.{One, equal_tables}
 use Rattle.egt_check.proofs.laws.true_tables_of_a_class_are_equal.Goals as goal
 

@@ -1,12 +1,5 @@
-use Rattle.std.proofs.Common.{◌≢◌, ◌∙◌, arith, inl, inr, subst, sym}
-use Rattle.std.proofs.lemmas.Bool.{false≢true}
-use Rattle.egt_board.specs.Man.{other_side}
-use Rattle.egt_index.specs.declared.shelf_codes.ShelfMen.{ShelfMen}
-use Rattle.egt_lanes.specs.Blocks.{at}
-use Rattle.egt_lanes.specs.Raised.{IsRaised}
-use Rattle.egt_blocks.specs.Taken.{AreLeftCodes, men_swapped}
-use Rattle.egt_check.specs.Worth.{column_score}
-use Rattle.egt_blocks.proofs.BlockRaising.{raised_by_none}
+use Rattle.egt_check.specs.Prelude.{◌≢◌, ◌∙◌, arith, inl, inr, subst, sym, false≢true, other_side, ShelfMen, at}
+use Rattle.egt_check.specs.Prelude.{IsRaised, AreLeftCodes, men_swapped, column_score, raised_by_none}
 use Rattle.egt_check.proofs.move_scores.raise_first_taken.Goals as goal
 
 pub returns-then-not-is_of : goal.returns-then-not-is_of

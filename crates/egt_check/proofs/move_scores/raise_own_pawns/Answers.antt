@@ -1,7 +1,4 @@
-use Rattle.std.proofs.Common.{true, false, arith, refl}
-use Rattle.egt_lanes.specs.Blocks.{at}
-use Rattle.egt_blocks.specs.Taken.{men_swapped}
-use Rattle.egt_check.specs.PawnScores.{AreOwnPawnMoves}
+use Rattle.egt_check.specs.Prelude.{true, false, arith, refl, at, men_swapped, AreOwnPawnMoves}
 use Rattle.egt_check.proofs.Exits.{no_advances, no_own_pawn}
 use Rattle.egt_check.proofs.move_scores.raise_own_pawns.Goals as goal
 

@@ -1,8 +1,5 @@
-use Rattle.std.proofs.Common.{◌≡◌, ℕ, max, Option, arith, inl, refl, sym, subst}
-use Rattle.egt_index.specs.declared.shelf_codes.ShelfMen.{ShelfMen}
-use Rattle.egt_lanes.specs.Blocks.{at}
-use Rattle.egt_check.specs.PawnScores.{IsBestPromotion}
-use Rattle.egt_check.specs.declared.pawn_scores.Promotions.{Promotions}
+use Rattle.egt_check.specs.Prelude.{◌≡◌, ℕ, max, Option, arith, inl, refl, sym, subst, ShelfMen, at, IsBestPromotion}
+use Rattle.egt_check.specs.Prelude.{Promotions}
 use Rattle.egt_check.proofs.EqualPawns.{same_order}
 use Rattle.egt_check.proofs.Exits.{no_own_pawn}
 use Rattle.egt_check.proofs.move_scores.raise_pawns_promoted.Goals as goal

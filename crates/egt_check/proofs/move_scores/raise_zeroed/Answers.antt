@@ -1,9 +1,5 @@
-use Rattle.std.proofs.Common.{◌≡◌, ◌≢◌, ℕ, get_or, List, [], max, sym, ap, ◌∙◌, get_or-set_other, inl, inr, arith}
-use Rattle.std.proofs.Math.ListN.{length-set}
-use Rattle.std.proofs.lemmas.Bool.{cases_lt}
-use Rattle.std.proofs.lemmas.Grind.{get_or-set_at}
-use Rattle.egt_lanes.specs.Blocks.{at}
-use Rattle.egt_lanes.specs.Scores.{zeroing_score}
+use Rattle.egt_check.specs.Prelude.{◌≡◌, ◌≢◌, ℕ, get_or, List, [], max, sym, ap, ◌∙◌, get_or-set_other, inl, inr, arith}
+use Rattle.egt_check.specs.Prelude.{length-set, cases_lt, get_or-set_at, at, zeroing_score}
 use Rattle.egt_check.proofs.move_scores.raise_zeroed.Goals as goal
 
 pub loop-i-preserved : goal.loop-i-preserved

@@ -1,6 +1,4 @@
-use Rattle.std.proofs.Common.{◌≡◌, ℕ, ◌<◌, ◌≤◌, List, length, max}
-use Rattle.egt_lanes.specs.Blocks.{at}
-use Rattle.egt_lanes.specs.Scores.{zeroing_score}
+use Rattle.egt_check.specs.Prelude.{◌≡◌, ℕ, ◌<◌, ◌≤◌, List, length, max, at, zeroing_score}
 use Rattle.egt_check.proofs.move_scores.raise_zeroed.Given as goal
 
 -- rows below i are raised, and the others are as they were

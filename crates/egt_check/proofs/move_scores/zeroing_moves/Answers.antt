@@ -1,17 +1,5 @@
-use Rattle.std.proofs.Common.{◌≡◌, ℕ, ◌<◌, List, false, sym, subst}
-use Rattle.egt_board.specs.Man.{other_side}
-use Rattle.egt_board.specs.declared.man.Side.{Side}
-use Rattle.egt_index.specs.TurnedMen.{IsSomeTurnedCode}
-use Rattle.egt_index.specs.declared.shelf_codes.ShelfMen.{ShelfMen}
-use Rattle.egt_lanes.specs.Blocks.{at}
-use Rattle.egt_lanes.specs.Raised.{IsRaised}
-use Rattle.egt_table.specs.Table.{TableValue}
-use Rattle.egt_table.specs.declared.column.Column.{Column}
-use Rattle.egt_steps.specs.Stands.{stand_on}
-use Rattle.egt_blocks.specs.Kept.{AreKept}
-use Rattle.egt_blocks.specs.Leaps.{AreStill}
-use Rattle.egt_check.specs.Worth.{column_score}
-use Rattle.egt_blocks.specs.Scored.{IsRead}
+use Rattle.egt_check.specs.Prelude.{◌≡◌, ℕ, ◌<◌, List, false, sym, subst, other_side, Side, IsSomeTurnedCode, ShelfMen}
+use Rattle.egt_check.specs.Prelude.{at, IsRaised, TableValue, Column, stand_on, AreKept, AreStill, column_score, IsRead}
 use Rattle.egt_check.proofs.Exits.{zeroing_of}
 use Rattle.egt_check.proofs.move_scores.zeroing_moves.Goals as goal
 

@@ -1,25 +1,9 @@
-use Rattle.std.proofs.Common.{◌≡◌, ◌≢◌, ◌*◌, ◌-◌, ◌%◌, ◌<◌, ◌∙◌, ℕ, Bool, ap, arith, inl, inr, sym}
-use Rattle.std.proofs.lemmas.Bool.{cases_eq}
-use Rattle.egt_board.specs.Setup.{Setup}
-use Rattle.egt_board.specs.declared.man.Kind.TheVariants.{K}
-use Rattle.egt_board.specs.declared.man.Side.{Side}
-use Rattle.egt_index.specs.Code.{Spells}
-use Rattle.egt_index.specs.Index.{IsIndex, IsVoid}
-use Rattle.egt_index.specs.declared.shelf_codes.ShelfMen.{ShelfMen}
-use Rattle.egt_lanes.specs.Scores.{byte_score, reach_score}
+use Rattle.egt_check.specs.Prelude.{◌≡◌, ◌≢◌, ◌*◌, ◌-◌, ◌%◌, ◌<◌, ◌∙◌, ℕ, Bool, ap, arith, inl, inr, sym, cases_eq}
+use Rattle.egt_check.specs.Prelude.{Setup, K, Side, Spells, IsIndex, IsVoid, ShelfMen, byte_score, reach_score, FourMen}
+use Rattle.egt_check.specs.Prelude.{Mate, Part, Values, Reach, stand_on, AreTablesOf, near_tables, four_in, tables_in}
+use Rattle.egt_check.specs.Prelude.{AreAllReachScores, AreAllScoresOf, IsRightLane, KeepsPart, Tables, entry_at}
+use Rattle.egt_check.specs.Prelude.{reach_at, column_score}
 use Rattle.egt_table.specs.declared.column.Column.TheVariants as columns
-use Rattle.egt_check.specs.declared.move_scores.FourMen.{FourMen}
-use Rattle.egt_entries.specs.declared.metric.Metric.TheVariants.{Mate}
-use Rattle.egt_check.specs.declared.part.Part.{Part}
-use Rattle.egt_check.specs.declared.part.Part.TheVariants.{Values, Reach}
-use Rattle.egt_steps.specs.Stands.{stand_on}
-use Rattle.egt_check.specs.MoveScores.{AreTablesOf}
-use Rattle.egt_entries.specs.NearTables.{near_tables}
-use Rattle.egt_check.specs.Parts.{four_in, tables_in}
-use Rattle.egt_check.specs.ReachScores.{AreAllReachScores, AreAllScoresOf}
-use Rattle.egt_check.specs.RightBlock.{IsRightLane, KeepsPart}
-use Rattle.egt_entries.specs.Tables.{Tables, entry_at, reach_at}
-use Rattle.egt_check.specs.Worth.{column_score}
 use Rattle.egt_check.proofs.AllJudged.{Says, all_judged, some_score}
 use Rattle.egt_check.proofs.NearJudged.{void_kept}
 use Rattle.egt_check.proofs.NearReading.{low_reach, near, near_at}

@@ -1,7 +1,4 @@
-use Rattle.std.proofs.Common.{inr, sym, subst, ◌∙◌}
-use Rattle.egt_lanes.specs.Blocks.{at}
-use Rattle.egt_steps.proofs.Still.{pawn_is}
-use Rattle.egt_check.specs.PawnScores.{ArePromotionScores}
+use Rattle.egt_check.specs.Prelude.{inr, sym, subst, ◌∙◌, at, pawn_is, ArePromotionScores}
 use Rattle.egt_check.proofs.pawn_scores.promotions_block.Goals as goal
 
 pub returns : goal.returns

@@ -1,10 +1,5 @@
-use Rattle.std.proofs.Common.{ℕ, false, sym, subst}
-use Rattle.egt_board.specs.Setup.{Setup}
-use Rattle.egt_index.specs.Code.{Spells}
-use Rattle.egt_index.specs.Index.{IsVoid}
-use Rattle.egt_entries.specs.ReachJudged.{FindsReach}
-use Rattle.egt_entries.specs.Tables.{table_at, beside}
-use Rattle.egt_entries.proofs.ReachRule.{reach_judged}
+use Rattle.egt_check.specs.Prelude.{ℕ, false, sym, subst, Setup, Spells, IsVoid, FindsReach, table_at, beside}
+use Rattle.egt_check.specs.Prelude.{reach_judged}
 use Rattle.egt_check.proofs.reach_judging.judge_reach.Goals as goal
 
 pub reach_due-requires-clause-own : goal.reach_due-requires-clause-own

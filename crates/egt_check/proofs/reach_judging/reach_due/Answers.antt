@@ -1,5 +1,4 @@
-use Rattle.egt_entries.specs.Reach.{ShowsReachOf}
-use Rattle.egt_entries.specs.Tables.{table_at, beside}
+use Rattle.egt_check.specs.Prelude.{ShowsReachOf, table_at, beside}
 use Rattle.egt_check.proofs.Nearing.{least_reach_due, no_reach_due, stands_unmated}
 use Rattle.egt_check.proofs.reach_judging.reach_due.Goals as goal
 

@@ -1,6 +1,4 @@
-use Rattle.egt_entries.specs.NearTables.{near_tables}
-use Rattle.egt_check.specs.Parts.{four_in}
-use Rattle.egt_check.specs.declared.part.Part.TheVariants.{Reach}
+use Rattle.egt_check.specs.Prelude.{near_tables, four_in, Reach}
 use Rattle.egt_check.proofs.NearScores.{reach_read}
 use Rattle.egt_check.proofs.reach_laws.all_reach_scores_give_all_moves.Goals as goal
 

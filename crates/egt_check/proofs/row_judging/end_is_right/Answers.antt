@@ -1,13 +1,6 @@
-use Rattle.std.proofs.Common.{◌≡◌, ℕ, ◌+◌, ◌/◌, ◌∙◌, arith, inl, inr, sym, subst}
-use Rattle.std.proofs.lemmas.Bool.{eqb-true}
-use Rattle.egt_board.specs.Setup.{Setup}
-use Rattle.egt_index.specs.Code.{Spells}
-use Rattle.egt_entries.specs.declared.metric.Metric.TheVariants.{Mate, Zeroing}
-use Rattle.egt_check.specs.declared.part.Part.{Part}
-use Rattle.egt_entries.specs.NearTables.{near_entry}
-use Rattle.egt_check.specs.RightRow.{IsRightEnd, IsRightEndOf, IsRightReachEnd}
-use Rattle.egt_entries.specs.Score.{IsAtEnd}
-use Rattle.egt_entries.specs.Tables.{reach_at}
+use Rattle.egt_check.specs.Prelude.{◌≡◌, ℕ, ◌+◌, ◌/◌, ◌∙◌, arith, inl, inr, sym, subst, eqb-true, Setup, Spells, Mate}
+use Rattle.egt_check.specs.Prelude.{Zeroing, Part, near_entry, IsRightEnd, IsRightEndOf, IsRightReachEnd, IsAtEnd}
+use Rattle.egt_check.specs.Prelude.{reach_at}
 use Rattle.egt_check.proofs.row_judging.end_is_right.Goals as goal
 
 -- checkmate and stalemate as they are read

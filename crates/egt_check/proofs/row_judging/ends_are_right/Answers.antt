@@ -1,9 +1,5 @@
-use Rattle.std.proofs.Common.{◌≡◌, ◌∙◌, ◌+◌, ◌*◌, arith, ap, inl, inr, sym, subst}
-use Rattle.std.proofs.lemmas.Bool.{cases_eq}
-use Rattle.egt_index.specs.Numbers.{code_of}
-use Rattle.egt_index.specs.Scales.{kind_less}
-use Rattle.egt_index.specs.Size.{size_of}
-use Rattle.egt_check.specs.RightRow.{IsRightEndOf}
+use Rattle.egt_check.specs.Prelude.{◌≡◌, ◌∙◌, ◌+◌, ◌*◌, arith, ap, inl, inr, sym, subst, cases_eq, code_of, kind_less}
+use Rattle.egt_check.specs.Prelude.{size_of, IsRightEndOf}
 use Rattle.egt_check.proofs.row_judging.ends_are_right.Goals as goal
 
 pub overflow_add-first : goal.overflow_add-first

@@ -1,9 +1,4 @@
-use Rattle.std.specs.Prelude.{◌≡◌, ℕ, ◌+◌, ◌*◌, ◌<◌}
-use Rattle.std.specs.Int.{bit_at}
-use Rattle.egt_board.specs.SquareSet.{Has}
-use Rattle.egt_index.specs.Numbers.{code_of}
-use Rattle.egt_index.specs.Scales.{kind_digits, kind_less}
-use Rattle.egt_check.specs.RightRow.{IsRightEndOf}
+use Rattle.egt_check.specs.Prelude.{◌≡◌, ℕ, ◌+◌, ◌*◌, ◌<◌, bit_at, Has, code_of, kind_digits, kind_less, IsRightEndOf}
 use Rattle.egt_check.proofs.row_judging.ends_are_right.Given as goal
 
 -- the squares that are no longer left

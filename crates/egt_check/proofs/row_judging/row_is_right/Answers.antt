@@ -1,22 +1,9 @@
-use Rattle.std.proofs.Common.{◌==◌, if◌then◌else◌, ◌≡◌, ◌≢◌, ◌∙◌, ℕ, ◌+◌, ◌*◌, ap, arith, refl, sym, subst}
-use Rattle.std.specs.Prelude.{slice_index}
-use Rattle.std.specs.Int.{bit_at}
-use Rattle.std.proofs.lemmas.List.{get_or-replicate}
-use Rattle.egt_index.specs.Numbers.{code_of}
-use Rattle.egt_index.specs.Scales.{kind_less}
-use Rattle.egt_index.specs.ShelfCodes.{number_in}
-use Rattle.egt_lanes.specs.Scores.{due_score}
-use Rattle.egt_table.specs.Table.{TableValue}
-use Rattle.egt_table.specs.declared.column.Column.{Column}
-use Rattle.egt_entries.specs.declared.metric.Metric.TheVariants.{Zeroing}
-use Rattle.egt_check.specs.declared.part.Part.{Part}
-use Rattle.egt_check.specs.declared.part.Part.TheVariants.{Values, Reach}
-use Rattle.egt_check.specs.Parts.{column_of}
-use Rattle.egt_check.specs.RightRow.{IsRightAtOf, IsRightEndOf, due_in}
-use Rattle.egt_check.specs.Worth.{column_score, score_at}
+use Rattle.egt_check.specs.Prelude.{◌==◌, if◌then◌else◌, ◌≡◌, ◌≢◌, ◌∙◌, ℕ, ◌+◌, ◌*◌, ap, arith, refl, sym, subst}
+use Rattle.egt_check.specs.Prelude.{slice_index, bit_at, get_or-replicate, code_of, kind_less, number_in, due_score}
+use Rattle.egt_check.specs.Prelude.{TableValue, Column, Zeroing, Part, Values, Reach, column_of, IsRightAtOf}
+use Rattle.egt_check.specs.Prelude.{IsRightEndOf, due_in, column_score, score_at, square_in}
 use Rattle.egt_check.proofs.ByteJudged.{if_not, if_same}
 use Rattle.egt_check.proofs.RowJudged.{lane_is, left_at}
-use Rattle.egt_blocks.proofs.ShelfRead.{square_in}
 use Rattle.egt_check.proofs.row_judging.row_is_right.Goals as goal
 
 -- entries that are due to the scores, or tell an end where there are none, are right

@@ -1,7 +1,4 @@
-use Rattle.std.proofs.Common.{◌*◌, ◌+◌, ◌/◌, ◌≤◌, ◌∙◌, ap, subst, sym}
-use Rattle.egt_index.specs.Numbers.{code_of}
-use Rattle.egt_index.specs.Size.{size_of}
-use Rattle.egt_blocks.proofs.ShelfRead.{first_within}
+use Rattle.egt_check.specs.Prelude.{◌*◌, ◌+◌, ◌/◌, ◌≤◌, ◌∙◌, ap, subst, sym, code_of, size_of, first_within}
 use Rattle.egt_check.proofs.rows.first_of_targets.Goals as goal
 
 pub returns-clause-within : goal.returns-clause-within

@@ -1,6 +1,4 @@
-use Rattle.std.proofs.Common.{◌*◌, ◌∙◌, ap, refl, sym, ℕ, List}
-use Rattle.std.specs.Prelude.{slice_index}
-use Rattle.egt_index.specs.Numbers.{places}
+use Rattle.egt_check.specs.Prelude.{◌*◌, ◌∙◌, ap, refl, sym, ℕ, List, slice_index, places}
 use Rattle.egt_check.proofs.RowRead.{of_pawn, of_piece}
 use Rattle.egt_check.proofs.rows.plain_row.Goals.{then-is_pawn, else-is_pawn}
 use Rattle.egt_check.proofs.rows.plain_row.Goals as goal

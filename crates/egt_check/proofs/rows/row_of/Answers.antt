@@ -1,9 +1,6 @@
-use Rattle.std.proofs.Common.{List, ℕ, sym, subst}
-use Rattle.egt_blocks.specs.ShelfRow.{IsShelfRow}
-use Rattle.egt_blocks.proofs.ShelfRead.{row_read}
+use Rattle.egt_check.specs.Prelude.{List, ℕ, sym, subst, IsShelfRow, row_read, column_score}
 use Rattle.egt_check.proofs.rows.row_of.Goals.{then-has_target, else-has_target}
 use Rattle.egt_check.proofs.rows.row_of.Goals as goal
-use Rattle.egt_check.specs.Worth.{column_score}
 
 pub returns : goal.returns
 returns c =

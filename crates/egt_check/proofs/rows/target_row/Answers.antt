@@ -1,7 +1,5 @@
-use Rattle.std.proofs.Common.{◌*◌, ◌+◌, ◌/◌, ◌∙◌, ap, refl}
-use Rattle.egt_index.specs.Numbers.{code_of, places}
+use Rattle.egt_check.specs.Prelude.{◌*◌, ◌+◌, ◌/◌, ◌∙◌, ap, refl, code_of, places, bit_of, first_of_shelf}
 use Rattle.egt_check.proofs.RowRead.{of_targets}
-use Rattle.egt_blocks.proofs.ShelfRead.{bit_of, first_of_shelf}
 use Rattle.egt_check.proofs.rows.target_row.Goals as goal
 
 pub returns : goal.returns

@@ -1,7 +1,5 @@
-use Rattle.std.proofs.Common.{◌≡◌, ◌∙◌, ◌+◌, ◌*◌, ◌-◌, ◌%◌, ◌<◌, ap, arith, inl, inr, sym}
-use Rattle.std.specs.Int.{bit_at}
-use Rattle.egt_index.specs.Scales.{kind_digits, kind_less}
-use Rattle.egt_blocks.proofs.ShelfRead.{pawn_digits}
+use Rattle.egt_check.specs.Prelude.{◌≡◌, ◌∙◌, ◌+◌, ◌*◌, ◌-◌, ◌%◌, ◌<◌, ap, arith, inl, inr, sym, bit_at, kind_digits}
+use Rattle.egt_check.specs.Prelude.{kind_less, pawn_digits}
 use Rattle.egt_check.proofs.ScoresDrawn.{shifted_high, shifted_low}
 use Rattle.egt_check.proofs.score_rows.squares_of.Goals as goal
 

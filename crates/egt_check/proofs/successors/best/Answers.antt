@@ -1,7 +1,5 @@
-use Rattle.std.proofs.Common.{None, sym, subst}
-use Rattle.std.specs.List.{Contains}
-use Rattle.egt_entries.specs.Steps.{shown_by}
-use Rattle.egt_entries.proofs.Raising.{best_found, listed_there, none_found, tried_all, tried_more, tried_none}
+use Rattle.egt_check.specs.Prelude.{None, sym, subst, Contains, shown_by, best_found, listed_there, none_found}
+use Rattle.egt_check.specs.Prelude.{tried_all, tried_more, tried_none}
 use Rattle.egt_check.proofs.successors.best.Goals as goal
 
 pub loop-chess_move-init : goal.loop-chess_move-init

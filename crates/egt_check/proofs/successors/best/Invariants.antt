@@ -1,7 +1,4 @@
-use Rattle.std.proofs.Common.{None}
-use Rattle.egt_entries.specs.Raised.{AreRaised}
-use Rattle.egt_entries.specs.Steps.{shown_by}
-use Rattle.egt_entries.proofs.Raising.{Tried}
+use Rattle.egt_check.specs.Prelude.{None, AreRaised, shown_by, Tried}
 use Rattle.egt_check.proofs.successors.best.Given as goal
 
 -- the best of the moves so far

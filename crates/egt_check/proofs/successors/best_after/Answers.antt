@@ -1,5 +1,4 @@
-use Rattle.egt_entries.specs.Steps.{shown_by}
-use Rattle.egt_entries.proofs.Raising.{raised_is}
+use Rattle.egt_check.specs.Prelude.{shown_by, raised_is}
 use Rattle.egt_check.proofs.successors.best_after.Goals as goal
 
 pub returns : goal.returns

@@ -1,6 +1,4 @@
-use Rattle.std.proofs.Common.{ℕ}
-use Rattle.std.specs.Option.{IsSome}
-use Rattle.egt_entries.specs.Tables.{table_at, beside}
+use Rattle.egt_check.specs.Prelude.{ℕ, IsSome, table_at, beside}
 use Rattle.egt_check.proofs.Finding.{after_step, beside_some, own_some, place_below}
 use Rattle.egt_check.proofs.successors.entries_after.Goals as goal
 

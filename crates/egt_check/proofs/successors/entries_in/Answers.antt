@@ -1,5 +1,4 @@
-use Rattle.std.proofs.Common.{◌<◌, sym, subst}
-use Rattle.egt_index.specs.Size.{size_of}
+use Rattle.egt_check.specs.Prelude.{◌<◌, sym, subst, size_of}
 use Rattle.egt_check.proofs.successors.entries_in.Goals as goal
 
 pub entries_at-requires : goal.entries_at-requires

@@ -1,12 +1,6 @@
-use Rattle.std.proofs.Common.{◌≡◌, ℕ, ◌+◌, Some, sym, subst}
-use Rattle.std.specs.List.{Contains}
-use Rattle.egt_board.specs.Setup.{Setup}
-use Rattle.egt_moves.specs.declared.chess_move.Move.{Move}
-use Rattle.egt_entries.specs.Nearest.{IsNearest}
-use Rattle.egt_entries.specs.Reach.{ShowsReachOf}
-use Rattle.egt_entries.specs.Tables.{table_at, beside}
+use Rattle.egt_check.specs.Prelude.{◌≡◌, ℕ, ◌+◌, Some, sym, subst, Contains, Setup, Move, IsNearest, ShowsReachOf}
+use Rattle.egt_check.specs.Prelude.{table_at, beside, Tried, listed_there, tried_before, tried_listed, untried}
 use Rattle.egt_check.proofs.Nearing.{least_found, nearest_of_both, nearest_of_none, nearest_of_one, nowhere_found}
-use Rattle.egt_entries.proofs.Raising.{Tried, listed_there, tried_before, tried_listed, untried}
 use Rattle.egt_check.proofs.successors.least_reach.Goals as goal
 
 pub loop-chess_move-init : goal.loop-chess_move-init

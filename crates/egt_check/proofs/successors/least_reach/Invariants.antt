@@ -1,9 +1,4 @@
-use Rattle.std.proofs.Common.{ℕ, Some}
-use Rattle.egt_board.specs.Setup.{Setup}
-use Rattle.egt_entries.specs.Nearest.{IsNearest}
-use Rattle.egt_entries.specs.Reach.{ShowsReachOf}
-use Rattle.egt_entries.specs.Tables.{table_at, beside}
-use Rattle.egt_entries.proofs.Raising.{Tried}
+use Rattle.egt_check.specs.Prelude.{ℕ, Some, Setup, IsNearest, ShowsReachOf, table_at, beside, Tried}
 use Rattle.egt_check.proofs.successors.least_reach.Given as goal
 
 -- the least number after the moves so far

@@ -1,7 +1,4 @@
-use Rattle.std.proofs.Common.{refl, subst}
-use Rattle.egt_board.specs.Setup.{Setup}
-use Rattle.egt_moves.specs.DecidedMoves.{leads_to_one}
-use Rattle.egt_check.specs.Place.{IsPlaceOf}
+use Rattle.egt_check.specs.Prelude.{refl, subst, Setup, leads_to_one, IsPlaceOf}
 use Rattle.egt_check.proofs.successors.place_after.Goals as goal
 
 pub place_by_men-requires : goal.place_by_men-requires

@@ -1,5 +1,4 @@
-use Rattle.egt_check.specs.Place.{HasReachAt}
-use Rattle.egt_entries.specs.Tables.{table_at, beside}
+use Rattle.egt_check.specs.Prelude.{HasReachAt, table_at, beside}
 use Rattle.egt_check.proofs.Finding.{after_step, child_reach, own_reach, place_below}
 use Rattle.egt_check.proofs.successors.reach_after.Goals as goal
 

@@ -1,7 +1,4 @@
-use Rattle.std.proofs.Common.{◌≡◌, ◌<◌, Some, refl, sym, subst, ◌∙◌}
-use Rattle.std.specs.Option.{IsSome}
-use Rattle.egt_index.specs.Size.{size_of}
-use Rattle.egt_table.specs.Table.{TableValue}
+use Rattle.egt_check.specs.Prelude.{◌≡◌, ◌<◌, Some, refl, sym, subst, ◌∙◌, IsSome, size_of, TableValue}
 use Rattle.egt_check.proofs.successors.reach_in.Goals as goal
 
 pub table_of-requires : goal.table_of-requires

@@ -1,7 +1,4 @@
-use Rattle.std.proofs.Common.{◌≡◌, eqb, false, ap, sym, subst, ◌∙◌}
-use Rattle.std.specs.Option.{IsSome, option_map}
-use Rattle.std.proofs.lemmas.Bool.{eqb-true}
-use Rattle.egt_entries.specs.Tables.{table_at}
+use Rattle.egt_check.specs.Prelude.{◌≡◌, eqb, false, ap, sym, subst, ◌∙◌, IsSome, option_map, eqb-true, table_at}
 use Rattle.egt_check.proofs.Finding.{beside_own, beside_other, some_before}
 use Rattle.egt_check.proofs.successors.table_of.Goals as goal
 

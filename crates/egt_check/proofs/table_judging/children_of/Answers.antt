@@ -1,12 +1,6 @@
-use Rattle.std.proofs.Common.{◌≢◌, ℕ, false, Some, refl, rules, sym, subst}
-use Rattle.egt_board.specs.Setup.{Setup}
-use Rattle.egt_class.specs.Membership.{IsOf}
-use Rattle.egt_class.specs.Pair.{AreNonKings}
-use Rattle.egt_check.specs.Parts.{column_of, four_in, tables_in}
-use Rattle.egt_check.specs.MoveScores.{AreFourMen, AreTablesOf}
-use Rattle.egt_check.specs.declared.move_scores.Children.{Children}
-use Rattle.egt_entries.specs.Tables.{beside, table_at}
-use Rattle.egt_blocks.specs.Taken.{men_swapped}
+use Rattle.egt_check.specs.Prelude.{◌≢◌, ℕ, false, Some, refl, rules, sym, subst, Setup, IsOf, AreNonKings, column_of}
+use Rattle.egt_check.specs.Prelude.{four_in, tables_in, AreFourMen, AreTablesOf, Children, beside, table_at}
+use Rattle.egt_check.specs.Prelude.{men_swapped}
 use Rattle.egt_check.proofs.Finding.{beside_own}
 use Rattle.egt_check.proofs.NearReading.{found_in, is_table_in}
 use Rattle.egt_check.proofs.PromotionTables.{beside_any}

@@ -1,9 +1,5 @@
-use Rattle.std.proofs.Common.{◌≡◌, IfSome, subst}
-use Rattle.egt_index.specs.declared.shelf_codes.ShelfMen.{ShelfMen}
-use Rattle.egt_table.specs.Table.{TableValue}
-use Rattle.egt_check.specs.Parts.{column_of, promotions_in, tables_in}
-use Rattle.egt_check.specs.PawnScores.{ArePromotionsOf, HasPromotions}
-use Rattle.egt_entries.specs.Tables.{beside, table_at}
+use Rattle.egt_check.specs.Prelude.{◌≡◌, IfSome, subst, ShelfMen, TableValue, column_of, promotions_in, tables_in}
+use Rattle.egt_check.specs.Prelude.{ArePromotionsOf, HasPromotions, beside, table_at}
 use Rattle.egt_check.proofs.EqualPawns.{same_order}
 use Rattle.egt_check.proofs.table_judging.first_promotions.Goals as goal
 

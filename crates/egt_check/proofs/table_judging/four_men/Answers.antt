@@ -1,12 +1,5 @@
-use Rattle.std.proofs.Common.{◌≡◌, ℕ, sym, subst}
-use Rattle.egt_index.specs.declared.shelf_codes.ShelfMen.{ShelfMen}
-use Rattle.egt_table.specs.Table.{TableValue}
-use Rattle.egt_check.specs.MoveScores.{AreFourMen, AreTablesOf}
-use Rattle.egt_check.specs.Parts.{IsOwnTable, column_of, four_in, tables_in}
-use Rattle.egt_check.specs.declared.move_scores.Children.{Children}
-use Rattle.egt_check.specs.declared.move_scores.FourMen.{FourMen}
-use Rattle.egt_check.specs.declared.part.Part.{Part}
-use Rattle.egt_entries.specs.Tables.{Tables, beside, table_at}
+use Rattle.egt_check.specs.Prelude.{◌≡◌, ℕ, sym, subst, ShelfMen, TableValue, AreFourMen, AreTablesOf, IsOwnTable}
+use Rattle.egt_check.specs.Prelude.{column_of, four_in, tables_in, Children, FourMen, Part, Tables, beside, table_at}
 use Rattle.egt_check.proofs.table_judging.four_men.Goals as goal
 
 -- what holds beside each table of the class holds beside this one

@@ -1,9 +1,4 @@
-use Rattle.std.proofs.Common.{ℕ, ◌<◌, subst}
-use Rattle.egt_index.specs.Size.{size_of}
-use Rattle.egt_table.specs.Table.{TableValue}
-use Rattle.egt_check.specs.RightBlock.{KeepsPart}
-use Rattle.egt_entries.specs.Tables.{beside, table_at}
-use Rattle.egt_check.specs.declared.part.Part.TheVariants.{Values}
+use Rattle.egt_check.specs.Prelude.{ℕ, ◌<◌, subst, size_of, TableValue, KeepsPart, beside, table_at, Values}
 use Rattle.egt_check.proofs.table_judging.is_right_by_blocks.Goals as goal
 
 pub returns : goal.returns

@@ -1,19 +1,8 @@
-use Rattle.std.proofs.Common.{◌≡◌, ◌↔◌, ◌+◌, ℕ, List, Option, sym, subst}
-use Rattle.egt_board.specs.Man.{other_side}
-use Rattle.egt_board.specs.declared.man.Side.{Side}
-use Rattle.egt_table.specs.declared.column.Column.{Column}
-use Rattle.egt_blocks.specs.declared.kept_blocks.BlockKey.{BlockKey}
-use Rattle.egt_index.specs.declared.shelf_codes.ShelfMen.{ShelfMen}
-use Rattle.egt_blocks.specs.Blocks.{with_kings}
-use Rattle.egt_blocks.specs.Kept.{AreKept}
-use Rattle.egt_check.specs.MoveScores.{AreFourMen, AreTablesOf}
-use Rattle.egt_check.specs.Parts.{column_of, four_in, tables_in}
-use Rattle.egt_check.specs.RightBlock.{AreJudged}
-use Rattle.egt_check.specs.declared.move_scores.FourMen.{FourMen}
-use Rattle.egt_check.specs.declared.part.Part.{Part}
+use Rattle.egt_check.specs.Prelude.{◌≡◌, ◌↔◌, ◌+◌, ℕ, List, Option, sym, subst, other_side, Side, Column, BlockKey}
+use Rattle.egt_check.specs.Prelude.{ShelfMen, with_kings, AreKept, AreFourMen, AreTablesOf, column_of, four_in}
+use Rattle.egt_check.specs.Prelude.{tables_in, AreJudged, FourMen, Part, column_score}
 use Rattle.egt_check.proofs.PromotionTables.{four_there, tables_of_there}
 use Rattle.egt_check.proofs.table_judging.pair_is_right.Goals as goal
-use Rattle.egt_check.specs.Worth.{column_score}
 
 -- they are the tables of the men there
 are_there : (part : Part) (four : FourMen) (men there : ShelfMen) (white black : ℕ) → there ≡ with_kings men white black → AreFourMen (column_of part) four men → AreFourMen (column_of part) four there

@@ -1,7 +1,4 @@
-use Rattle.std.proofs.Common.{subst}
-use Rattle.egt_board.specs.declared.man.Side.{Side}
-use Rattle.egt_board.specs.declared.man.Side.TheVariants.{White, Black}
-use Rattle.egt_check.specs.Pairs.{AreJudgedPairs, ArePairs}
+use Rattle.egt_check.specs.Prelude.{subst, Side, White, Black, AreJudgedPairs, ArePairs}
 use Rattle.egt_check.proofs.table_judging.pairs_are_right.Goals as goal
 
 pub returns-then-side_pairs_are_right : goal.returns-then-side_pairs_are_right

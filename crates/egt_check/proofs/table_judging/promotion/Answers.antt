@@ -1,9 +1,4 @@
-use Rattle.std.proofs.Common.{◌≢◌, ◌∙◌, sym, subst}
-use Rattle.egt_board.specs.Turned.{turned_man}
-use Rattle.egt_board.specs.declared.man.Man.{Man}
-use Rattle.egt_steps.specs.PawnMoves.{officer_of}
-use Rattle.egt_check.specs.PawnScores.{AreNamed}
-use Rattle.egt_entries.specs.Tables.{table_at}
+use Rattle.egt_check.specs.Prelude.{◌≢◌, ◌∙◌, sym, subst, turned_man, Man, officer_of, AreNamed, table_at}
 use Rattle.egt_check.proofs.PromotionTables.{table_after}
 use Rattle.egt_check.proofs.TablePairs.{table_left}
 use Rattle.egt_check.proofs.table_judging.promotion.Goals as goal

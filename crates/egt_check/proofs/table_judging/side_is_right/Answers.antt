@@ -1,9 +1,4 @@
-use Rattle.std.proofs.Common.{◌+◌, ◌⊎◌, ℕ, subst}
-use Rattle.egt_board.specs.Setup.{Setup}
-use Rattle.egt_index.specs.Code.{Spells}
-use Rattle.egt_index.specs.Index.{IsIndex, IsVoid}
-use Rattle.egt_table.specs.declared.column.Column.{Column}
-use Rattle.egt_check.specs.Blank.{AreBlank}
+use Rattle.egt_check.specs.Prelude.{◌+◌, ◌⊎◌, ℕ, subst, Setup, Spells, IsIndex, IsVoid, Column, AreBlank}
 use Rattle.egt_check.proofs.BlankKept.{blank_kept}
 use Rattle.egt_check.proofs.table_judging.side_is_right.Goals as goal
 

@@ -1,13 +1,6 @@
-use Rattle.std.specs.Prelude.{ℕ, ◌<◌}
-use Rattle.egt_board.specs.Man.{other_side}
-use Rattle.egt_blocks.specs.Kept.{AreKept}
-use Rattle.egt_check.specs.MoveScores.{AreTablesOf}
-use Rattle.egt_check.specs.PairOrder.{nth_pair}
-use Rattle.egt_check.specs.Pairs.{IsJudgedPair}
-use Rattle.egt_check.specs.Parts.{four_in, tables_in}
-use Rattle.egt_entries.specs.Tables.{Tables}
+use Rattle.egt_check.specs.Prelude.{ℕ, ◌<◌, other_side, AreKept, AreTablesOf, nth_pair, IsJudgedPair, four_in}
+use Rattle.egt_check.specs.Prelude.{tables_in, Tables, column_score}
 use Rattle.egt_check.proofs.table_judging.side_pairs_are_right.Given as goal
-use Rattle.egt_check.specs.Worth.{column_score}
 
 -- the pairs that came before are right, and what is kept holds
 abbrev pub invariant-loop-n : goal.invariant-loop-n

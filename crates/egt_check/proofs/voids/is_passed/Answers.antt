@@ -1,5 +1,4 @@
-use Rattle.std.proofs.Common.{ℕ, false, true, subst}
-use Rattle.egt_index.specs.ShelfCodes.{IsShelfOf}
+use Rattle.egt_check.specs.Prelude.{ℕ, false, true, subst, IsShelfOf}
 use Rattle.egt_check.proofs.voids.is_passed.Goals as goal
 
 pub returns-in-Some : goal.returns-in-Some

@@ -1,13 +1,7 @@
-use Rattle.std.proofs.Common.{◌≡◌, ◌∙◌, ◌+◌, ap}
-use Rattle.std.specs.Prelude.{slice_index}
-use Rattle.std.specs.Int.{bit_at}
-use Rattle.egt_index.specs.Numbers.{code_of}
-use Rattle.egt_index.specs.Scales.{kind_less}
-use Rattle.egt_index.specs.ShelfCodes.{number_in}
-use Rattle.egt_check.specs.Worth.{column_score}
+use Rattle.egt_check.specs.Prelude.{◌≡◌, ◌∙◌, ◌+◌, ap, slice_index, bit_at, code_of, kind_less, number_in, column_score}
+use Rattle.egt_check.specs.Prelude.{square_in}
 use Rattle.egt_check.proofs.Marks.{bit_shifted, mark}
 use Rattle.egt_check.proofs.RowJudged.{lane_is}
-use Rattle.egt_blocks.proofs.ShelfRead.{square_in}
 use Rattle.egt_check.proofs.voids.marks_of.Goals as goal
 
 pub returns : goal.returns

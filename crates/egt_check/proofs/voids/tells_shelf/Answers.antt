@@ -1,14 +1,6 @@
-use Rattle.std.proofs.Common.{◌≡◌, ◌∙◌, ◌<◌, ℕ, ap, sym, subst}
-use Rattle.std.specs.Int.{bit_at}
-use Rattle.std.proofs.lemmas.Bool.{eqb-true}
-use Rattle.egt_board.specs.declared.man.Side.{Side}
-use Rattle.egt_board.specs.declared.man.Side.TheVariants.{White, Black}
-use Rattle.egt_index.specs.Numbers.{code_of, places}
-use Rattle.egt_index.specs.Scales.{kind_digits}
-use Rattle.egt_index.specs.ShelfCodes.{AreIndexes, IsShelfOf, number_in}
-use Rattle.egt_table.specs.Table.{TableValue}
+use Rattle.egt_check.specs.Prelude.{◌≡◌, ◌∙◌, ◌<◌, ℕ, ap, sym, subst, bit_at, eqb-true, Side, White, Black, code_of}
+use Rattle.egt_check.specs.Prelude.{places, kind_digits, AreIndexes, IsShelfOf, number_in, TableValue, column_score}
 use Rattle.egt_table.specs.declared.column.Column.TheVariants as columns
-use Rattle.egt_check.specs.Worth.{column_score}
 use Rattle.egt_check.proofs.Marks.{mark, numbers_within, shelf_told}
 use Rattle.egt_check.proofs.voids.tells_shelf.Goals as goal
 

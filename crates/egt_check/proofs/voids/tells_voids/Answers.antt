@@ -1,9 +1,5 @@
-use Rattle.std.proofs.Common.{◌≡◌, ◌∙◌, ◌<◌, ◌*◌, ◌/◌, ◌%◌, inl, inr, arith, ap, subst}
-use Rattle.std.proofs.lemmas.Bool.{cases_lt}
-use Rattle.egt_index.specs.Numbers.{code_of, places}
-use Rattle.egt_index.specs.ShelfCodes.{number_in}
-use Rattle.egt_index.specs.Size.{size_of}
-use Rattle.egt_check.specs.Voids.{TellsVoid}
+use Rattle.egt_check.specs.Prelude.{◌≡◌, ◌∙◌, ◌<◌, ◌*◌, ◌/◌, ◌%◌, inl, inr, arith, ap, subst, cases_lt, code_of, places}
+use Rattle.egt_check.specs.Prelude.{number_in, size_of, TellsVoid}
 use Rattle.egt_check.proofs.Marks.{all_told, whole_shelves}
 use Rattle.egt_check.proofs.voids.tells_voids.Goals as goal
 

@@ -1,5 +1,4 @@
-use Rattle.std.specs.Prelude.{ℕ, ◌<◌}
-use Rattle.egt_check.specs.Voids.{TellsVoidsIn}
+use Rattle.egt_check.specs.Prelude.{ℕ, ◌<◌, TellsVoidsIn}
 use Rattle.egt_check.proofs.voids.tells_voids.Given as goal
 
 -- the shelves so far

@@ -1,5 +1,4 @@
-use Rattle.std.proofs.Common.{◌<◌, ◌≤◌, arith, sym, ◌∙◌}
-use Rattle.std.proofs.lemmas.Grind.{common_steps}
+use Rattle.egt_class.specs.Prelude.{◌<◌, ◌≤◌, arith, sym, ◌∙◌, common_steps}
 use Rattle.egt_class.proofs.ChildTable.{listed_none, listed_more}
 use Rattle.egt_class.proofs.descent.children.Goals as goal
 

@@ -1,5 +1,4 @@
-use Rattle.std.proofs.Common.{◌≡◌, ◌+◌, length}
-use Rattle.egt_class.specs.Listing.{listed}
+use Rattle.egt_class.specs.Prelude.{◌≡◌, ◌+◌, length, listed}
 use Rattle.egt_class.proofs.descent.children.Given as goal
 
 abbrev pub invariant-loop-at : goal.invariant-loop-at

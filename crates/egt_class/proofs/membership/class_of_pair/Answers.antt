@@ -1,5 +1,4 @@
-use Rattle.std.proofs.Common.{refl}
-use Rattle.egt_class.specs.Pair.{class_at, flip_at}
+use Rattle.egt_class.specs.Prelude.{refl, class_at, flip_at}
 use Rattle.egt_class.proofs.PairTable.{pair_below}
 use Rattle.egt_class.proofs.membership.class_of_pair.Goals as goal
 

@@ -1,7 +1,4 @@
-use Rattle.std.proofs.Common.{subst}
-use Rattle.egt_board.specs.AllMen.{in_any_order}
-use Rattle.egt_board.specs.NonKings.{AreBeside}
-use Rattle.egt_board.specs.Placement.{Placement}
+use Rattle.egt_class.specs.Prelude.{subst, in_any_order, AreBeside, Placement}
 use Rattle.egt_class.proofs.NonKings.{one_king_each}
 use Rattle.egt_class.proofs.TwoNonKings.{are_beside}
 use Rattle.egt_class.proofs.membership.non_kings.Goals as goal

@@ -1,7 +1,4 @@
-use Rattle.std.proofs.Common.{◌≡◌, ◌≤◌, take}
-use Rattle.std.specs.List.{filter}
-use Rattle.arrayvec.specs.ArrayString.{array_string_len}
-use Rattle.egt_class.specs.Name.{is_letter}
+use Rattle.egt_class.specs.Prelude.{◌≡◌, ◌≤◌, take, filter, array_string_len, is_letter}
 use Rattle.egt_class.proofs.naming.name.Given as goal
 
 abbrev pub invariant-loop-letter : goal.invariant-loop-letter

@@ -1,5 +1,4 @@
-use Rattle.std.proofs.Common.{◌<◌, ◌∙◌, ap, arith}
-use Rattle.egt_class.specs.Name.{name_of}
+use Rattle.egt_class.specs.Prelude.{◌<◌, ◌∙◌, ap, arith, name_of}
 use Rattle.egt_class.proofs.NameTable.{names_are_right, names_are_ascii}
 use Rattle.egt_class.proofs.naming.padded.Goals as goal
 

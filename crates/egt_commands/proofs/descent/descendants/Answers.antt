@@ -1,7 +1,5 @@
-use Rattle.std.proofs.Common.{◌≡◌, ℕ, ◌<◌, ◌+◌, ◌-◌, false, replicate, sym, subst, ◌∙◌, arith}
-use Rattle.std.proofs.lemmas.Bool.{false≢true}
-use Rattle.egt_class.specs.Children.{children_of}
-use Rattle.egt_commands.specs.Descent.{IsMarked}
+use Rattle.egt_commands.specs.Prelude.{◌≡◌, ℕ, ◌<◌, ◌+◌, ◌-◌, false, replicate, sym, subst, ◌∙◌, arith, false≢true}
+use Rattle.egt_commands.specs.Prelude.{children_of, IsMarked}
 use Rattle.egt_commands.proofs.Marking.{Marks, IsMarkedFrom, marked_first, marked_next, none_marked, all_marked}
 use Rattle.egt_commands.proofs.descent.descendants.Goals as goal
 

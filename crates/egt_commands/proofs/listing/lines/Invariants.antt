@@ -1,5 +1,4 @@
-use Rattle.std.proofs.Common.{◌≡◌}
-use Rattle.egt_commands.specs.Classes.{lines_below}
+use Rattle.egt_commands.specs.Prelude.{◌≡◌, lines_below}
 use Rattle.egt_commands.proofs.listing.lines.Given as goal
 
 abbrev pub invariant-loop-number : goal.invariant-loop-number

@@ -1,8 +1,5 @@
-use Rattle.std.proofs.Common.{◌≡◌, ℕ, ◌<◌, ◌+◌, ◌⊎◌, sym, subst, ◌∙◌, arith}
-use Rattle.std.specs.Prelude.{IsSome}
-use Rattle.std.proofs.lemmas.Bool.{false≢true}
-use Rattle.egt_entries.specs.Tables.{table_at}
-use Rattle.egt_commands.specs.Descent.{Descends, HasExactly, IsMarked}
+use Rattle.egt_commands.specs.Prelude.{◌≡◌, ℕ, ◌<◌, ◌+◌, ◌⊎◌, sym, subst, ◌∙◌, arith, IsSome, false≢true, table_at}
+use Rattle.egt_commands.specs.Prelude.{Descends, HasExactly, IsMarked}
 use Rattle.egt_commands.proofs.Marking.{descendants_below}
 use Rattle.egt_commands.proofs.Loaded.{one_more, none_more, all_there}
 use Rattle.egt_commands.proofs.loading.load_below.Goals as goal

@@ -1,6 +1,4 @@
-use Rattle.std.proofs.Common.{◌<◌}
-use Rattle.egt_entries.specs.Tables.{table_at}
-use Rattle.egt_commands.specs.Descent.{Descends, HasExactly}
+use Rattle.egt_commands.specs.Prelude.{◌<◌, table_at, Descends, HasExactly}
 use Rattle.egt_commands.proofs.loading.load_below.Given as goal
 
 -- the descendants so far have their tables

@@ -1,5 +1,4 @@
-use Rattle.std.proofs.Common.{◌≡◌, take}
-use Rattle.egt_commands.specs.Moves.{lines_of}
+use Rattle.egt_commands.specs.Prelude.{◌≡◌, take, lines_of}
 use Rattle.egt_commands.proofs.moves.lines.Given as goal
 
 abbrev pub invariant-loop-chess_move : goal.invariant-loop-chess_move

@@ -1,5 +1,4 @@
-use Rattle.std.proofs.Common.{ap, ◌∙◌}
-use Rattle.egt_commands.specs.Moves.{lines_of}
+use Rattle.egt_commands.specs.Prelude.{ap, ◌∙◌, lines_of}
 use Rattle.egt_commands.proofs.moves.moves_text.Goals as goal
 
 pub returns-in-Ok-lines-clause-moves : goal.returns-in-Ok-lines-clause-moves

@@ -1,8 +1,5 @@
-use Rattle.std.proofs.Common.{◌≡◌, ◌<◌, ◌≤◌, length, count_by, sym, ap, subst, ◌∙◌, arith}
-use Rattle.std.proofs.lemmas.List.{take_all}
-use Rattle.egt_index.specs.Size.{size_of}
-use Rattle.egt_table.specs.Table.{entries_of}
-use Rattle.egt_commands.specs.Statistics.{shows}
+use Rattle.egt_commands.specs.Prelude.{◌≡◌, ◌<◌, ◌≤◌, length, count_by, sym, ap, subst, ◌∙◌, arith, take_all, size_of}
+use Rattle.egt_commands.specs.Prelude.{entries_of, shows}
 use Rattle.egt_commands.proofs.Tallying.{count_more, count_same}
 use Rattle.egt_commands.proofs.tally.count.Goals as goal
 use Rattle.egt_commands.proofs.tally.count.Goals.{then-shows, else-shows}

@@ -1,7 +1,4 @@
-use Rattle.std.proofs.Common.{◌≡◌, ◌≤◌, take}
-use Rattle.std.specs.List.{count_by}
-use Rattle.egt_table.specs.Table.{entries_of}
-use Rattle.egt_commands.specs.Statistics.{shows}
+use Rattle.egt_commands.specs.Prelude.{◌≡◌, ◌≤◌, take, count_by, entries_of, shows}
 use Rattle.egt_commands.proofs.tally.count.Given as goal
 
 abbrev pub invariant-loop-index : goal.invariant-loop-index

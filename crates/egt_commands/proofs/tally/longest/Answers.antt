@@ -1,8 +1,5 @@
-use Rattle.std.proofs.Common.{◌≡◌, ℕ, ◌<◌, ◌+◌, length, sym, ap, subst, ◌∙◌, arith}
-use Rattle.egt_index.specs.Size.{size_of}
-use Rattle.egt_table.specs.Table.{entries_of}
-use Rattle.egt_table.specs.declared.column.Column.TheVariants.{Mate}
-use Rattle.egt_commands.specs.Statistics.{shows, IsLongest}
+use Rattle.egt_commands.specs.Prelude.{◌≡◌, ℕ, ◌<◌, ◌+◌, length, sym, ap, subst, ◌∙◌, arith, size_of, entries_of, Mate}
+use Rattle.egt_commands.specs.Prelude.{shows, IsLongest}
 use Rattle.egt_commands.proofs.Tallying.{longest_more, longest_same}
 use Rattle.egt_commands.proofs.tally.longest.Goals as goal
 use Rattle.egt_commands.proofs.tally.longest.Goals.{then-shows, else-shows}

@@ -1,5 +1,4 @@
-use Rattle.std.proofs.Common.{◌≡◌, ◌<◌, ◌++◌}
-use Rattle.egt_fen.specs.Canonical.{placement_text}
+use Rattle.egt_fen.specs.Prelude.{◌≡◌, ◌<◌, ◌++◌, placement_text}
 use Rattle.egt_fen.proofs.Written.{below}
 use Rattle.egt_fen.proofs.board_text.push_placement.Given as goal
 

@@ -1,5 +1,4 @@
-use Rattle.std.proofs.Common.{◌≡◌, ◌≤◌, ◌++◌, drop}
-use Rattle.egt_fen.specs.Canonical.{squares_text, squares_of, rank_text}
+use Rattle.egt_fen.specs.Prelude.{◌≡◌, ◌≤◌, ◌++◌, drop, squares_text, squares_of, rank_text}
 use Rattle.egt_fen.proofs.board_text.push_rank.Given as goal
 
 abbrev pub invariant-loop-file : goal.invariant-loop-file

@@ -1,6 +1,4 @@
-use Rattle.std.proofs.Common.{arith, ap}
-use Rattle.std.specs.Str.Parse.{digits_value}
-use Rattle.std.proofs.lemmas.List.{take_all}
+use Rattle.egt_fen.specs.Prelude.{arith, ap, digits_value, take_all}
 use Rattle.egt_fen.proofs.Digits.{one_more, digits_value_small}
 use Rattle.egt_fen.proofs.counter.value_of.Goals as goal
 

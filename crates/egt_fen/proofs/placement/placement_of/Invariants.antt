@@ -1,6 +1,4 @@
-use Rattle.std.proofs.Common.{◌≡◌, drop}
-use Rattle.egt_fen.specs.Placement.{placement_of}
-use Rattle.egt_fen.specs.Walked.{walked}
+use Rattle.egt_fen.specs.Prelude.{◌≡◌, drop, placement_of, walked}
 use Rattle.egt_fen.proofs.placement.placement_of.Given as goal
 
 abbrev pub invariant-loop-byte : goal.invariant-loop-byte

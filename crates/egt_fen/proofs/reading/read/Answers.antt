@@ -1,7 +1,4 @@
-use Rattle.std.proofs.Common.{sym, ap, ◌∙◌, refl}
-use Rattle.std.proofs.lemmas.Bool.{false≢true}
-use Rattle.egt_board.specs.Listed.{setup_of}
-use Rattle.egt_fen.specs.Shown.{shown_parts}
+use Rattle.egt_fen.specs.Prelude.{sym, ap, ◌∙◌, refl, false≢true, setup_of, shown_parts}
 use Rattle.egt_fen.proofs.Spelling.{not_both, not_refused, spelled_admits, says_spells, admits_from, admits_to}
 use Rattle.egt_fen.proofs.reading.read.Goals as goal
 

@@ -1,8 +1,4 @@
-use Rattle.std.proofs.Common.{Option, IfSome, subst}
-use Rattle.std.proofs.lemmas.List.Elements.{All-push, All-same}
-use Rattle.egt_table.specs.Table.{TableValue}
-use Rattle.egt_fill.specs.Items.{IsItem}
-use Rattle.egt_fill.specs.declared.items.Item.{Item}
+use Rattle.egt_fill.specs.Prelude.{Option, IfSome, subst, All-push, All-same, TableValue, IsItem, Item}
 use Rattle.egt_fill.proofs.beginning.begin_pair.Goals as goal
 
 pub returns-clause-items : goal.returns-clause-items

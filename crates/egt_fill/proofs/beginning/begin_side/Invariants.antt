@@ -1,6 +1,4 @@
-use Rattle.std.specs.Prelude.{◌≡◌, All}
-use Rattle.egt_fill.specs.Items.{IsItem}
-use Rattle.egt_fill.specs.declared.items.Item.{Item}
+use Rattle.egt_fill.specs.Prelude.{◌≡◌, All, IsItem, Item}
 use Rattle.egt_fill.proofs.beginning.begin_side.Given as goal
 
 abbrev pub invariant-loop-n : goal.invariant-loop-n

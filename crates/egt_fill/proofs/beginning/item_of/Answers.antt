@@ -1,9 +1,5 @@
-use Rattle.std.proofs.Common.{ℕ, List, sym, subst}
-use Rattle.egt_index.specs.declared.shelf_codes.ShelfMen.{ShelfMen}
-use Rattle.egt_table.specs.declared.column.Column.{Column}
-use Rattle.egt_check.specs.MoveScores.{AreChildren, HoldsExits}
-use Rattle.egt_check.specs.Parts.{column_of}
-use Rattle.egt_check.proofs.PromotionTables.{children_there}
+use Rattle.egt_fill.specs.Prelude.{ℕ, List, sym, subst, ShelfMen, Column, AreChildren, HoldsExits, column_of}
+use Rattle.egt_fill.specs.Prelude.{children_there}
 use Rattle.egt_fill.proofs.BegunItems.{begun_item}
 use Rattle.egt_fill.proofs.beginning.item_of.Goals as goal
 

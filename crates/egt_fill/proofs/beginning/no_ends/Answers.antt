@@ -1,7 +1,4 @@
-use Rattle.std.proofs.Common.{replicate, inl, inr}
-use Rattle.std.proofs.lemmas.Bool.{cases_lt}
-use Rattle.std.proofs.lemmas.List.{get_or-replicate, get_or_past}
-use Rattle.egt_fill.specs.Mended.{no_squares}
+use Rattle.egt_fill.specs.Prelude.{replicate, inl, inr, cases_lt, get_or-replicate, get_or_past, no_squares}
 use Rattle.egt_fill.proofs.beginning.no_ends.Goals as goal
 
 pub returns : goal.returns

@@ -1,10 +1,7 @@
-use Rattle.std.proofs.Common.{◌≡◌, ◌∙◌, ◌<◌, ℕ, Option, Some, IfSome, ap, subst, sym}
-use Rattle.egt_index.specs.Size.{size_of}
-use Rattle.egt_table.specs.Table.{TableValue}
+use Rattle.egt_fill.specs.Prelude.{◌≡◌, ◌∙◌, ◌<◌, ℕ, Option, Some, IfSome, ap, subst, sym, size_of, TableValue}
+use Rattle.egt_fill.specs.Prelude.{TellColumn, table_told, AreDrawnOrNone, CodeScores, HasNoVoidScore, IsDrawnIndex}
+use Rattle.egt_fill.specs.Prelude.{HasBytes}
 use Rattle.egt_table.specs.declared.column.Column.TheVariants as columns
-use Rattle.egt_check.specs.Found.{TellColumn, table_told}
-use Rattle.egt_check.specs.ScoreRows.{AreDrawnOrNone, CodeScores, HasNoVoidScore, IsDrawnIndex}
-use Rattle.egt_check.specs.Worth.{HasBytes}
 use Rattle.egt_fill.proofs.DrawnBytes.{values_known}
 use Rattle.egt_fill.proofs.DrawnEntries.{drawn_tell, drawn_told}
 use Rattle.egt_fill.proofs.begun.begun_values.Goals as goal

@@ -1,11 +1,6 @@
-use Rattle.std.proofs.Common.{◌≡◌, ◌∙◌, ◌<◌, ℕ, None, ap, subst, sym}
-use Rattle.egt_index.specs.Size.{size_of}
-use Rattle.egt_table.specs.Table.{TableValue}
+use Rattle.egt_fill.specs.Prelude.{◌≡◌, ◌∙◌, ◌<◌, ℕ, None, ap, subst, sym, size_of, TableValue, table_told, table_in}
+use Rattle.egt_fill.specs.Prelude.{IsDrawnIndex, HasBytes}
 use Rattle.egt_table.specs.declared.column.Column.TheVariants as columns
-use Rattle.egt_check.specs.Found.{table_told}
-use Rattle.egt_check.specs.Parts.{table_in}
-use Rattle.egt_check.specs.ScoreRows.{IsDrawnIndex}
-use Rattle.egt_check.specs.Worth.{HasBytes}
 use Rattle.egt_check.specs.declared.part.Part.TheVariants as parts
 use Rattle.egt_fill.proofs.DrawnBytes.{reach_known}
 use Rattle.egt_fill.proofs.DrawnEntries.{drawn_told}

@@ -1,9 +1,5 @@
-use Rattle.std.proofs.Common.{◌≡◌, ◌+◌, ◌*◌, arith, inl, inr, subst, sym}
-use Rattle.std.proofs.lemmas.Bool.{cases_lt}
-use Rattle.egt_board.specs.declared.man.Side.TheVariants.{White, Black}
-use Rattle.egt_check.specs.Pairs.{ArePairs}
-use Rattle.egt_check.specs.RightBlock.{AreJudged}
-use Rattle.egt_fill.specs.Covered.{AreAllJudged, tables_with}
+use Rattle.egt_fill.specs.Prelude.{◌≡◌, ◌+◌, ◌*◌, arith, inl, inr, subst, sym, cases_lt, White, Black, ArePairs}
+use Rattle.egt_fill.specs.Prelude.{AreJudged, AreAllJudged, tables_with}
 use Rattle.egt_fill.proofs.covering.all_are_covered.Goals as goal
 
 pub loop-pair-preserved : goal.loop-pair-preserved

@@ -1,6 +1,4 @@
-use Rattle.std.specs.Prelude.{ℕ, ◌*◌, ◌<◌}
-use Rattle.egt_board.specs.declared.man.Side.{Side}
-use Rattle.egt_fill.specs.Covered.{AreAllJudged}
+use Rattle.egt_fill.specs.Prelude.{ℕ, ◌*◌, ◌<◌, Side, AreAllJudged}
 use Rattle.egt_fill.proofs.covering.all_are_covered.Given as goal
 
 -- the pairs that came before are right

@@ -1,23 +1,7 @@
-use Rattle.std.proofs.Common.{◌+◌, ◌⊎◌, ℕ, refl, subst}
-use Rattle.std.proofs.lemmas.List.Elements.{All-contains}
-use Rattle.egt_board.specs.Setup.{Setup}
-use Rattle.egt_board.specs.declared.man.Side.{Side}
-use Rattle.egt_index.specs.Code.{Spells}
-use Rattle.egt_index.specs.Index.{IsIndex, IsVoid}
-use Rattle.egt_index.specs.declared.shelf_codes.ShelfMen.{ShelfMen}
-use Rattle.egt_table.specs.Table.{TableValue}
-use Rattle.egt_table.specs.declared.column.Column.{Column}
-use Rattle.egt_blocks.specs.Blocks.{with_kings}
-use Rattle.egt_check.specs.Blank.{AreBlank}
-use Rattle.egt_check.specs.MoveScores.{AreTablesOf}
-use Rattle.egt_check.specs.Parts.{IsOwnTable, column_of, four_in, tables_in}
-use Rattle.egt_check.specs.declared.move_scores.FourMen.{FourMen}
-use Rattle.egt_check.proofs.BlankKept.{blank_kept}
-use Rattle.egt_check.proofs.PromotionTables.{tables_of_there}
-use Rattle.egt_fill.specs.Covered.{AreAllJudged, IsDueItem, tables_with}
-use Rattle.egt_fill.specs.Settled.{IsFilling}
-use Rattle.egt_fill.specs.declared.filling.Filling.{Filling}
-use Rattle.egt_fill.specs.declared.items.Item.{Item}
+use Rattle.egt_fill.specs.Prelude.{◌+◌, ◌⊎◌, ℕ, refl, subst, All-contains, Setup, Side, Spells, IsIndex, IsVoid}
+use Rattle.egt_fill.specs.Prelude.{ShelfMen, TableValue, Column, with_kings, AreBlank, AreTablesOf, IsOwnTable}
+use Rattle.egt_fill.specs.Prelude.{column_of, four_in, tables_in, FourMen, blank_kept, tables_of_there, AreAllJudged}
+use Rattle.egt_fill.specs.Prelude.{IsDueItem, tables_with, IsFilling, Filling, Item}
 use Rattle.egt_fill.proofs.DueJudged.{DueAreRight, all_due_judged}
 use Rattle.egt_fill.proofs.covering.pair_is_covered.Goals as goal
 

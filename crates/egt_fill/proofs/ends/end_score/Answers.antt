@@ -1,6 +1,4 @@
-use Rattle.std.proofs.Common.{◌≡◌, ◌∙◌, ℕ, inl, inr, refl, subst, sym}
-use Rattle.egt_board.specs.Setup.{Setup}
-use Rattle.egt_entries.specs.Score.{IsAtEnd}
+use Rattle.egt_fill.specs.Prelude.{◌≡◌, ◌∙◌, ℕ, inl, inr, refl, subst, sym, Setup, IsAtEnd}
 use Rattle.egt_fill.proofs.ends.end_score.Goals as goal
 
 pub returns-in-3 : goal.returns-in-3

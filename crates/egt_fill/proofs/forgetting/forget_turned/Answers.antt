@@ -1,9 +1,5 @@
-use Rattle.std.proofs.Common.{◌≡◌, ◌∙◌, ℕ, ◌/◌, ◌%◌, ◌==◌, Bool, List, Option, None, length, slice_index_or, arith, sym, subst, inl, inr}
-use Rattle.std.proofs.lemmas.Bool.{cases_eq}
-use Rattle.egt_board.specs.Turned.{turned_square}
-use Rattle.egt_blocks.specs.Kept.{wide_place}
-use Rattle.egt_blocks.specs.declared.kept_blocks.BlockKey.{BlockKey}
-use Rattle.egt_fill.specs.Forgotten.{AreFewer}
+use Rattle.egt_fill.specs.Prelude.{◌≡◌, ◌∙◌, ℕ, ◌/◌, ◌%◌, ◌==◌, Bool, List, Option, None, length, slice_index_or, arith}
+use Rattle.egt_fill.specs.Prelude.{sym, subst, inl, inr, cases_eq, turned_square, wide_place, BlockKey, AreFewer}
 use Rattle.egt_fill.proofs.forgetting.forget_turned.Goals as goal
 
 -- what is gone stays so

@@ -1,8 +1,5 @@
-use Rattle.std.proofs.Common.{◌≡◌, ℕ, ◌≤◌, ◌<◌, ◌/◌, ◌%◌, ◌==◌, None, length, slice_index_or}
-use Rattle.egt_board.specs.Turned.{turned_square}
-use Rattle.egt_blocks.specs.Kept.{wide_place}
-use Rattle.egt_table.specs.declared.column.Column.{Column}
-use Rattle.egt_fill.specs.Forgotten.{AreFewer}
+use Rattle.egt_fill.specs.Prelude.{◌≡◌, ℕ, ◌≤◌, ◌<◌, ◌/◌, ◌%◌, ◌==◌, None, length, slice_index_or, turned_square}
+use Rattle.egt_fill.specs.Prelude.{wide_place, Column, AreFewer}
 use Rattle.egt_fill.proofs.forgetting.forget_turned.Given as goal
 
 -- the keys at the places of the turns so far are gone

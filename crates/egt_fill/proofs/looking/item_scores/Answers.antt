@@ -1,11 +1,5 @@
-use Rattle.std.proofs.Common.{◌∙◌, false, true, sym, subst}
-use Rattle.egt_index.specs.declared.shelf_codes.ShelfMen.{ShelfMen}
-use Rattle.egt_lanes.specs.Blocks.{at}
-use Rattle.egt_table.specs.Table.{TableValue}
-use Rattle.egt_table.specs.declared.column.Column.{Column}
-use Rattle.egt_check.specs.MoveScores.{AreChildren, AreFourMen}
-use Rattle.egt_check.specs.Parts.{IsOwnTable, column_of}
-use Rattle.egt_check.proofs.PromotionTables.{children_there, four_there}
+use Rattle.egt_fill.specs.Prelude.{◌∙◌, false, true, sym, subst, ShelfMen, at, TableValue, Column, AreChildren}
+use Rattle.egt_fill.specs.Prelude.{AreFourMen, IsOwnTable, column_of, children_there, four_there}
 use Rattle.egt_fill.proofs.ScoresThrough.{scores_same}
 use Rattle.egt_fill.proofs.looking.item_scores.Goals as goal
 

@@ -1,7 +1,5 @@
-use Rattle.std.proofs.Common.{◌+◌, ℕ, List, true, false, subst, sym}
-use Rattle.egt_index.specs.Scales.{kind_digits}
-use Rattle.egt_index.specs.declared.shelf_codes.ShelfMen.{ShelfMen}
-use Rattle.egt_fill.specs.Mended.{AllEnded, AreRightRows, IsCodeIn, IsMendedAt}
+use Rattle.egt_fill.specs.Prelude.{◌+◌, ℕ, List, true, false, subst, sym, kind_digits, ShelfMen, AllEnded, AreRightRows}
+use Rattle.egt_fill.specs.Prelude.{IsCodeIn, IsMendedAt}
 use Rattle.egt_fill.proofs.ItemMended.{both_mended, lower_ended, lower_mended, lower_right, upper_ended}
 use Rattle.egt_fill.proofs.looking.mend_item.Goals as goal
 

@@ -1,10 +1,5 @@
-use Rattle.std.proofs.Common.{◌∙◌, ◌+◌, slice_index, sym, subst}
-use Rattle.egt_index.specs.Numbers.{code_of}
-use Rattle.egt_index.specs.Scales.{kind_less}
-use Rattle.egt_index.specs.ShelfCodes.{number_in}
-use Rattle.egt_lanes.specs.Scores.{due_score}
-use Rattle.egt_blocks.proofs.ShelfRead.{square_in}
-use Rattle.egt_fill.specs.Mended.{IsPutAt}
+use Rattle.egt_fill.specs.Prelude.{◌∙◌, ◌+◌, slice_index, sym, subst, code_of, kind_less, number_in, due_score}
+use Rattle.egt_fill.specs.Prelude.{square_in, IsPutAt}
 use Rattle.egt_fill.proofs.RowMended.{due_row, row_ended, row_mended, row_right}
 use Rattle.egt_fill.proofs.mending.mend_row.Goals as goal
 

@@ -1,13 +1,7 @@
-use Rattle.std.proofs.Common.{◌≡◌, ◌≢◌, ◌∙◌, ℕ, ◌+◌, ◌<◌, arith, sym, subst}
-use Rattle.std.proofs.lemmas.List.{length-set}
-use Rattle.egt_index.specs.Numbers.{code_of, number_of}
-use Rattle.egt_index.specs.Scales.{kind_digits, kind_less}
-use Rattle.egt_index.specs.Size.{size_of}
-use Rattle.egt_blocks.specs.Blocks.{AreShelvesOf}
-use Rattle.egt_fill.specs.Mended.{IsCodeOf, IsMendedAt, IsShelf, shelf_at}
-use Rattle.egt_fill.specs.declared.mending.Mended.{Mended}
+use Rattle.egt_fill.specs.Prelude.{◌≡◌, ◌≢◌, ◌∙◌, ℕ, ◌+◌, ◌<◌, arith, sym, subst, length-set, code_of, number_of}
+use Rattle.egt_fill.specs.Prelude.{kind_digits, kind_less, size_of, AreShelvesOf, IsCodeOf, IsMendedAt, IsShelf}
+use Rattle.egt_fill.specs.Prelude.{shelf_at, Mended, Shelf}
 use Rattle.egt_fill.specs.declared.mending.Mended.TheVariants as mends
-use Rattle.egt_fill.specs.declared.mending.Shelf.{Shelf}
 use Rattle.egt_fill.proofs.RowsMended.{more_ended, more_mended, more_right, shelf_same}
 use Rattle.egt_fill.proofs.mending.mend_shelves.Goals as goal
 use Rattle.egt_fill.proofs.mending.mend_shelves.Goals.{in-Due, in-Put}

@@ -1,5 +1,4 @@
-use Rattle.std.proofs.Common.{◌≡◌, length}
-use Rattle.egt_fill.specs.Mended.{AllEnded, AreRightRows, IsCodeIn, IsMendedAt}
+use Rattle.egt_fill.specs.Prelude.{◌≡◌, length, AllEnded, AreRightRows, IsCodeIn, IsMendedAt}
 use Rattle.egt_fill.specs.declared.mending.Mended.TheVariants as mends
 use Rattle.egt_fill.proofs.mending.mend_shelves.Given as goal
 

@@ -1,23 +1,8 @@
-use Rattle.std.proofs.Common.{◌==◌, if◌then◌else◌, ap, ◌≡◌, ◌≢◌, ◌∙◌, ℕ, ◌+◌, ◌<◌, arith, inl, inr, refl, sym, slice_index, subst}
-use Rattle.std.specs.Int.{bit_at}
-use Rattle.std.proofs.lemmas.Bool.{cases_eq}
-use Rattle.std.proofs.lemmas.List.{get_or-replicate}
-use Rattle.egt_index.specs.Numbers.{code_of}
-use Rattle.egt_index.specs.Scales.{kind_less}
-use Rattle.egt_index.specs.ShelfCodes.{number_in}
-use Rattle.egt_lanes.specs.Scores.{due_score}
-use Rattle.egt_table.specs.Table.{TableValue}
-use Rattle.egt_table.specs.declared.column.Column.{Column}
-use Rattle.egt_entries.specs.declared.metric.Metric.TheVariants.{Zeroing}
-use Rattle.egt_check.specs.Parts.{column_of}
-use Rattle.egt_check.specs.RightRow.{due_in}
-use Rattle.egt_check.specs.Worth.{column_score, score_at}
-use Rattle.egt_check.specs.declared.part.Part.{Part}
-use Rattle.egt_check.specs.declared.part.Part.TheVariants.{Values, Reach}
-use Rattle.egt_blocks.proofs.ShelfRead.{square_in}
-use Rattle.egt_check.proofs.ByteJudged.{if_not, if_same}
-use Rattle.egt_check.proofs.RowJudged.{lane_is, left_at}
-use Rattle.egt_fill.specs.Mended.{IsPutAt, score_in}
+use Rattle.egt_fill.specs.Prelude.{◌==◌, if◌then◌else◌, ap, ◌≡◌, ◌≢◌, ◌∙◌, ℕ, ◌+◌, ◌<◌, arith, inl, inr, refl, sym}
+use Rattle.egt_fill.specs.Prelude.{slice_index, subst, bit_at, cases_eq, get_or-replicate, code_of, kind_less}
+use Rattle.egt_fill.specs.Prelude.{number_in, due_score, TableValue, Column, Zeroing, column_of, due_in, column_score}
+use Rattle.egt_fill.specs.Prelude.{score_at, Part, Values, Reach, square_in, if_not, if_same, lane_is, left_at, IsPutAt}
+use Rattle.egt_fill.specs.Prelude.{score_in}
 use Rattle.egt_fill.proofs.LanesPut.{none_within, same_there}
 use Rattle.egt_fill.proofs.mending.row_seen.Goals as goal
 

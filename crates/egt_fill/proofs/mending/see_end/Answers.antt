@@ -1,17 +1,6 @@
-use Rattle.std.proofs.Common.{◌≡◌, ◌≢◌, ◌∙◌, ◌+◌, ℕ, arith, ap, inl, inr, replicate, sym, subst, slice_index}
-use Rattle.std.specs.Int.{bit_at}
-use Rattle.std.proofs.lemmas.Bool.{cases_eq}
-use Rattle.std.proofs.lemmas.List.{get_or-replicate}
-use Rattle.std.proofs.lemmas.Nat.Bits.{bit_at-zero}
-use Rattle.egt_board.specs.SquareSet.{Has}
-use Rattle.egt_board.specs.declared.square_set.SquareSet.{SquareSet}
-use Rattle.egt_index.specs.Numbers.{code_of}
-use Rattle.egt_index.specs.Scales.{kind_less}
-use Rattle.egt_index.specs.ShelfCodes.{number_in}
-use Rattle.egt_blocks.proofs.ShelfRead.{square_in}
-use Rattle.egt_check.specs.Found.{IsToldAt}
-use Rattle.egt_fill.specs.Ends.{IsEndScore}
-use Rattle.egt_fill.specs.Mended.{IsLaneOf}
+use Rattle.egt_fill.specs.Prelude.{◌≡◌, ◌≢◌, ◌∙◌, ◌+◌, ℕ, arith, ap, inl, inr, replicate, sym, subst, slice_index}
+use Rattle.egt_fill.specs.Prelude.{bit_at, cases_eq, get_or-replicate, bit_at-zero, Has, SquareSet, code_of, kind_less}
+use Rattle.egt_fill.specs.Prelude.{number_in, square_in, IsToldAt, IsEndScore, IsLaneOf}
 use Rattle.egt_fill.proofs.LanesPut.{end_told}
 use Rattle.egt_fill.proofs.PutEntries.{widened}
 use Rattle.egt_fill.proofs.mending.see_end.Goals as goal

@@ -1,10 +1,5 @@
-use Rattle.std.proofs.Common.{◌≡◌, ◌∙◌, ◌+◌, arith, sym, ap, inl, inr, subst}
-use Rattle.std.specs.Int.{bit_at}
-use Rattle.std.proofs.lemmas.Bool.{cases_eq}
-use Rattle.egt_index.specs.Numbers.{code_of}
-use Rattle.egt_index.specs.Scales.{kind_less}
-use Rattle.egt_index.specs.ShelfCodes.{number_in}
-use Rattle.egt_check.specs.RightRow.{IsRightEndOf}
+use Rattle.egt_fill.specs.Prelude.{◌≡◌, ◌∙◌, ◌+◌, arith, sym, ap, inl, inr, subst, bit_at, cases_eq, code_of, kind_less}
+use Rattle.egt_fill.specs.Prelude.{number_in, IsRightEndOf}
 use Rattle.egt_fill.proofs.PutEntries.{end_stays}
 use Rattle.egt_fill.proofs.ShelfLanes.{code_at, first_here, more, one_digit}
 use Rattle.egt_fill.proofs.mending.see_ends.Goals as goal

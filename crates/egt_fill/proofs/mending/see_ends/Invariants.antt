@@ -1,11 +1,5 @@
-use Rattle.std.proofs.Common.{◌≡◌, ℕ, ◌+◌, ◌<◌}
-use Rattle.std.specs.Int.{bit_at}
-use Rattle.egt_board.specs.SquareSet.{Has}
-use Rattle.egt_index.specs.Numbers.{code_of}
-use Rattle.egt_index.specs.Scales.{kind_digits, kind_less}
-use Rattle.egt_index.specs.ShelfCodes.{number_in}
-use Rattle.egt_check.specs.RightRow.{IsRightEndOf}
-use Rattle.egt_fill.specs.Mended.{IsLaneOf, IsMendedAt}
+use Rattle.egt_fill.specs.Prelude.{◌≡◌, ℕ, ◌+◌, ◌<◌, bit_at, Has, code_of, kind_digits, kind_less, number_in}
+use Rattle.egt_fill.specs.Prelude.{IsRightEndOf, IsLaneOf, IsMendedAt}
 use Rattle.egt_fill.proofs.mending.see_ends.Given as goal
 
 -- the squares that are no longer left are seen

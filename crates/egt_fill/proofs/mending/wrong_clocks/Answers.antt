@@ -1,11 +1,7 @@
-use Rattle.std.proofs.Common.{◌≡◌, ◌∙◌, ◌+◌, ℕ, ap, sym, slice_index}
-use Rattle.std.proofs.lemmas.List.{get_or-replicate}
-use Rattle.egt_index.specs.Scales.{kind_less}
+use Rattle.egt_fill.specs.Prelude.{◌≡◌, ◌∙◌, ◌+◌, ℕ, ap, sym, slice_index, get_or-replicate, kind_less, square_in, Part}
+use Rattle.egt_fill.specs.Prelude.{lane_is}
 use Rattle.egt_table.specs.declared.column.Column.TheVariants as columns
-use Rattle.egt_blocks.proofs.ShelfRead.{square_in}
-use Rattle.egt_check.specs.declared.part.Part.{Part}
 use Rattle.egt_check.specs.declared.part.Part.TheVariants as parts
-use Rattle.egt_check.proofs.RowJudged.{lane_is}
 use Rattle.egt_fill.proofs.LanesPut.{none_within, same_there}
 use Rattle.egt_fill.proofs.mending.wrong_clocks.Goals.{in-Values, in-Reach}
 use Rattle.egt_fill.proofs.mending.wrong_clocks.Goals as goal

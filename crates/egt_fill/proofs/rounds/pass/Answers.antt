@@ -1,8 +1,5 @@
-use Rattle.std.proofs.Common.{◌≡◌, ◌≢◌, ◌∙◌, ◌+◌, ◌<◌, refl, sym, true, length, slice_index_or, ap, arith}
-use Rattle.std.proofs.lemmas.Bool.{false≢true}
-use Rattle.std.proofs.lemmas.List.{get_or_default}
-use Rattle.egt_fill.specs.declared.items.Item.{Item}
-use Rattle.egt_fill.specs.declared.rounds.Visited.{Visited}
+use Rattle.egt_fill.specs.Prelude.{◌≡◌, ◌≢◌, ◌∙◌, ◌+◌, ◌<◌, refl, sym, true, length, slice_index_or, ap, arith}
+use Rattle.egt_fill.specs.Prelude.{false≢true, get_or_default, Item, Visited}
 use Rattle.egt_fill.specs.declared.rounds.Visited.TheVariants as visits
 use Rattle.egt_fill.proofs.PassKept.{carried, left_alone, looked_at, passed_by}
 use Rattle.egt_fill.proofs.PutEntries.{stays}

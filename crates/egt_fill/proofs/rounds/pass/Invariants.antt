@@ -1,8 +1,5 @@
-use Rattle.std.proofs.Common.{◌≡◌, length, false}
-use Rattle.egt_board.specs.Man.{other_side}
-use Rattle.egt_fill.specs.Mended.{IsMendedAt}
-use Rattle.egt_fill.specs.Rounds.{AreAllKept, AreFreshItems, IsUntouchedPass}
-use Rattle.egt_fill.specs.UnderWay.{IsUnderWay}
+use Rattle.egt_fill.specs.Prelude.{◌≡◌, length, false, other_side, IsMendedAt, AreAllKept, AreFreshItems}
+use Rattle.egt_fill.specs.Prelude.{IsUntouchedPass, IsUnderWay}
 use Rattle.egt_fill.proofs.rounds.pass.Given as goal
 
 -- where no item was looked at yet, all is as it was, and those that came before are fresh

@@ -1,7 +1,4 @@
-use Rattle.egt_board.specs.declared.man.Side.TheVariants.{Black, White}
-use Rattle.egt_fill.specs.Mended.{IsMendedAt}
-use Rattle.egt_fill.specs.Rounds.{AreAllKept}
-use Rattle.egt_fill.specs.UnderWay.{IsUnderWay}
+use Rattle.egt_fill.specs.Prelude.{Black, White, IsMendedAt, AreAllKept, IsUnderWay}
 use Rattle.egt_fill.proofs.rounds.settle_items.Given as goal
 
 abbrev pub invariant-loop : goal.invariant-loop

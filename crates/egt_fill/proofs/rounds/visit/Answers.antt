@@ -1,7 +1,4 @@
-use Rattle.std.proofs.Common.{◌≡◌, ◌≢◌, ◌<◌, length, arith, subst}
-use Rattle.egt_board.specs.Man.{other_side}
-use Rattle.egt_fill.specs.Forgotten.{AreForgotten}
-use Rattle.egt_fill.specs.declared.mending.Mended.{Mended}
+use Rattle.egt_fill.specs.Prelude.{◌≡◌, ◌≢◌, ◌<◌, length, arith, subst, other_side, AreForgotten, Mended}
 use Rattle.egt_fill.specs.declared.mending.Mended.TheVariants as mends
 use Rattle.egt_fill.proofs.KeysForgotten.{kept_after}
 use Rattle.egt_fill.proofs.rounds.visit.Goals as goal

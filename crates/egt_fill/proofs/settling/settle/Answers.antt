@@ -1,9 +1,5 @@
-use Rattle.std.proofs.Common.{◌≡◌, ℕ, List, Option, Vec, IfSome, sym, subst}
-use Rattle.std.specs.List.{All}
-use Rattle.egt_fill.specs.Begun.{AreNumbered}
-use Rattle.egt_fill.specs.Items.{IsItem}
-use Rattle.egt_fill.specs.UnderWay.{IsUnderWay}
-use Rattle.egt_fill.specs.declared.items.Item.{Item}
+use Rattle.egt_fill.specs.Prelude.{◌≡◌, ℕ, List, Option, Vec, IfSome, sym, subst, All, AreNumbered, IsItem, IsUnderWay}
+use Rattle.egt_fill.specs.Prelude.{Item}
 use Rattle.egt_fill.proofs.BegunWay.{begun_under_way}
 use Rattle.egt_fill.proofs.settling.settle.Goals as goal
 

@@ -1,7 +1,5 @@
-use Rattle.std.proofs.Common.{ℕ, ◌≤◌, ◌/◌, ◌%◌, ◌==◌, Bool, slice_index, arith, sym, subst, inl, inr}
-use Rattle.std.proofs.lemmas.Bool.{cases_eq}
-use Rattle.egt_board.specs.Turned.{turned_square}
-use Rattle.egt_fill.specs.Stamps.{stamp_place}
+use Rattle.egt_fill.specs.Prelude.{ℕ, ◌≤◌, ◌/◌, ◌%◌, ◌==◌, Bool, slice_index, arith, sym, subst, inl, inr, cases_eq}
+use Rattle.egt_fill.specs.Prelude.{turned_square, stamp_place}
 use Rattle.egt_fill.proofs.stamps.any_changed.Goals as goal
 
 pub loop-turn-preserved : goal.loop-turn-preserved

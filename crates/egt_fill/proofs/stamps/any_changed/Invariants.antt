@@ -1,6 +1,4 @@
-use Rattle.std.proofs.Common.{ℕ, ◌≤◌, ◌<◌, ◌/◌, ◌%◌, ◌==◌, slice_index}
-use Rattle.egt_board.specs.Turned.{turned_square}
-use Rattle.egt_fill.specs.Stamps.{stamp_place}
+use Rattle.egt_fill.specs.Prelude.{ℕ, ◌≤◌, ◌<◌, ◌/◌, ◌%◌, ◌==◌, slice_index, turned_square, stamp_place}
 use Rattle.egt_fill.proofs.stamps.any_changed.Given as goal
 
 -- no stamp is later after the turns so far

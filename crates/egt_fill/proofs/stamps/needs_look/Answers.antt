@@ -1,9 +1,4 @@
-use Rattle.std.proofs.Common.{◌∙◌, arith, sym, ap, subst, inl, inr}
-use Rattle.std.proofs.lemmas.Bool.{cases_eq}
-use Rattle.egt_board.specs.declared.man.Side.{Side}
-use Rattle.egt_index.specs.declared.shelf_codes.ShelfMen.{ShelfMen}
-use Rattle.egt_steps.specs.Stands.{with_king}
-use Rattle.egt_fill.specs.Turns.{TurnsTo}
+use Rattle.egt_fill.specs.Prelude.{◌∙◌, arith, sym, ap, subst, inl, inr, cases_eq, Side, ShelfMen, with_king, TurnsTo}
 use Rattle.egt_fill.proofs.stamps.needs_look.Goals as goal
 
 pub loop-to-init : goal.loop-to-init

@@ -1,10 +1,5 @@
-use Rattle.std.proofs.Common.{◌≡◌, ℕ, ◌≤◌, slice_index}
-use Rattle.std.specs.Int.{bit_at}
-use Rattle.egt_board.specs.Man.{other_side}
-use Rattle.egt_board.specs.declared.man.Side.{Side}
-use Rattle.egt_steps.specs.Stands.{IsBesideKing, with_king}
-use Rattle.egt_fill.specs.Stamps.{stamp_place}
-use Rattle.egt_fill.specs.Turns.{TurnsTo}
+use Rattle.egt_fill.specs.Prelude.{◌≡◌, ℕ, ◌≤◌, slice_index, bit_at, other_side, Side, IsBesideKing, with_king}
+use Rattle.egt_fill.specs.Prelude.{stamp_place, TurnsTo}
 use Rattle.egt_fill.proofs.stamps.needs_look.Given as goal
 
 -- no stamp is later after the king's steps so far

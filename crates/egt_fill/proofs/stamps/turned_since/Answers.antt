@@ -1,8 +1,5 @@
-use Rattle.std.proofs.Common.{◌∙◌, ◌%◌, ◌≤◌, true, slice_index, sym, subst}
-use Rattle.std.proofs.lemmas.Bool.{false≢true}
-use Rattle.egt_board.specs.declared.man.Side.{Side}
-use Rattle.egt_board.specs.Turned.{turned_square}
-use Rattle.egt_fill.specs.Stamps.{stamp_place}
+use Rattle.egt_fill.specs.Prelude.{◌∙◌, ◌%◌, ◌≤◌, true, slice_index, sym, subst, false≢true, Side, turned_square}
+use Rattle.egt_fill.specs.Prelude.{stamp_place}
 use Rattle.egt_fill.proofs.StampPlaces.{none_turned}
 use Rattle.egt_fill.proofs.stamps.turned_since.Goals as goal
 

@@ -1,12 +1,7 @@
-use Rattle.std.proofs.Common.{◌∙◌, ◌<◌, ℕ, Option, IfSome, subst, sym}
-use Rattle.egt_index.specs.Size.{size_of}
-use Rattle.egt_check.specs.ScoreRows.{CodeScores, IsDrawnIndex}
-use Rattle.egt_check.specs.declared.part.Part.TheVariants.{Reach}
-use Rattle.egt_entries.specs.Tables.{HasReachChildren, Tables, beside, table_at}
-use Rattle.egt_entries.specs.Truth.{HasTrueChildren, IsTrueTable}
-use Rattle.egt_table.specs.Table.{IsTable, TableValue}
+use Rattle.egt_fill.specs.Prelude.{◌∙◌, ◌<◌, ℕ, Option, IfSome, subst, sym, size_of, CodeScores, IsDrawnIndex, Reach}
+use Rattle.egt_fill.specs.Prelude.{HasReachChildren, Tables, beside, table_at, HasTrueChildren, IsTrueTable, IsTable}
+use Rattle.egt_fill.specs.Prelude.{TableValue, IsWithReach}
 use Rattle.egt_table.specs.declared.column.Column.TheVariants as columns
-use Rattle.egt_fill.specs.Filled.{IsWithReach}
 use Rattle.egt_fill.proofs.FilledTables.{KeepsAll, reach_is_true, with_true_reach}
 use Rattle.egt_fill.proofs.tables.filled_reach.Goals as goal
 

@@ -1,8 +1,5 @@
-use Rattle.std.proofs.Common.{◌≡◌, ◌∙◌, None, Option, IfSome, subst, sym}
-use Rattle.egt_check.specs.declared.part.Part.TheVariants.{Values}
-use Rattle.egt_entries.specs.Tables.{Tables, beside, table_at}
-use Rattle.egt_entries.specs.Truth.{HasTrueChildren, IsTrueTable}
-use Rattle.egt_table.specs.Table.{IsTable, TableValue}
+use Rattle.egt_fill.specs.Prelude.{◌≡◌, ◌∙◌, None, Option, IfSome, subst, sym, Values, Tables, beside, table_at}
+use Rattle.egt_fill.specs.Prelude.{HasTrueChildren, IsTrueTable, IsTable, TableValue}
 use Rattle.egt_fill.proofs.FilledTables.{KeepsAll, values_are_true}
 use Rattle.egt_fill.proofs.tables.filled_values.Goals as goal
 

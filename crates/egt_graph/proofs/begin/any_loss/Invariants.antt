@@ -1,6 +1,4 @@
-use Rattle.std.proofs.Common.{◌≡◌, false, take}
-use Rattle.std.specs.List.{list_any}
-use Rattle.egt_graph.specs.Columns.{is_loss}
+use Rattle.egt_graph.specs.Prelude.{◌≡◌, false, take, list_any, is_loss}
 use Rattle.egt_graph.proofs.begin.any_loss.Given as goal
 
 abbrev pub invariant-loop-exit : goal.invariant-loop-exit

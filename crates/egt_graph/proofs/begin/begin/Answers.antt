@@ -1,5 +1,4 @@
-use Rattle.std.proofs.Common.{ℕ, subst, arith}
-use Rattle.egt_graph.specs.Begin.{IsBegun}
+use Rattle.egt_graph.specs.Prelude.{ℕ, subst, arith, IsBegun}
 use Rattle.egt_graph.proofs.begin.begin.Goals as goal
 
 pub returns : goal.returns

@@ -1,6 +1,4 @@
-use Rattle.std.proofs.Common.{◌+◌, length, count_by, ap, ap₂, ◌∙◌}
-use Rattle.std.specs.List.{list_any}
-use Rattle.egt_graph.specs.Columns.{is_loss, is_win_from}
+use Rattle.egt_graph.specs.Prelude.{◌+◌, length, count_by, ap, ap₂, ◌∙◌, list_any, is_loss, is_win_from}
 use Rattle.egt_graph.proofs.Beginning.{Begun_more}
 use Rattle.egt_graph.proofs.begin.push_node.Goals as goal
 

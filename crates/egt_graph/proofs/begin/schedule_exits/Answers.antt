@@ -1,5 +1,4 @@
-use Rattle.std.proofs.lemmas.List.{get_or_default}
-use Rattle.egt_graph.specs.Columns.{is_win_of, is_loss_of}
+use Rattle.egt_graph.specs.Prelude.{get_or_default, is_win_of, is_loss_of}
 use Rattle.egt_graph.proofs.Beginning.{Adds_more}
 use Rattle.egt_graph.proofs.begin.schedule_exits.Goals as goal
 

@@ -1,6 +1,4 @@
-use Rattle.std.proofs.Common.{take}
-use Rattle.egt_graph.specs.Begin.{Adds}
-use Rattle.egt_graph.specs.Columns.{is_win_of, is_loss_of}
+use Rattle.egt_graph.specs.Prelude.{take, Adds, is_win_of, is_loss_of}
 use Rattle.egt_graph.proofs.begin.schedule_exits.Given as goal
 
 abbrev pub invariant-loop-exit : goal.invariant-loop-exit

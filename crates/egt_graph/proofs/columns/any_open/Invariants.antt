@@ -1,5 +1,4 @@
-use Rattle.std.proofs.Common.{ℕ, ◌<◌, IsFalse}
-use Rattle.egt_graph.specs.Columns.{is_open_at}
+use Rattle.egt_graph.specs.Prelude.{ℕ, ◌<◌, IsFalse, is_open_at}
 use Rattle.egt_graph.proofs.columns.any_open.Given as goal
 
 abbrev pub invariant-loop-i : goal.invariant-loop-i

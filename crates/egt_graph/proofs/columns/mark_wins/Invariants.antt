@@ -1,5 +1,4 @@
-use Rattle.std.proofs.Common.{take}
-use Rattle.egt_graph.specs.Columns.{Marks}
+use Rattle.egt_graph.specs.Prelude.{take, Marks}
 use Rattle.egt_graph.proofs.columns.mark_wins.Given as goal
 
 abbrev pub invariant-loop-node : goal.invariant-loop-node

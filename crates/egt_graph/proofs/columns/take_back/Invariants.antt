@@ -1,5 +1,4 @@
-use Rattle.std.proofs.Common.{take}
-use Rattle.egt_graph.specs.Columns.{TakesBack}
+use Rattle.egt_graph.specs.Prelude.{take, TakesBack}
 use Rattle.egt_graph.proofs.columns.take_back.Given as goal
 
 abbrev pub invariant-loop-node : goal.invariant-loop-node

@@ -1,5 +1,4 @@
-use Rattle.std.proofs.Common.{◌+◌, take}
-use Rattle.egt_graph.specs.Near.{Finds, led_from}
+use Rattle.egt_graph.specs.Prelude.{◌+◌, take, Finds, led_from}
 use Rattle.egt_graph.proofs.nearing.mark_sources.Given as goal
 
 abbrev pub invariant-loop-node : goal.invariant-loop-node

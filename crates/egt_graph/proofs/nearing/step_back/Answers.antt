@@ -1,8 +1,6 @@
-use Rattle.std.proofs.Common.{◌+◌, ◌∙◌, length, ap, subst, sym, refl, arith}
-use Rattle.std.proofs.lemmas.List.{with_items_is}
-use Rattle.egt_graph.specs.Columns.{is_loss_of, is_win_of}
+use Rattle.egt_graph.specs.Prelude.{◌+◌, ◌∙◌, length, ap, subst, sym, refl, arith, with_items_is, is_loss_of, is_win_of}
+use Rattle.egt_graph.specs.Prelude.{Finds}
 use Rattle.egt_graph.proofs.Nearby.{found_nodes, due_within, round_done, found_at}
-use Rattle.egt_graph.specs.Near.{Finds}
 use Rattle.egt_graph.proofs.nearing.step_back.Goals as goal
 
 pub find_next-requires-clause-nodes : goal.find_next-requires-clause-nodes

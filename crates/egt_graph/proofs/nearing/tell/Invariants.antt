@@ -1,5 +1,4 @@
-use Rattle.std.proofs.Common.{◌≡◌, ℕ, ◌<◌, ◌≤◌, length, slice_index}
-use Rattle.egt_graph.specs.Near.{near_of_entry}
+use Rattle.egt_graph.specs.Prelude.{◌≡◌, ℕ, ◌<◌, ◌≤◌, length, slice_index, near_of_entry}
 use Rattle.egt_graph.proofs.nearing.tell.Given as goal
 
 abbrev pub invariant-loop-i : goal.invariant-loop-i

@@ -1,5 +1,4 @@
-use Rattle.std.proofs.Common.{◌≡◌, ◌-◌, ◌≤◌, length}
-use Rattle.egt_graph.specs.Frontier.{frontier_below}
+use Rattle.egt_graph.specs.Prelude.{◌≡◌, ◌-◌, ◌≤◌, length, frontier_below}
 use Rattle.egt_graph.proofs.scan.frontier.Given as goal
 
 abbrev pub invariant-loop-from : goal.invariant-loop-from

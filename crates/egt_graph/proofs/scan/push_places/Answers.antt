@@ -1,6 +1,4 @@
-use Rattle.std.proofs.Common.{sym, ◌∙◌}
-use Rattle.std.proofs.Common.{slice_index}
-use Rattle.egt_graph.specs.Frontier.{is_entry_of_round}
+use Rattle.egt_graph.specs.Prelude.{sym, ◌∙◌, slice_index, is_entry_of_round}
 use Rattle.egt_graph.proofs.Ranges.{filter_below_yes, filter_below_no}
 use Rattle.egt_graph.proofs.scan.push_places.Goals as goal
 use Rattle.egt_graph.proofs.scan.push_places.Goals.{then-is_of_round, else-is_of_round}

@@ -1,5 +1,4 @@
-use Rattle.std.proofs.Common.{◌≡◌}
-use Rattle.egt_graph.specs.Frontier.{frontier_below}
+use Rattle.egt_graph.specs.Prelude.{◌≡◌, frontier_below}
 use Rattle.egt_graph.proofs.scan.push_places.Given as goal
 
 abbrev pub invariant-loop-place : goal.invariant-loop-place

@@ -1,5 +1,4 @@
-use Rattle.std.proofs.Common.{◌≡◌, ◌-◌, ◌≤◌}
-use Rattle.egt_graph.specs.declared.answer.Phase.TheVariants.{Running}
+use Rattle.egt_graph.specs.Prelude.{◌≡◌, ◌-◌, ◌≤◌, Running}
 use Rattle.egt_graph.proofs.solver.solve.Given as goal
 
 abbrev pub invariant-rounds : goal.invariant-rounds

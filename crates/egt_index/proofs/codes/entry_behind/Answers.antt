@@ -1,7 +1,4 @@
-use Rattle.std.proofs.Common.{Some, sym, subst}
-use Rattle.std.specs.Option.{option_to_list}
-use Rattle.egt_index.specs.Spelled.{Tells}
-use Rattle.egt_index.specs.Stood.{Entry, HasDigit, men_among}
+use Rattle.egt_index.specs.Prelude.{Some, sym, subst, option_to_list, Tells, Entry, HasDigit, men_among}
 use Rattle.egt_index.proofs.Splitting.{tells_one}
 use Rattle.egt_index.proofs.codes.entry_behind.Goals as goal
 

@@ -1,11 +1,5 @@
-use Rattle.std.proofs.Common.{sym, ap, arith, ◌++◌, ◌≢◌}
-use Rattle.std.proofs.lemmas.List.{map-append}
-use Rattle.std.specs.Option.{option_to_list}
-use Rattle.egt_board.specs.Attack.{king_of}
-use Rattle.egt_board.specs.Images.{side_number, kind_number}
-use Rattle.egt_board.specs.Pawn.{MayStand}
-use Rattle.egt_board.specs.declared.man.Side.TheVariants.{White, Black}
-use Rattle.egt_index.specs.Stood.{men_among}
+use Rattle.egt_index.specs.Prelude.{sym, ap, arith, ◌++◌, ◌≢◌, map-append, option_to_list, king_of, side_number}
+use Rattle.egt_index.specs.Prelude.{kind_number, MayStand, White, Black, men_among}
 use Rattle.egt_index.proofs.Splitting.{all_told}
 use Rattle.egt_index.proofs.codes.number_behind.Goals as goal
 

@@ -1,5 +1,4 @@
-use Rattle.std.proofs.Common.{false, IfNone, sym, subst}
-use Rattle.egt_index.specs.Index.{IsIndex, IsVoid}
+use Rattle.egt_index.specs.Prelude.{false, IfNone, sym, subst, IsIndex, IsVoid}
 use Rattle.egt_index.proofs.Classes.{spells_class}
 use Rattle.egt_index.proofs.Exists.{index_settled, index_spelled, one_index}
 use Rattle.egt_index.proofs.decoding.position.Goals as goal

@@ -1,14 +1,6 @@
-use Rattle.std.proofs.Common.{◌∙◌, IfNone, arith, refl, sym, subst}
-use Rattle.std.proofs.lemmas.Bool.{false≢true}
-use Rattle.egt_board.specs.Listed.{FitsBoard}
-use Rattle.egt_board.specs.Pawn.{PawnsFit}
-use Rattle.egt_board.specs.Placement.{Placement}
-use Rattle.egt_board.specs.Settled.{IsSettled}
-use Rattle.egt_board.specs.Setup.{IsAdmissible, IsKingOn, Setup}
-use Rattle.egt_board.specs.declared.man.Side.TheVariants.{White, Black}
-use Rattle.egt_class.specs.Material.{material_of}
-use Rattle.egt_index.specs.Code.{Spells}
-use Rattle.egt_index.specs.Stood.{list_of}
+use Rattle.egt_index.specs.Prelude.{◌∙◌, IfNone, arith, refl, sym, subst, false≢true, FitsBoard, PawnsFit, Placement}
+use Rattle.egt_index.specs.Prelude.{IsSettled, IsAdmissible, IsKingOn, Setup, White, Black, material_of, Spells}
+use Rattle.egt_index.specs.Prelude.{list_of}
 use Rattle.egt_index.proofs.Decoded.{has_pawns_list, list_spelled, no_men, spelled_setup}
 use Rattle.egt_index.proofs.Halves.{of_targets}
 use Rattle.egt_index.proofs.OnePosition.{spells_once}

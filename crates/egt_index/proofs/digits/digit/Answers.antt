@@ -1,7 +1,4 @@
-use Rattle.std.proofs.Common.{◌≡◌, ◌≢◌, arith, refl}
-use Rattle.egt_board.specs.declared.man.Kind.{Kind}
-use Rattle.egt_board.specs.declared.man.Kind.TheVariants.{Q, R, B, N, P, K}
-use Rattle.egt_index.specs.Scales.{kind_less}
+use Rattle.egt_index.specs.Prelude.{◌≡◌, ◌≢◌, arith, refl, Kind, Q, R, B, N, P, K, kind_less}
 use Rattle.egt_index.proofs.digits.digit.Goals as goal
 
 -- of no other man than a pawn the digit is less than the square

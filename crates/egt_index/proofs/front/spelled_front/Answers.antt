@@ -1,8 +1,5 @@
-use Rattle.std.proofs.Common.{◌∙◌, IfNone, arith, sym, ap, subst}
-use Rattle.std.proofs.lemmas.Bool.{false≢true}
+use Rattle.egt_index.specs.Prelude.{◌∙◌, IfNone, arith, sym, ap, subst, false≢true, SpellsNothing, with_last}
 use Rattle.std.specs.FinMap as map
-use Rattle.egt_index.specs.ShelfCodes.{SpellsNothing}
-use Rattle.egt_index.specs.Stood.{with_last}
 use Rattle.egt_index.proofs.Fronts.{apart_all, few_before}
 use Rattle.egt_index.proofs.RowMen.{apart_in_row, nothing_in_row}
 use Rattle.egt_index.proofs.Touching.{none_near}

@@ -1,14 +1,7 @@
-use Rattle.std.proofs.Common.{◌≢◌, ◌≡◌, ℕ, ◌/◌, ◌<◌, ◌==◌, ◌∷◌, [], Bool, Option, Some, None, cond, arith, ◌∙◌, sym, subst, ap}
-use Rattle.std.specs.Option.{is_some}
-use Rattle.egt_board.specs.Images.{side_number}
-use Rattle.egt_board.specs.Turned.{turned_side}
-use Rattle.egt_class.specs.Material.{material_of}
-use Rattle.egt_index.specs.Code.{king_square, target_digit}
-use Rattle.egt_index.specs.Digits.{number_from}
-use Rattle.egt_index.specs.Size.{king_base, has_pawns, has_target}
-use Rattle.egt_index.specs.Spelled.{Tells}
-use Rattle.egt_index.specs.Stood.{men_among, rest_of}
-use Rattle.egt_index.specs.Turns.{CodeAfter}
+use Rattle.egt_index.specs.Prelude.{◌≢◌, ◌≡◌, ℕ, ◌/◌, ◌<◌, ◌==◌, ◌∷◌, [], Bool, Option, Some, None, cond, arith, ◌∙◌}
+use Rattle.egt_index.specs.Prelude.{sym, subst, ap, is_some, side_number, turned_side, material_of, king_square}
+use Rattle.egt_index.specs.Prelude.{target_digit, number_from, king_base, has_pawns, has_target, Tells, men_among}
+use Rattle.egt_index.specs.Prelude.{rest_of, CodeAfter}
 use Rattle.egt_index.proofs.After.{ImageStood, image_stood, digits_after, code_stood}
 use Rattle.egt_index.proofs.Best.{king_after, none_after}
 use Rattle.egt_index.proofs.LeastTurn.{king_is}

@@ -1,8 +1,4 @@
-use Rattle.std.proofs.Common.{subst}
-use Rattle.egt_board.specs.Settled.{SettlesTo}
-use Rattle.egt_board.specs.Setup.{Setup}
-use Rattle.egt_index.specs.Stood.{HasStand}
-use Rattle.egt_index.specs.Turns.{Best}
+use Rattle.egt_index.specs.Prelude.{subst, SettlesTo, Setup, HasStand, Best}
 use Rattle.egt_index.proofs.Best.{best_at_last, index_found}
 use Rattle.egt_index.proofs.Turned.{settled_stand}
 use Rattle.egt_index.proofs.indexing.index.Goals.{After-least_standing}

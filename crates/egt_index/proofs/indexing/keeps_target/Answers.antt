@@ -1,9 +1,5 @@
-use Rattle.std.proofs.Common.{ℕ, ◌≡◌, Option, true, false, refl, ap, sym, ◌∙◌, inl, inr}
-use Rattle.std.proofs.lemmas.Bool.{false≢true}
-use Rattle.std.specs.Option.{is_some}
-use Rattle.std.specs.Prelude.{Bool, IsTrue, ◌↔◌}
-use Rattle.egt_board.specs.Setup.{Setup}
-use Rattle.egt_board.specs.Settled.{IsSettled, SettlesTo}
+use Rattle.egt_index.specs.Prelude.{ℕ, ◌≡◌, Option, true, false, refl, ap, sym, ◌∙◌, inl, inr, false≢true, is_some}
+use Rattle.egt_index.specs.Prelude.{Bool, IsTrue, ◌↔◌, Setup, IsSettled, SettlesTo}
 use Rattle.egt_index.proofs.indexing.keeps_target.Goals as goal
 
 abbrev target_in : Setup → Bool

@@ -1,8 +1,4 @@
-use Rattle.std.proofs.Common.{◌%◌, Some, None, sym, subst}
-use Rattle.egt_class.specs.Material.{material_of}
-use Rattle.egt_index.specs.Home.{AreHome, LeastWith}
-use Rattle.egt_index.specs.Size.{has_pawns}
-use Rattle.egt_index.specs.Stood.{HasStand}
+use Rattle.egt_index.specs.Prelude.{◌%◌, Some, None, sym, subst, material_of, AreHome, LeastWith, has_pawns, HasStand}
 use Rattle.egt_index.proofs.LeastTurn.{keeps_play, least_of_one, least_of_two, none_away}
 use Rattle.egt_index.proofs.indexing.least_with.Goals as goal
 

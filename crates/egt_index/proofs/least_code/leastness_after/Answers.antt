@@ -1,5 +1,4 @@
-use Rattle.std.proofs.Common.{◌/◌, ◌%◌, ◌+◌, ◌*◌, ℕ, cond, eqb, arith}
-use Rattle.egt_board.specs.Turned.{turned_square}
+use Rattle.egt_index.specs.Prelude.{◌/◌, ◌%◌, ◌+◌, ◌*◌, ℕ, cond, eqb, arith, turned_square}
 use Rattle.egt_index.proofs.Beating.{beaten_by_kings, kept_by_kings, same_by_kings}
 use Rattle.egt_index.proofs.least_code.leastness_after.Goals as goal
 

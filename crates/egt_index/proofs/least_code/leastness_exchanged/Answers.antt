@@ -1,13 +1,5 @@
-use Rattle.std.proofs.Common.{Bool, ℕ, true, false, Some, None, arith, refl, sym, inl, inr, subst}
-use Rattle.egt_board.specs.Setup.{Setup}
-use Rattle.egt_board.specs.declared.man.Side.{Side}
-use Rattle.egt_class.specs.Material.{material_of}
-use Rattle.egt_index.specs.Beaten.{HasKingsOn}
-use Rattle.egt_index.specs.Home.{AreHome}
-use Rattle.egt_index.specs.Size.{has_pawns}
-use Rattle.egt_index.specs.Stood.{HasStand}
-use Rattle.egt_index.specs.TurnedMen.{seen_across}
-use Rattle.egt_index.specs.declared.stand.Stand.{Stand}
+use Rattle.egt_index.specs.Prelude.{Bool, ℕ, true, false, Some, None, arith, refl, sym, inl, inr, subst, Setup, Side}
+use Rattle.egt_index.specs.Prelude.{material_of, HasKingsOn, AreHome, has_pawns, HasStand, seen_across, Stand}
 use Rattle.egt_index.proofs.Beating.{keeps_with, has_exchanged, turn_beaten, turn_kept}
 use Rattle.egt_index.proofs.least_code.leastness_exchanged.Goals.{After-leastness_after-one}
 use Rattle.egt_index.proofs.least_code.leastness_exchanged.Goals as goal

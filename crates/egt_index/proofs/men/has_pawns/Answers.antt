@@ -1,6 +1,4 @@
-use Rattle.std.proofs.Common.{ap, ◌∙◌, arith}
-use Rattle.egt_class.specs.Material.{material_of}
-use Rattle.egt_index.specs.Size.{has_pawns}
+use Rattle.egt_index.specs.Prelude.{ap, ◌∙◌, arith, material_of, has_pawns}
 use Rattle.egt_index.proofs.MenTable.{pawns_are}
 use Rattle.egt_index.proofs.men.has_pawns.Goals as goal
 

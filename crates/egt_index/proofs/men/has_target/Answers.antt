@@ -1,6 +1,4 @@
-use Rattle.std.proofs.Common.{ap, ◌∙◌}
-use Rattle.egt_class.specs.Material.{material_of}
-use Rattle.egt_index.specs.Size.{has_target}
+use Rattle.egt_index.specs.Prelude.{ap, ◌∙◌, material_of, has_target}
 use Rattle.egt_index.proofs.MenTable.{targets_are}
 use Rattle.egt_index.proofs.men.has_target.Goals as goal
 

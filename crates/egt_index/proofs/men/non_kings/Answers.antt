@@ -1,9 +1,5 @@
-use Rattle.std.proofs.Common.{◌≡◌, true, subst, ap, ◌∙◌, arith}
-use Rattle.std.specs.Prelude.{slice_index_or}
-use Rattle.egt_class.specs.Material.{material_of}
-use Rattle.egt_index.specs.Size.{men_beside}
-use Rattle.egt_index.specs.First.{tells_colours}
-use Rattle.egt_index.specs.declared.men.TheConstants.{NON_KINGS}
+use Rattle.egt_index.specs.Prelude.{◌≡◌, true, subst, ap, ◌∙◌, arith, slice_index_or, material_of, men_beside}
+use Rattle.egt_index.specs.Prelude.{tells_colours, NON_KINGS}
 use Rattle.egt_index.proofs.Flipped.{first_tells}
 use Rattle.egt_index.proofs.MenTable.{row_is, no_king, from_first}
 use Rattle.egt_index.proofs.men.non_kings.Goals as goal

@@ -1,7 +1,4 @@
-use Rattle.std.proofs.Common.{arith, subst}
-use Rattle.egt_class.specs.Material.{material_of}
-use Rattle.egt_index.specs.Home.{AreHome}
-use Rattle.egt_index.specs.Size.{has_pawns}
+use Rattle.egt_index.specs.Prelude.{arith, subst, material_of, AreHome, has_pawns}
 use Rattle.egt_index.proofs.Nearing.{nearest_of_one, nearest_of_two}
 use Rattle.egt_index.proofs.nearer.home_kings.Goals as goal
 

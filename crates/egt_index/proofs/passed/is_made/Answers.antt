@@ -1,13 +1,7 @@
-use Rattle.std.proofs.Common.{◌≡◌, IfSome, arith, ◌∙◌, ap, sym, refl, subst}
-use Rattle.std.proofs.lemmas.Bool.{false≢true}
+use Rattle.egt_index.specs.Prelude.{◌≡◌, IfSome, arith, ◌∙◌, ap, sym, refl, subst, false≢true, men_of, setup_of}
+use Rattle.egt_index.specs.Prelude.{PawnsFit, IsFree, Placement, IsAdmissible, IsKingOn, IsSettled, Black, White}
+use Rattle.egt_index.specs.Prelude.{list_of}
 use Rattle.std.specs.FinMap as map
-use Rattle.egt_board.specs.Listed.{men_of, setup_of}
-use Rattle.egt_board.specs.Pawn.{PawnsFit}
-use Rattle.egt_board.specs.Placement.{IsFree, Placement}
-use Rattle.egt_board.specs.Setup.{IsAdmissible, IsKingOn}
-use Rattle.egt_board.specs.Settled.{IsSettled}
-use Rattle.egt_board.specs.declared.man.Side.TheVariants.{Black, White}
-use Rattle.egt_index.specs.Stood.{list_of}
 use Rattle.egt_index.proofs.Fronts.{few_with}
 use Rattle.egt_index.proofs.Passing.{at_digit, board_made, kings_there, made_off, made_setup, off_free, pawns_fit, pawns_there, setup_made}
 use Rattle.egt_index.proofs.Setups.{on_board_of}

@@ -1,5 +1,4 @@
-use Rattle.std.proofs.Common.{true}
-use Rattle.egt_class.specs.Material.{material_of}
+use Rattle.egt_index.specs.Prelude.{true, material_of}
 use Rattle.egt_index.proofs.Decoded.{no_men}
 use Rattle.egt_index.proofs.Passing.{passes_nothing}
 use Rattle.egt_index.proofs.passed.may_pass.Goals as goal

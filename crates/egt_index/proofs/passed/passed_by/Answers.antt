@@ -1,5 +1,4 @@
-use Rattle.std.proofs.Common.{◌-◌, arith, ◌∙◌, ap, sym}
-use Rattle.std.proofs.lemmas.Bool.{lt-ltb}
+use Rattle.egt_index.specs.Prelude.{◌-◌, arith, ◌∙◌, ap, sym, lt-ltb}
 use Rattle.egt_index.proofs.Passing.{both_made, none_made}
 use Rattle.egt_index.proofs.passed.passed_by.Goals as goal
 

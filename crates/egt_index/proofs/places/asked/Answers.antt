@@ -1,7 +1,4 @@
-use Rattle.std.proofs.Common.{◌≡◌, ◌+◌, ◌*◌, ℕ, if◌then◌else◌, arith, ap, ◌∙◌, subst}
-use Rattle.std.specs.Int.{bit_at}
-use Rattle.egt_index.specs.Numbers.{code_of}
-use Rattle.egt_index.specs.Places.{TellsIndex}
+use Rattle.egt_index.specs.Prelude.{◌≡◌, ◌+◌, ◌*◌, ℕ, if◌then◌else◌, arith, ap, ◌∙◌, subst, bit_at, code_of, TellsIndex}
 use Rattle.egt_index.proofs.IndexTotal.{few}
 use Rattle.egt_index.proofs.Numbered.{indexed_all, indexed_more, place_within}
 use Rattle.egt_index.proofs.places.asked.Goals as goal

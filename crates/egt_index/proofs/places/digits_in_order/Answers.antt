@@ -1,6 +1,4 @@
-use Rattle.std.proofs.Common.{◌+◌, arith}
-use Rattle.std.proofs.lemmas.Grind.{common_steps}
-use Rattle.egt_index.specs.Scales.{kind_less}
+use Rattle.egt_index.specs.Prelude.{◌+◌, arith, common_steps, kind_less}
 use Rattle.egt_index.proofs.Placing.{free_bits, ordered_bits}
 use Rattle.egt_index.proofs.places.digits_in_order.Goals as goal
 

@@ -1,7 +1,5 @@
-use Rattle.std.proofs.Common.{◌≡◌, ◌↔◌, ◌+◌, ◌<◌, bit_and, ◌/◌, sym, subst, arith}
-use Rattle.std.specs.Int.{bit_at}
-use Rattle.egt_board.specs.declared.man.Kind.{Kind}
-use Rattle.egt_index.specs.Scales.{kind_digits, kind_less}
+use Rattle.egt_index.specs.Prelude.{◌≡◌, ◌↔◌, ◌+◌, ◌<◌, bit_and, ◌/◌, sym, subst, arith, bit_at, Kind, kind_digits}
+use Rattle.egt_index.specs.Prelude.{kind_less}
 use Rattle.egt_index.proofs.Placing.{man_bits, pawn_bits}
 use Rattle.egt_index.proofs.places.digits_on.Goals as goal
 

@@ -1,6 +1,4 @@
-use Rattle.std.proofs.Common.{◌+◌, Some, arith}
-use Rattle.egt_index.specs.Scales.{kind_less}
-use Rattle.egt_index.specs.Stood.{IsInOrder}
+use Rattle.egt_index.specs.Prelude.{◌+◌, Some, arith, kind_less, IsInOrder}
 use Rattle.egt_index.proofs.Placing.{bits_among}
 use Rattle.egt_index.proofs.places.in_order.Goals as goal
 

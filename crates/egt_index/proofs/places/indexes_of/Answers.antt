@@ -1,9 +1,5 @@
-use Rattle.std.proofs.Common.{arith, ◌≡◌, ◌<◌, ◌*◌, ◌≤◌, Option, None, Some, IfSome, IfNone, Bool, ℕ, refl, sym, subst, ◌∙◌}
-use Rattle.std.proofs.lemmas.Bool.{false≢true}
-use Rattle.std.specs.Option.{IsSome}
-use Rattle.egt_index.specs.Numbers.{places}
-use Rattle.egt_index.specs.ShelfCodes.{IsShelfBehind, IsWithin}
-use Rattle.egt_index.specs.Size.{size_of}
+use Rattle.egt_index.specs.Prelude.{arith, ◌≡◌, ◌<◌, ◌*◌, ◌≤◌, Option, None, Some, IfSome, IfNone, Bool, ℕ, refl, sym}
+use Rattle.egt_index.specs.Prelude.{subst, ◌∙◌, false≢true, IsSome, places, IsShelfBehind, IsWithin, size_of}
 use Rattle.egt_index.proofs.Halves.{of_targets, places_some}
 use Rattle.egt_index.proofs.Numbered.{no_indexes}
 use Rattle.egt_index.proofs.places.indexes_of.Goals as goal

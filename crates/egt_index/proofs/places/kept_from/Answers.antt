@@ -1,9 +1,4 @@
-use Rattle.std.proofs.Common.{◌≡◌, ◌↔◌, arith, sym, ◌∙◌, subst}
-use Rattle.std.specs.Int.{bit_at}
-use Rattle.std.proofs.lemmas.Grind.{common_steps}
-use Rattle.egt_board.specs.AttackLines.{Reaches}
-use Rattle.egt_board.specs.Safety.{IsKeptFrom}
-use Rattle.egt_board.specs.declared.man.Man.{Man}
+use Rattle.egt_index.specs.Prelude.{◌≡◌, ◌↔◌, arith, sym, ◌∙◌, subst, bit_at, common_steps, Reaches, IsKeptFrom, Man}
 use Rattle.egt_index.proofs.Facing.{kept_own}
 use Rattle.egt_index.proofs.places.kept_from.Goals.{After-without}
 use Rattle.egt_index.proofs.places.kept_from.Goals as goal

@@ -1,13 +1,6 @@
-use Rattle.std.proofs.Common.{◌≢◌, ℕ, Option, None, Some, IfSome, arith, subst, ◌∙◌}
-use Rattle.egt_board.specs.Attack.{king_of}
-use Rattle.egt_board.specs.declared.man.Man.{Man}
-use Rattle.egt_board.specs.declared.man.Side.TheVariants.{White}
-use Rattle.egt_class.specs.Material.{material_of}
-use Rattle.egt_index.specs.Front.{IsFront, IsFrontOf}
-use Rattle.egt_index.specs.ShelfCodes.{AreIndexes, IsShelfBehind}
-use Rattle.egt_index.specs.Size.{men_beside}
-use Rattle.egt_index.specs.declared.front.Front.{Front}
-use Rattle.egt_index.specs.declared.places.Places.{Places}
+use Rattle.egt_index.specs.Prelude.{◌≢◌, ℕ, Option, None, Some, IfSome, arith, subst, ◌∙◌, king_of, Man, White}
+use Rattle.egt_index.specs.Prelude.{material_of, IsFront, IsFrontOf, AreIndexes, IsShelfBehind, men_beside, Front}
+use Rattle.egt_index.specs.Prelude.{Places}
 use Rattle.egt_index.proofs.Fronts.{last_beside}
 use Rattle.egt_index.proofs.Numbered.{none_indexed}
 use Rattle.egt_index.proofs.places.places_by_front.Goals as goal

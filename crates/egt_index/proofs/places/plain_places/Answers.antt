@@ -1,5 +1,4 @@
-use Rattle.std.proofs.Common.{arith}
-use Rattle.egt_board.specs.declared.man.Side.TheVariants.{White, Black}
+use Rattle.egt_index.specs.Prelude.{arith, White, Black}
 use Rattle.egt_index.proofs.Placing.{made_bits}
 use Rattle.egt_index.proofs.places.plain_places.Goals as goal
 

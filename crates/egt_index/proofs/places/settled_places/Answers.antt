@@ -1,6 +1,4 @@
-use Rattle.std.proofs.Common.{Bool, sym, subst, ◌∙◌}
-use Rattle.std.proofs.lemmas.Bool.{false≢true}
-use Rattle.egt_index.specs.Places.{AreMade}
+use Rattle.egt_index.specs.Prelude.{Bool, sym, subst, ◌∙◌, false≢true, AreMade}
 use Rattle.egt_index.proofs.Halves.{of_targets}
 use Rattle.egt_index.proofs.places.settled_places.Goals as goal
 

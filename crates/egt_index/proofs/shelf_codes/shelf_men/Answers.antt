@@ -1,10 +1,5 @@
-use Rattle.std.proofs.Common.{◌≢◌, ◌∙◌, IfSome, IfNone, Option, arith, refl, sym, subst}
-use Rattle.egt_board.specs.Attack.{king_of}
-use Rattle.egt_board.specs.declared.man.Man.{Man}
-use Rattle.egt_board.specs.declared.man.Side.TheVariants.{White}
-use Rattle.egt_class.specs.Material.{material_of}
-use Rattle.egt_index.specs.ShelfCodes.{HasTwoBeside, IsWithin}
-use Rattle.egt_index.specs.Size.{men_beside}
+use Rattle.egt_index.specs.Prelude.{◌≢◌, ◌∙◌, IfSome, IfNone, Option, arith, refl, sym, subst, king_of, Man, White}
+use Rattle.egt_index.specs.Prelude.{material_of, HasTwoBeside, IsWithin, men_beside}
 use Rattle.egt_index.proofs.Fronts.{last_beside}
 use Rattle.egt_index.proofs.ShelfCodes.{first_beside, shelf_before}
 use Rattle.egt_index.proofs.ShelfFound.{none_within, one_before, some_before}

@@ -1,8 +1,5 @@
-use Rattle.std.proofs.Common.{◌+◌, ◌*◌, ◌<◌, ◌≡◌, ◌∙◌, Option, None, Some, IfSome, IfNone, ℕ, arith, ap, subst}
-use Rattle.egt_index.specs.Code.{king_square}
-use Rattle.egt_index.specs.Scales.{kind_digits}
-use Rattle.egt_index.specs.ShelfCodes.{HasShelf, IsShelfBehind, IsShelfOf}
-use Rattle.egt_index.specs.Size.{king_base}
+use Rattle.egt_index.specs.Prelude.{◌+◌, ◌*◌, ◌<◌, ◌≡◌, ◌∙◌, Option, None, Some, IfSome, IfNone, ℕ, arith, ap, subst}
+use Rattle.egt_index.specs.Prelude.{king_square, kind_digits, HasShelf, IsShelfBehind, IsShelfOf, king_base}
 use Rattle.egt_index.proofs.ShelfCodes.{last_told, shelf_on}
 use Rattle.egt_index.proofs.ShelfFound.{a_shelf_behind}
 use Rattle.egt_index.proofs.shelf_codes.shelf_of.Goals.{After-shelf_behind}

@@ -1,13 +1,6 @@
-use Rattle.std.proofs.Common.{◌≡◌, ℕ, List, ◌∷◌, [], ◌++◌, IfSome, arith, sym, ap, ◌∙◌, subst}
+use Rattle.egt_index.specs.Prelude.{◌≡◌, ℕ, List, ◌∷◌, [], ◌++◌, IfSome, arith, sym, ap, ◌∙◌, subst, option_to_list}
+use Rattle.egt_index.specs.Prelude.{king_of, men_of, Placement, IsFree, Man, White, Black, list_of, with_entry, Stand}
 use Rattle.std.specs.FinMap as map
-use Rattle.std.specs.Option.{option_to_list}
-use Rattle.egt_board.specs.Attack.{king_of}
-use Rattle.egt_board.specs.Listed.{men_of}
-use Rattle.egt_board.specs.Placement.{Placement, IsFree}
-use Rattle.egt_board.specs.declared.man.Man.{Man}
-use Rattle.egt_board.specs.declared.man.Side.TheVariants.{White, Black}
-use Rattle.egt_index.specs.Stood.{list_of, with_entry}
-use Rattle.egt_index.specs.declared.stand.Stand.{Stand}
 use Rattle.egt_index.proofs.Boarding.{apart_before, entry_free, entry_put, one_at_most, two_at_most}
 use Rattle.egt_index.proofs.Listing.{few_listed}
 use Rattle.egt_index.proofs.spelling.board_of.Goals.{After-with_entry}

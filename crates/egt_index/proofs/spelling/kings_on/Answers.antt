@@ -1,11 +1,6 @@
-use Rattle.std.proofs.Common.{◌≡◌, ◌≢◌, ℕ, List, ◌∷◌, [], Some, sym, ap, ◌∙◌, arith, subst, refl}
+use Rattle.egt_index.specs.Prelude.{◌≡◌, ◌≢◌, ℕ, List, ◌∷◌, [], Some, sym, ap, ◌∙◌, arith, subst, refl, king_of, men_of}
+use Rattle.egt_index.specs.Prelude.{Placement, IsFree, Man, White, Black, with_entry, AllApart}
 use Rattle.std.specs.FinMap as map
-use Rattle.egt_board.specs.Attack.{king_of}
-use Rattle.egt_board.specs.Listed.{men_of}
-use Rattle.egt_board.specs.Placement.{Placement, IsFree}
-use Rattle.egt_board.specs.declared.man.Man.{Man}
-use Rattle.egt_board.specs.declared.man.Side.TheVariants.{White, Black}
-use Rattle.egt_index.specs.Stood.{with_entry, AllApart}
 use Rattle.egt_index.proofs.Boarding.{entry_free, entry_put}
 use Rattle.egt_index.proofs.Listing.{few_listed}
 use Rattle.egt_index.proofs.spelling.kings_on.Goals.{After-with_entry-board}

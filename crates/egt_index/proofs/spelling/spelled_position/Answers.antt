@@ -1,14 +1,6 @@
-use Rattle.std.proofs.Common.{◌≡◌, ◌<◌, ◌∙◌, Bool, Option, ℕ, arith, sym, subst}
-use Rattle.egt_board.specs.Listed.{FitsBoard, setup_of}
-use Rattle.egt_board.specs.Placement.{Placement}
-use Rattle.egt_board.specs.Setup.{Setup, IsAdmissible, IsKingOn}
-use Rattle.egt_board.specs.declared.man.Side.{Side}
-use Rattle.egt_board.specs.declared.man.Side.TheVariants.{White, Black}
-use Rattle.egt_index.specs.Code.{Spells}
-use Rattle.egt_index.specs.Spelled.{IsTold}
-use Rattle.egt_index.specs.TellsMen.{TellsMen}
-use Rattle.egt_index.specs.Stood.{list_of}
-use Rattle.egt_index.specs.declared.stand.Stand.{Stand}
+use Rattle.egt_index.specs.Prelude.{◌≡◌, ◌<◌, ◌∙◌, Bool, Option, ℕ, arith, sym, subst, FitsBoard, setup_of, Placement}
+use Rattle.egt_index.specs.Prelude.{Setup, IsAdmissible, IsKingOn, Side, White, Black, Spells, IsTold, TellsMen}
+use Rattle.egt_index.specs.Prelude.{list_of, Stand}
 use Rattle.egt_index.proofs.Decoded.{spelled_setup}
 use Rattle.egt_index.proofs.Setups.{AreKings, fits_apart, kings_spelled, on_board_of}
 use Rattle.egt_index.proofs.spelling.spelled_position.Goals as goal

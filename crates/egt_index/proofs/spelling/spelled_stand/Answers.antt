@@ -1,10 +1,5 @@
-use Rattle.std.proofs.Common.{◌≡◌, Option, Some, None, IfNone, IfSome, subst, refl, sym, ◌∙◌}
-use Rattle.std.proofs.lemmas.Bool.{false≢true}
-use Rattle.std.specs.Option.{IsSome}
-use Rattle.egt_class.specs.Material.{material_of}
-use Rattle.egt_index.specs.Spelled.{SpellsMen, SpellsNoMen}
-use Rattle.egt_index.specs.Stood.{IsFilled, list_of}
-use Rattle.egt_index.specs.declared.stand.Stand.{Stand}
+use Rattle.egt_index.specs.Prelude.{◌≡◌, Option, Some, None, IfNone, IfSome, subst, refl, sym, ◌∙◌, false≢true, IsSome}
+use Rattle.egt_index.specs.Prelude.{material_of, SpellsMen, SpellsNoMen, IsFilled, list_of, Stand}
 use Rattle.egt_index.proofs.AtIndex.{taken}
 use Rattle.egt_index.proofs.Decoded.{has_pawns_list, no_men}
 use Rattle.egt_index.proofs.Halves.{of_targets}

@@ -1,8 +1,5 @@
-use Rattle.std.proofs.Common.{◌<◌, ◌≤◌, ap, sym, ◌∙◌, subst, IfNone}
-use Rattle.egt_class.specs.Material.{material_of}
-use Rattle.egt_index.specs.Code.{king_square}
-use Rattle.egt_index.specs.Front.{IsNoneBefore}
-use Rattle.egt_index.specs.Size.{king_base, has_pawns}
+use Rattle.egt_index.specs.Prelude.{◌<◌, ◌≤◌, ap, sym, ◌∙◌, subst, IfNone, material_of, king_square, IsNoneBefore}
+use Rattle.egt_index.specs.Prelude.{king_base, has_pawns}
 use Rattle.egt_index.proofs.Fronts.{is_before, none_before}
 use Rattle.egt_index.proofs.spelling.stand_before.Goals as goal
 

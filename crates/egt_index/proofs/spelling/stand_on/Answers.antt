@@ -1,8 +1,4 @@
-use Rattle.std.proofs.Common.{sym, subst, IfNone}
-use Rattle.egt_class.specs.Material.{material_of}
-use Rattle.egt_index.specs.Spelled.{SpellsMen, SpellsNoMen}
-use Rattle.egt_index.specs.Stood.{IsFilled, list_of}
-use Rattle.egt_index.specs.declared.stand.Stand.{Stand}
+use Rattle.egt_index.specs.Prelude.{sym, subst, IfNone, material_of, SpellsMen, SpellsNoMen, IsFilled, list_of, Stand}
 use Rattle.egt_index.proofs.spelling.stand_on.Goals as goal
 
 pub returns-in_err-before-clause-none : goal.returns-in_err-before-clause-none

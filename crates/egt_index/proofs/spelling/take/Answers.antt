@@ -1,6 +1,4 @@
-use Rattle.std.proofs.Common.{ap, sym, subst, ◌∷◌, []}
-use Rattle.std.specs.Option.{option_to_list}
-use Rattle.egt_index.specs.Spelled.{Tells}
+use Rattle.egt_index.specs.Prelude.{ap, sym, subst, ◌∷◌, [], option_to_list, Tells}
 use Rattle.egt_index.proofs.Splitting.{tells_one}
 use Rattle.egt_index.proofs.spelling.take.Goals as goal
 

@@ -1,8 +1,4 @@
-use Rattle.std.proofs.Common.{ap, sym, subst}
-use Rattle.std.specs.Option.{option_to_list}
-use Rattle.egt_class.specs.Material.{material_of}
-use Rattle.egt_index.specs.Size.{men_beside}
-use Rattle.egt_index.specs.Spelled.{Tells}
+use Rattle.egt_index.specs.Prelude.{ap, sym, subst, option_to_list, material_of, men_beside, Tells}
 use Rattle.egt_index.proofs.Fronts.{last_beside}
 use Rattle.egt_index.proofs.spelling.take_last.Goals as goal
 

@@ -1,7 +1,4 @@
-use Rattle.std.proofs.Common.{subst, arith}
-use Rattle.std.specs.Option.{option_to_list}
-use Rattle.egt_board.specs.AllMen.{HasBeside, in_any_order}
-use Rattle.egt_board.specs.Placement.{Placement}
+use Rattle.egt_index.specs.Prelude.{subst, arith, option_to_list, HasBeside, in_any_order, Placement}
 use Rattle.egt_index.proofs.Flipped.{colours_told}
 use Rattle.egt_index.proofs.stand.standing_of.Goals as goal
 

@@ -1,7 +1,5 @@
-use Rattle.std.proofs.Common.{arith, ◌∙◌, ◌+◌, ◌*◌}
-use Rattle.std.specs.Prelude.{slice_index}
+use Rattle.egt_index.specs.Prelude.{arith, ◌∙◌, ◌+◌, ◌*◌, slice_index, TURNED}
 use Rattle.egt_index.proofs.TurnTable.{TurnEntry, entry_told}
-use Rattle.egt_index.specs.declared.turning.TheConstants.{TURNED}
 use Rattle.egt_index.proofs.turning.turned_square.Goals as goal
 
 pub at-requires : goal.at-requires

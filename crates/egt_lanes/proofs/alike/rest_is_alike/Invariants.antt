@@ -1,5 +1,4 @@
-use Rattle.std.specs.Prelude.{ℕ, ◌≤◌, ◌<◌, slice_index}
-use Rattle.egt_lanes.specs.Alike.{AreVoidOrAlike}
+use Rattle.egt_lanes.specs.Prelude.{ℕ, ◌≤◌, ◌<◌, slice_index, AreVoidOrAlike}
 use Rattle.egt_lanes.proofs.alike.rest_is_alike.Given as goal
 
 -- the places so far

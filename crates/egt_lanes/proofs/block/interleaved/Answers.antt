@@ -1,5 +1,4 @@
-use Rattle.std.proofs.Common.{ℕ, List, arith}
-use Rattle.std.proofs.Math.ListN.{length-set}
+use Rattle.egt_lanes.specs.Prelude.{ℕ, List, arith, length-set}
 use Rattle.egt_lanes.proofs.Weaving.{two_rows}
 use Rattle.egt_lanes.proofs.block.interleaved.Goals as goal
 

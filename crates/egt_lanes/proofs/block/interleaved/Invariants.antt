@@ -1,5 +1,4 @@
-use Rattle.std.proofs.Common.{◌≡◌, ℕ, ◌<◌, ◌+◌, ◌*◌, ◌/◌, ◌%◌, List, length}
-use Rattle.egt_lanes.specs.Blocks.{at}
+use Rattle.egt_lanes.specs.Prelude.{◌≡◌, ℕ, ◌<◌, ◌+◌, ◌*◌, ◌/◌, ◌%◌, List, length, at}
 use Rattle.egt_lanes.proofs.block.interleaved.Given as goal
 
 -- two rows a time are written

@@ -1,7 +1,4 @@
-use Rattle.std.proofs.Common.{◌≡◌, ◌∙◌, arith, inl, inr, subst}
-use Rattle.std.proofs.lemmas.Bool.{cases_eq, cases_lt}
-use Rattle.std.proofs.lemmas.List.{get_or-replicate}
-use Rattle.egt_lanes.specs.Blocks.{at}
+use Rattle.egt_lanes.specs.Prelude.{◌≡◌, ◌∙◌, arith, inl, inr, subst, cases_eq, cases_lt, get_or-replicate, at}
 use Rattle.egt_lanes.proofs.block.is_blank.Goals as goal
 
 pub loop-i-preserved : goal.loop-i-preserved

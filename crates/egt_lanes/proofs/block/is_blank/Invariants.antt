@@ -1,5 +1,4 @@
-use Rattle.std.proofs.Common.{◌≡◌, ℕ, ◌<◌}
-use Rattle.egt_lanes.specs.Blocks.{at}
+use Rattle.egt_lanes.specs.Prelude.{◌≡◌, ℕ, ◌<◌, at}
 use Rattle.egt_lanes.proofs.block.is_blank.Given as goal
 
 -- the rows below i are

@@ -1,5 +1,4 @@
-use Rattle.std.proofs.Common.{max, arith, ap, ◌∙◌}
-use Rattle.egt_lanes.specs.Blocks.{at}
+use Rattle.egt_lanes.specs.Prelude.{max, arith, ap, ◌∙◌, at}
 use Rattle.egt_lanes.proofs.Weaving.{exchanged}
 use Rattle.egt_lanes.proofs.block.raise_transposed.Goals as goal
 

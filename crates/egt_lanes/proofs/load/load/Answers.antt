@@ -1,5 +1,4 @@
-use Rattle.std.proofs.Common.{◌+◌, ◌*◌, ◌<◌, ◌∙◌, arith}
-use Rattle.egt_board.specs.Images.{side_number}
+use Rattle.egt_lanes.specs.Prelude.{◌+◌, ◌*◌, ◌<◌, ◌∙◌, arith, side_number}
 use Rattle.egt_lanes.proofs.Entries.{joined_at, side_number-small}
 use Rattle.egt_lanes.proofs.load.load.Goals as goal
 

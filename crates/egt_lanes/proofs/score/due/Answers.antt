@@ -1,5 +1,4 @@
-use Rattle.std.proofs.Common.{◌≡◌, get_or, subst, arith}
-use Rattle.egt_lanes.specs.Scores.{due_score}
+use Rattle.egt_lanes.specs.Prelude.{◌≡◌, get_or, subst, arith, due_score}
 use Rattle.egt_lanes.proofs.Rows.{due, due_at}
 use Rattle.egt_lanes.proofs.score.due.Goals as goal
 

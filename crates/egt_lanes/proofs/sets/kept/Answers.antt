@@ -1,8 +1,6 @@
-use Rattle.std.proofs.Common.{◌≡◌, get_or, replicate, ◌%◌, ◌^◌, ◌/◌, length, bit_and, eqb, cond, ap, ◌∙◌, arith}
-use Rattle.std.specs.Int.{bit_at}
-use Rattle.std.proofs.lemmas.Simd.{get_or-zip2, length-zip2, get_or-replicate}
+use Rattle.egt_lanes.specs.Prelude.{◌≡◌, get_or, replicate, ◌%◌, ◌^◌, ◌/◌, length, bit_and, eqb, cond, ap, ◌∙◌, arith}
+use Rattle.egt_lanes.specs.Prelude.{bit_at, get_or-zip2, length-zip2, get_or-replicate, FILE_BITS}
 use lib.Lanes.{zip2}
-use Rattle.egt_lanes.specs.declared.sets.TheConstants.{FILE_BITS}
 use Rattle.egt_lanes.proofs.Rows.{same_at}
 use Rattle.egt_lanes.proofs.RankBytes.{has_bit}
 use Rattle.egt_lanes.proofs.Tests.{agreed}

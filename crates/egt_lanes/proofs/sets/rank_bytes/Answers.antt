@@ -1,7 +1,6 @@
-use Rattle.std.proofs.Common.{◌≡◌, get_or, replicate, ◌+◌, ◌*◌, ◌<◌, ◌^◌, ◌/◌, ◌∙◌, ap, refl, arith}
-use Rattle.std.proofs.lemmas.Simd.{get_or_narrower, Each1-replicate}
+use Rattle.egt_lanes.specs.Prelude.{◌≡◌, get_or, replicate, ◌+◌, ◌*◌, ◌<◌, ◌^◌, ◌/◌, ◌∙◌, ap, refl, arith}
+use Rattle.egt_lanes.specs.Prelude.{get_or_narrower, Each1-replicate, RANKS}
 use lib.Lanes.{digits_l, number_l}
-use Rattle.egt_lanes.specs.declared.sets.TheConstants.{RANKS}
 use Rattle.egt_lanes.proofs.Picks.{picked}
 use Rattle.egt_lanes.proofs.sets.rank_bytes.Goals as goal
 

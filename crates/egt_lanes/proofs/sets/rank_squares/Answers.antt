@@ -1,5 +1,4 @@
-use Rattle.std.proofs.Common.{◌*◌, ◌/◌, ◌%◌, ◌^◌, ℕ, cond, eqb}
-use Rattle.std.specs.Int.{bit_at}
+use Rattle.egt_lanes.specs.Prelude.{◌*◌, ◌/◌, ◌%◌, ◌^◌, ℕ, cond, eqb, bit_at}
 use Rattle.egt_lanes.proofs.Tests.{equals, passed, passes_below}
 use Rattle.egt_lanes.proofs.sets.rank_squares.Goals as goal
 

@@ -1,6 +1,4 @@
-use Rattle.std.proofs.Common.{◌≡◌, get_or, replicate, eqb, cond, ap, ◌∙◌, arith}
-use Rattle.std.proofs.lemmas.Simd.{get_or-replicate}
-use Rattle.egt_lanes.specs.declared.sets.TheConstants.{SQUARES}
+use Rattle.egt_lanes.specs.Prelude.{◌≡◌, get_or, replicate, eqb, cond, ap, ◌∙◌, arith, get_or-replicate, SQUARES}
 use Rattle.egt_lanes.proofs.Rows.{same_at}
 use Rattle.egt_lanes.proofs.Tests.{agreed}
 use Rattle.egt_lanes.proofs.sets.without_lane.Goals as goal

@@ -1,5 +1,4 @@
-use Rattle.std.proofs.Common.{◌∙◌, ap, get_or, max, subst}
-use Rattle.egt_board.specs.declared.step.Step.{Step}
+use Rattle.egt_lanes.specs.Prelude.{◌∙◌, ap, get_or, max, subst, Step}
 use Rattle.egt_lanes.proofs.Advancing.{by_two}
 use Rattle.egt_lanes.proofs.Riding.{IsShifted}
 use Rattle.egt_lanes.proofs.shift.advanced_by_two.Goals as goal

@@ -1,7 +1,5 @@
-use Rattle.std.proofs.Common.{◌≡◌, refl, ap, ◌∙◌, arith}
-use Rattle.egt_board.specs.declared.step.Way.TheVariants.{Up, Down}
+use Rattle.egt_lanes.specs.Prelude.{◌≡◌, refl, ap, ◌∙◌, arith, Up, Down, beyond}
 use Rattle.egt_lanes.specs.declared.shift.TheConstants as table
-use Rattle.egt_lanes.specs.Moved.{beyond}
 use Rattle.egt_lanes.proofs.Moves.{moved_at, stays_at, beyond-zero}
 use Rattle.egt_lanes.proofs.shift.along_file.Goals as goal
 use Rattle.egt_lanes.proofs.shift.along_file.Goals.{in-Up-eq1, in-Up-eq2, in-Down-eq1, in-Down-eq2, in_default, in_default-via-in-Up+in_default, in_default-via-in-Down+in_default, in_default-via-in_default}

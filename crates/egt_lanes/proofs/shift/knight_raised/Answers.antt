@@ -1,8 +1,4 @@
-use Rattle.std.proofs.Common.{ℕ, List, [], ◌∷◌, get_or}
-use Rattle.egt_board.specs.declared.step.Step.{Step}
-use Rattle.egt_board.specs.declared.step.Way.TheVariants.{Up, Down}
-use Rattle.egt_board.specs.Step.{Away}
-use Rattle.egt_board.specs.AttackLines.{step}
+use Rattle.egt_lanes.specs.Prelude.{ℕ, List, [], ◌∷◌, get_or, Step, Up, Down, Away, step}
 use Rattle.egt_lanes.proofs.Riding.{no_steps, one_more_step}
 use Rattle.egt_lanes.proofs.shift.knight_raised.Goals as goal
 

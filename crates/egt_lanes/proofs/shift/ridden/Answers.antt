@@ -1,6 +1,4 @@
-use Rattle.std.proofs.Common.{◌≡◌, get_or, subst, arith}
-use Rattle.egt_board.specs.AttackLines.{Rides}
-use Rattle.egt_lanes.specs.Raised.{IsRaised}
+use Rattle.egt_lanes.specs.Prelude.{◌≡◌, get_or, subst, arith, Rides, IsRaised}
 use Rattle.egt_lanes.proofs.Riding.{HasBit, ridden_first, ridden_more}
 use Rattle.egt_lanes.proofs.shift.ridden.Goals as goal
 

@@ -1,7 +1,4 @@
-use Rattle.std.proofs.Common.{◌≡◌, length, inl, inr, ◌∙◌, arith}
-use Rattle.std.proofs.lemmas.Bool.{cases_lt}
-use Rattle.std.proofs.lemmas.List.{get_or_past}
-use Rattle.egt_lanes.specs.Moved.{beside, beyond}
+use Rattle.egt_lanes.specs.Prelude.{◌≡◌, length, inl, inr, ◌∙◌, arith, cases_lt, get_or_past, beside, beyond}
 use Rattle.egt_lanes.proofs.Moves.{beside-leads, beyond-leads, away_by}
 use Rattle.egt_lanes.proofs.shift.shifted.Goals as goal
 

@@ -1,5 +1,4 @@
-use Rattle.std.proofs.Common.{get_or}
-use Rattle.egt_board.specs.Step.{Away}
+use Rattle.egt_lanes.specs.Prelude.{get_or, Away}
 use Rattle.egt_lanes.proofs.Riding.{raised_over, step_end}
 use Rattle.egt_lanes.proofs.shift.step_raised.Goals as goal
 

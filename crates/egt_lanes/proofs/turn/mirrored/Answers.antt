@@ -1,5 +1,4 @@
-use Rattle.std.proofs.Common.{refl, inl, inr}
-use Rattle.egt_board.specs.declared.mirror.Mirror.TheVariants.{Files, Ranks, Diagonal, Colours}
+use Rattle.egt_lanes.specs.Prelude.{refl, inl, inr, Files, Ranks, Diagonal, Colours}
 use Rattle.egt_lanes.specs.declared.turn.TheConstants as table
 use Rattle.egt_lanes.proofs.Turns.{mirrored_at}
 use Rattle.egt_lanes.proofs.turn.mirrored.Goals as goal

@@ -1,6 +1,4 @@
-use Rattle.std.proofs.Common.{◌==◌, ◌%◌, ◌/◌, ◌∙◌}
-use Rattle.egt_board.specs.declared.mirror.Mirror.TheVariants.{Files, Ranks, Diagonal}
-use Rattle.egt_board.specs.Symmetry.{square_if}
+use Rattle.egt_lanes.specs.Prelude.{◌==◌, ◌%◌, ◌/◌, ◌∙◌, Files, Ranks, Diagonal, square_if}
 use Rattle.egt_lanes.proofs.Turns.{square_if-within}
 use Rattle.egt_lanes.proofs.turn.turned.Goals as goal
 

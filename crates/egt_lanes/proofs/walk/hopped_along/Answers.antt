@@ -1,11 +1,4 @@
-use Rattle.std.proofs.Common.{ℕ, List, get_or, arith, subst}
-use Rattle.std.proofs.lemmas.List.{take_all}
-use Rattle.egt_board.specs.declared.step.Step.{Step}
-use Rattle.egt_board.specs.declared.step.Way.TheVariants.{Up}
-use Rattle.egt_board.specs.AttackLines.{OneOf, step}
-use Rattle.egt_board.specs.Step.{Away}
-use Rattle.egt_lanes.specs.Blocks.{at}
-use Rattle.egt_lanes.specs.Raised.{IsRaised}
+use Rattle.egt_lanes.specs.Prelude.{ℕ, List, get_or, arith, subst, take_all, Step, Up, OneOf, step, Away, at, IsRaised}
 use Rattle.egt_lanes.proofs.Riding.{next_of_list}
 use Rattle.egt_lanes.proofs.walk.hopped_along.Goals as goal
 

@@ -1,8 +1,4 @@
-use Rattle.std.proofs.Common.{ℕ, ◌<◌, take, get_or}
-use Rattle.egt_board.specs.AttackLines.{OneOf}
-use Rattle.egt_board.specs.Step.{Away}
-use Rattle.egt_lanes.specs.Blocks.{at}
-use Rattle.egt_lanes.specs.Raised.{IsRaised}
+use Rattle.egt_lanes.specs.Prelude.{ℕ, ◌<◌, take, get_or, OneOf, Away, at, IsRaised}
 use Rattle.egt_lanes.proofs.walk.hopped_along.Given as goal
 
 abbrev pub invariant-loop-step : goal.invariant-loop-step

@@ -1,6 +1,4 @@
-use Rattle.egt_board.specs.AttackLines.{OneOf, knight_steps}
-use Rattle.egt_board.specs.Step.{Away}
-use Rattle.egt_lanes.specs.Blocks.{at}
+use Rattle.egt_lanes.specs.Prelude.{OneOf, knight_steps, Away, at}
 use Rattle.egt_lanes.proofs.Rowwise.{RowsRaised}
 use Rattle.egt_lanes.proofs.walk.raise_hops.Given as goal
 

@@ -1,9 +1,4 @@
-use Rattle.std.proofs.Common.{◌≡◌, ◌∙◌, subst, sym, arith}
-use Rattle.std.specs.Prelude.{slice_index}
-use Rattle.egt_board.specs.AttackLines.{Rides}
-use Rattle.egt_lanes.specs.Blocks.{at, IsOpen}
-use Rattle.egt_lanes.specs.Raised.{IsRaised}
-use Rattle.egt_lanes.specs.Sweeps.{IsAhead}
+use Rattle.egt_lanes.specs.Prelude.{◌≡◌, ◌∙◌, subst, sym, arith, slice_index, Rides, at, IsOpen, IsRaised, IsAhead}
 use Rattle.egt_lanes.proofs.Sweeping.{next_is_past, nth, nth_is, swept_more}
 use Rattle.egt_lanes.proofs.walk.raise_ray.Goals as goal
 

@@ -1,9 +1,5 @@
-use Rattle.std.proofs.Common.{ℕ, List, refl}
-use Rattle.egt_board.specs.declared.man.Kind.TheVariants.{Q, R, B, N}
-use Rattle.egt_board.specs.declared.step.Step.{Step}
-use Rattle.egt_board.specs.Step.{Away}
-use Rattle.egt_board.specs.AttackLines.{Rides, OneOf, diagonal_steps, knight_steps, straight_steps}
-use Rattle.egt_lanes.specs.Blocks.{at, IsOpen}
+use Rattle.egt_lanes.specs.Prelude.{ℕ, List, refl, Q, R, B, N, Step, Away, Rides, OneOf, diagonal_steps, knight_steps}
+use Rattle.egt_lanes.specs.Prelude.{straight_steps, at, IsOpen}
 use Rattle.egt_lanes.proofs.Raising.{raised_as}
 use Rattle.egt_lanes.proofs.Riding.{OneOf-as, both_lists, one_ride, reached_by, ride_one}
 use Rattle.egt_lanes.proofs.walk.raise_rows.Goals as goal

@@ -1,8 +1,4 @@
-use Rattle.std.proofs.Common.{ℕ, List, [], ◌∷◌}
-use Rattle.egt_board.specs.declared.step.Step.{Step}
-use Rattle.egt_board.specs.declared.step.Way.TheVariants.{Up, Down, Still}
-use Rattle.egt_board.specs.AttackLines.{step, Rides}
-use Rattle.egt_lanes.specs.Blocks.{at, IsOpen}
+use Rattle.egt_lanes.specs.Prelude.{ℕ, List, [], ◌∷◌, Step, Up, Down, Still, step, Rides, at, IsOpen}
 use Rattle.egt_lanes.proofs.Riding.{no_steps, one_more_step}
 use Rattle.egt_lanes.proofs.walk.raise_straight.Goals as goal
 

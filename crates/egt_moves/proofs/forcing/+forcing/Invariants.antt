@@ -1,6 +1,4 @@
-use Rattle.std.proofs.Common.{◌<◌, ◌-◌}
-use Rattle.egt_moves.specs.Arena.{MatesWithin, AvoidsMateFor}
-use Rattle.egt_moves.specs.Chess.{chess}
+use Rattle.egt_moves.specs.Prelude.{◌<◌, ◌-◌, MatesWithin, AvoidsMateFor, chess}
 use Rattle.egt_moves.proofs.Trying.{Tried}
 use Rattle.egt_moves.proofs.forcing.+forcing.Given as goal
 

@@ -1,6 +1,4 @@
-use Rattle.std.proofs.Common.{sym, subst, refl, ◌∙◌}
-use Rattle.egt_board.specs.Setup.{IsKingOn}
-use Rattle.egt_moves.specs.Legal.{plain}
+use Rattle.egt_moves.specs.Prelude.{sym, subst, refl, ◌∙◌, IsKingOn, plain}
 use Rattle.egt_moves.proofs.After.{king_moves, king_stays}
 use Rattle.egt_moves.proofs.going.king_after.Goals as goal
 

@@ -1,7 +1,4 @@
-use Rattle.std.proofs.Common.{arith, inl, inr}
-use Rattle.std.specs.Int.{bit_at}
-use Rattle.std.proofs.lemmas.Bool.{cases_eq}
-use Rattle.std.proofs.lemmas.Nat.Bits.{bit_at-lt}
+use Rattle.egt_moves.specs.Prelude.{arith, inl, inr, bit_at, cases_eq, bit_at-lt}
 use Rattle.egt_moves.proofs.going.pawn_targets.Goals as goal
 
 pub returns-clause-goes : goal.returns-clause-goes

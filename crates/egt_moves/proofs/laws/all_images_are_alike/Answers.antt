@@ -1,5 +1,4 @@
-use Rattle.egt_moves.specs.Chess.{chess}
-use Rattle.egt_moves.specs.Likeness.{Chain}
+use Rattle.egt_moves.specs.Prelude.{chess, Chain}
 use Rattle.egt_moves.proofs.ImageMoves.{AreReflected, reflections_alike, chain_of}
 use Rattle.egt_moves.proofs.Likeness.{alike_backwards}
 use Rattle.egt_moves.proofs.Worth.{alike_value, alike_zeroing}

@@ -1,5 +1,4 @@
-use Rattle.egt_moves.specs.Chess.{chess}
-use Rattle.std.proofs.Common.{IsTrue}
+use Rattle.egt_moves.specs.Prelude.{chess, IsTrue}
 use Rattle.egt_moves.proofs.Fitting as fitting
 use Rattle.egt_moves.proofs.DistancesFit as distances
 use Rattle.egt_moves.proofs.laws.entries_are_true.Goals as goal

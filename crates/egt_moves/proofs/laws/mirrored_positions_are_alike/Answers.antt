@@ -1,5 +1,4 @@
-use Rattle.egt_moves.specs.Chess.{chess}
-use Rattle.egt_board.specs.Mirrored.{AreMirrored}
+use Rattle.egt_moves.specs.Prelude.{chess, AreMirrored}
 use Rattle.egt_moves.proofs.MirroredMoves.{mirrored_alike, back_again}
 use Rattle.egt_moves.proofs.Worth as worth
 use Rattle.egt_moves.proofs.laws.mirrored_positions_are_alike.Goals as goal

@@ -1,6 +1,4 @@
-use Rattle.std.proofs.Common.{◌≡◌, refl}
-use Rattle.egt_board.specs.Setup.{Setup, IsAdmissible}
-use Rattle.egt_moves.specs.Chess.{chess}
+use Rattle.egt_moves.specs.Prelude.{◌≡◌, refl, Setup, IsAdmissible, chess}
 use Rattle.egt_moves.proofs.Likeness.{alike_backwards, alike_by_mirror}
 use Rattle.egt_moves.proofs.Worth.{alike_value, alike_zeroing}
 use Rattle.egt_moves.proofs.laws.mirrors_are_alike.Goals as goal

@@ -1,6 +1,4 @@
-use Rattle.egt_moves.specs.Chess.{chess}
-use Rattle.egt_board.specs.Setup.{Setup}
-use Rattle.std.proofs.Common.{◌≡◌, ◌⊎◌}
+use Rattle.egt_moves.specs.Prelude.{chess, Setup, ◌≡◌, ◌⊎◌}
 use Rattle.egt_moves.proofs.Likeness.{alike_backwards}
 use Rattle.egt_moves.proofs.SettledMoves.{Untargets, settled_alike, settles}
 use Rattle.egt_moves.proofs.Worth.{alike_value, alike_zeroing}

@@ -1,5 +1,4 @@
-use Rattle.std.proofs.Common.{IsTrue}
-use Rattle.egt_moves.specs.Chess.{chess}
+use Rattle.egt_moves.specs.Prelude.{IsTrue, chess}
 use Rattle.egt_moves.proofs.DistancesFit as distances
 use Rattle.egt_moves.proofs.Ending.{chess_ends}
 use Rattle.egt_moves.proofs.Fitting as fitting

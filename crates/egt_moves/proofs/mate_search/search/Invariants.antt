@@ -1,5 +1,4 @@
-use Rattle.egt_moves.specs.Arena.{AvoidsMateBefore, CannotMateBefore}
-use Rattle.egt_moves.specs.Chess.{chess}
+use Rattle.egt_moves.specs.Prelude.{AvoidsMateBefore, CannotMateBefore, chess}
 use Rattle.egt_moves.proofs.mate_search.search.Given as goal
 
 -- neither side mates within fewer plies

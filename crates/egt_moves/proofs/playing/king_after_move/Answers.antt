@@ -1,19 +1,7 @@
-use Rattle.std.proofs.Common.{◌≡◌, ℕ, false, true, ◌&&◌, Option, Some, None, refl, sym, ap, ◌∙◌, subst}
-use Rattle.std.proofs.lemmas.Bool.{false≢true}
-use Rattle.std.specs.Prelude.{◌==◌}
-use Rattle.egt_board.specs.Square.{rank_of}
-use Rattle.egt_board.specs.Pawn.{last_rank}
+use Rattle.egt_moves.specs.Prelude.{◌≡◌, ℕ, false, true, ◌&&◌, Option, Some, None, refl, sym, ap, ◌∙◌, subst}
+use Rattle.egt_moves.specs.Prelude.{false≢true, ◌==◌, rank_of, last_rank, the_type, Side, White, Black, Kind, K, Man}
+use Rattle.egt_moves.specs.Prelude.{other_side, IsKingOn, is_pawn, promotes, FitsPromotion, men_after}
 use denote.Enum.Bare.{sameb}
-use Rattle.egt_board.specs.contracts.man.Side.{the_type}
-use Rattle.egt_board.specs.declared.man.Side.{Side}
-use Rattle.egt_board.specs.declared.man.Side.TheVariants.{White, Black}
-use Rattle.egt_board.specs.declared.man.Kind.{Kind}
-use Rattle.egt_board.specs.declared.man.Kind.TheVariants.{K}
-use Rattle.egt_board.specs.declared.man.Man.{Man}
-use Rattle.egt_board.specs.Man.{other_side}
-use Rattle.egt_board.specs.Setup.{IsKingOn}
-use Rattle.egt_moves.specs.Promotion.{is_pawn, promotes, FitsPromotion}
-use Rattle.egt_moves.specs.Legal.{men_after}
 use Rattle.egt_moves.proofs.After.{king_moves, king_stays, other_king_stays, may_become}
 use Rattle.egt_moves.proofs.playing.king_after_move.Goals as goal
 

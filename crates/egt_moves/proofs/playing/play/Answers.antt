@@ -1,11 +1,5 @@
-use Rattle.std.proofs.Common.{◌≡◌, ◌∙◌, sym, subst, rules}
-use Rattle.egt_board.specs.Placement.{Stands}
-use Rattle.egt_board.specs.Setup.{Setup}
-use Rattle.egt_board.specs.Attack.{IsInCheck}
-use Rattle.egt_moves.specs.Going.{Goes}
-use Rattle.egt_moves.specs.Promotion.{FitsPromotion, promotes}
-use Rattle.egt_moves.specs.Legal.{men_after, after, plain}
-use Rattle.std.proofs.lemmas.Bool.{false≢true}
+use Rattle.egt_moves.specs.Prelude.{◌≡◌, ◌∙◌, sym, subst, rules, Stands, Setup, IsInCheck, Goes, FitsPromotion}
+use Rattle.egt_moves.specs.Prelude.{promotes, men_after, after, plain, false≢true}
 use Rattle.egt_moves.proofs.Growing.{goes_of, fits_of, safe_of, same_safety}
 use Rattle.egt_moves.proofs.playing.play.Goals as goal
 

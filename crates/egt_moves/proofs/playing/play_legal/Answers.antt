@@ -1,6 +1,4 @@
-use Rattle.std.proofs.Common.{Option, refl, sym, ◌∙◌, subst}
-use Rattle.std.specs.Option.{IsSome}
-use Rattle.egt_board.specs.declared.man.Man.{Man}
+use Rattle.egt_moves.specs.Prelude.{Option, refl, sym, ◌∙◌, subst, IsSome, Man}
 use Rattle.egt_moves.proofs.playing.play_legal.Goals as goal
 
 pub unwrap-man-requires : goal.unwrap-man-requires

@@ -1,7 +1,4 @@
-use Rattle.std.proofs.Common.{◌∙◌, sym, ap, subst}
-use Rattle.egt_board.specs.Setup.{IsAdmissible}
-use Rattle.egt_board.specs.Man.{other_side}
-use Rattle.egt_moves.specs.Legal.{men_after, passed}
+use Rattle.egt_moves.specs.Prelude.{◌∙◌, sym, ap, subst, IsAdmissible, other_side, men_after, passed}
 use Rattle.egt_moves.proofs.Admissible.{admissible_after}
 use Rattle.egt_moves.proofs.playing.played.Goals as goal
 

@@ -1,5 +1,4 @@
-use Rattle.std.proofs.Common.{IsTrue}
-use Rattle.egt_moves.specs.Chess.{chess}
+use Rattle.egt_moves.specs.Prelude.{IsTrue, chess}
 use Rattle.egt_moves.proofs.Nearest.{fitting_reach, true_reach_fits}
 use Rattle.egt_moves.proofs.reaching.reach_entries_are_true.Goals as goal
 

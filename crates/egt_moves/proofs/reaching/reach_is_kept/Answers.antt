@@ -1,7 +1,4 @@
-use Rattle.std.proofs.Common.{◌≡◌, ◌⊎◌}
-use Rattle.egt_board.specs.Setup.{Setup}
-use Rattle.egt_moves.specs.Chess.{chess}
-use Rattle.egt_moves.specs.Likeness.{Chain}
+use Rattle.egt_moves.specs.Prelude.{◌≡◌, ◌⊎◌, Setup, chess, Chain}
 use Rattle.egt_moves.proofs.ImageMoves.{AreReflected, reflections_alike, chain_of}
 use Rattle.egt_moves.proofs.Likeness.{alike_backwards}
 use Rattle.egt_moves.proofs.Nearest.{alike_reach}

@@ -1,5 +1,4 @@
-use Rattle.std.proofs.Common.{sym, ◌∙◌}
-use Rattle.std.proofs.lemmas.Bool.{false≢true}
+use Rattle.egt_moves.specs.Prelude.{sym, ◌∙◌, false≢true}
 use Rattle.egt_moves.proofs.standings.standing.Goals as goal
 
 pub returns-then-is_in_check : goal.returns-then-is_in_check

@@ -1,8 +1,4 @@
-use Rattle.std.proofs.Common.{◌≡◌, ◌≤◌, rules, sym, subst, ◌∙◌}
-use Rattle.egt_board.specs.Placement.{Stands, one_man}
-use Rattle.egt_board.specs.SquareSet.{size_of}
-use Rattle.egt_board.specs.declared.man.Man.{Man}
-use Rattle.egt_moves.specs.Room.{most_goals}
+use Rattle.egt_moves.specs.Prelude.{◌≡◌, ◌≤◌, rules, sym, subst, ◌∙◌, Stands, one_man, size_of, Man, most_goals}
 use Rattle.egt_moves.proofs.SafeGoals.{legal_target, none_few}
 use Rattle.egt_moves.proofs.targets.legal_targets.Goals as goal
 

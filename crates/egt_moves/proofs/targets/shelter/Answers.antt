@@ -1,5 +1,4 @@
-use Rattle.std.proofs.Common.{rules}
-use Rattle.std.proofs.lemmas.Nat.Bits.{bit_at_ones}
+use Rattle.egt_moves.specs.Prelude.{rules, bit_at_ones}
 use Rattle.egt_moves.proofs.LoneKing.{lone_king_kept}
 use Rattle.egt_moves.proofs.targets.shelter.Goals as goal
 

@@ -1,7 +1,4 @@
-use Rattle.std.proofs.Common.{◌≡◌, List, [], ℕ}
-use Rattle.std.specs.Io.KnownBytes.{Consumes}
-use Rattle.egt_probe.specs.Answer.{Advanced}
-use Rattle.egt_probe.specs.Shelves.{loaded_in}
+use Rattle.egt_probe.specs.Prelude.{◌≡◌, List, [], ℕ, Consumes, Advanced, loaded_in}
 use Rattle.egt_probe.proofs.answering.answer.Given as goal
 
 -- what was read so far was taken

@@ -1,5 +1,4 @@
-use Rattle.std.proofs.lemmas.Result.{err_from_is_err_and}
-use Rattle.egt_probe.specs.Shelves.{loaded_in}
+use Rattle.egt_probe.specs.Prelude.{err_from_is_err_and, loaded_in}
 use Rattle.egt_probe.proofs.Answered.{advanced_on, advanced_fed, stopped_fed}
 use Rattle.egt_probe.proofs.answering.take_byte.Goals as goal
 

@@ -1,7 +1,5 @@
-use Rattle.std.proofs.Common.{◌≡◌, ◌<◌, ℕ, ◌+◌, suc, List, [], ◌∷◌, ◌++◌, get_or, length, take, drop, refl, sym, ap, ◌∙◌, drop-cons, take-append-drop}
-use Rattle.std.proofs.lemmas.List.{take_more}
-use Rattle.std.proofs.lemmas.Result.{err_from_is_err_and}
-use Rattle.egt_probe.specs.Shelves.{loaded_in}
+use Rattle.egt_probe.specs.Prelude.{◌≡◌, ◌<◌, ℕ, ◌+◌, suc, List, [], ◌∷◌, ◌++◌, get_or, length, take, drop, refl, sym}
+use Rattle.egt_probe.specs.Prelude.{ap, ◌∙◌, drop-cons, take-append-drop, take_more, err_from_is_err_and, loaded_in}
 use Rattle.egt_probe.proofs.Answered.{advanced_none, advanced_more, stopped_more}
 use Rattle.egt_probe.proofs.answering.take_piece.Goals as goal
 

@@ -1,6 +1,4 @@
-use Rattle.std.proofs.Common.{◌≡◌, List, ℕ, take}
-use Rattle.egt_probe.specs.Answer.{Holds, Advanced}
-use Rattle.egt_probe.specs.Shelves.{loaded_in}
+use Rattle.egt_probe.specs.Prelude.{◌≡◌, List, ℕ, take, Holds, Advanced, loaded_in}
 use Rattle.egt_probe.proofs.answering.take_piece.Given as goal
 
 -- the bytes so far were taken

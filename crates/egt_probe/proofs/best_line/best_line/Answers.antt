@@ -1,8 +1,4 @@
-use Rattle.std.proofs.Common.{◌-◌, sym, subst, arith}
-use Rattle.egt_board.specs.declared.man.Side.{Side}
-use Rattle.egt_moves.specs.Arena.{HasValue}
-use Rattle.egt_moves.specs.Chess.{chess}
-use Rattle.egt_moves.specs.Found.{mate_by}
+use Rattle.egt_probe.specs.Prelude.{◌-◌, sym, subst, arith, Side, HasValue, chess, mate_by}
 use Rattle.egt_probe.proofs.Best.{turned, line_step, line_end}
 use Rattle.egt_probe.proofs.best_line.best_line.Goals as goal
 

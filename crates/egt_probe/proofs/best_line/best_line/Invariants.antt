@@ -1,11 +1,4 @@
-use Rattle.std.proofs.Common.{◌≤◌, List, ◌++◌}
-use Rattle.egt_moves.specs.Arena.{HasValue}
-use Rattle.egt_moves.specs.Chess.{chess}
-use Rattle.egt_moves.specs.Found.{mate_by}
-use Rattle.egt_moves.specs.declared.chess_move.Move.{Move}
-use Rattle.egt_probe.specs.Line.{IsLine}
-use Rattle.egt_probe.specs.Loaded.{IsLoaded}
-use Rattle.egt_probe.specs.Shelves.{loaded_in}
+use Rattle.egt_probe.specs.Prelude.{◌≤◌, List, ◌++◌, HasValue, chess, mate_by, Move, IsLine, IsLoaded, loaded_in}
 use Rattle.egt_probe.proofs.best_line.best_line.Given as goal
 
 -- whatever is the line from here, it is the rest of the line from the position

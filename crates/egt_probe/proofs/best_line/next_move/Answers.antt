@@ -1,14 +1,5 @@
-use Rattle.std.proofs.Common.{◌≡◌, ℕ, ◌+◌, suc, Option, IfSome, ap, ◌∙◌, subst, arith}
-use Rattle.egt_board.specs.declared.man.Side.{Side}
-use Rattle.egt_board.specs.Man.{other_side}
-use Rattle.egt_board.specs.Setup.{Setup}
-use Rattle.egt_moves.specs.Arena.{SomeMove, HasValue}
-use Rattle.egt_moves.specs.Chess.{chess}
-use Rattle.egt_moves.specs.Found.{mate_by}
-use Rattle.egt_moves.specs.declared.chess_move.Move.{Move}
-use Rattle.egt_entries.specs.Entry.{entry_of}
-use Rattle.egt_probe.specs.Facts.{Facts}
-use Rattle.egt_probe.specs.Search.{IsFirstWith}
+use Rattle.egt_probe.specs.Prelude.{◌≡◌, ℕ, ◌+◌, suc, Option, IfSome, ap, ◌∙◌, subst, arith, Side, other_side, Setup}
+use Rattle.egt_probe.specs.Prelude.{SomeMove, HasValue, chess, mate_by, Move, entry_of, Facts, IsFirstWith}
 use Rattle.egt_probe.proofs.Best.{short, goes_on, some_found, first_to}
 use Rattle.egt_probe.proofs.best_line.next_move.Goals as goal
 

@@ -1,10 +1,4 @@
-use Rattle.std.proofs.Common.{◌-◌, refl, subst, arith}
-use Rattle.egt_board.specs.Man.{other_side}
-use Rattle.egt_moves.specs.Arena.{HasValue}
-use Rattle.egt_moves.specs.Chess.{chess}
-use Rattle.egt_moves.specs.Found.{mate_by}
-use Rattle.egt_probe.specs.declared.outcome.Outcome.{Outcome}
-use Rattle.egt_probe.specs.Verdict.{mate_value}
+use Rattle.egt_probe.specs.Prelude.{◌-◌, refl, subst, arith, other_side, HasValue, chess, mate_by, Outcome, mate_value}
 use Rattle.egt_probe.proofs.BestMoves.{best_of_hold, best_is}
 use Rattle.egt_probe.proofs.best_play.best_move.Goals as goal
 

@@ -1,5 +1,4 @@
-use Rattle.std.proofs.Common.{ℕ, subst}
-use Rattle.egt_probe.specs.Search.{ShowsValue}
+use Rattle.egt_probe.specs.Prelude.{ℕ, subst, ShowsValue}
 use Rattle.egt_probe.proofs.Ordered.{listed_is_legal, misses_more, misses_next, first_found, none_found}
 use Rattle.egt_probe.proofs.first_move.first_with.Goals as goal
 

@@ -1,5 +1,4 @@
-use Rattle.std.proofs.Common.{refl}
-use Rattle.egt_moves.specs.Arena.{Draw}
+use Rattle.egt_probe.specs.Prelude.{refl, Draw}
 use Rattle.egt_probe.proofs.Best.{first_to}
 use Rattle.egt_probe.proofs.Drawn.{stalemate}
 use Rattle.egt_probe.proofs.holding.drawing_move.Goals as goal

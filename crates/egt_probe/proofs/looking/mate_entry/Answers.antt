@@ -1,6 +1,4 @@
-use Rattle.std.proofs.Common.{Option, IfSome, subst}
-use Rattle.egt_entries.specs.Library.{IsShelved}
-use Rattle.egt_entries.specs.Tables.{table_at}
+use Rattle.egt_probe.specs.Prelude.{Option, IfSome, subst, IsShelved, table_at}
 use Rattle.egt_probe.proofs.Shelved.{index_there, shows_value}
 use Rattle.egt_probe.proofs.looking.mate_entry.Goals as goal
 

@@ -1,8 +1,5 @@
-use Rattle.std.proofs.Common.{ℕ, ◌<◌, Option, Some, None, is_some, option_map, refl, IfSome, IsSome, subst}
-use Rattle.egt_entries.specs.Library.{IsShelved}
-use Rattle.egt_entries.specs.Tables.{table_at}
-use Rattle.egt_table.specs.Table.{TableValue}
-use Rattle.egt_probe.specs.Shelves.{loaded_in}
+use Rattle.egt_probe.specs.Prelude.{ℕ, ◌<◌, Option, Some, None, is_some, option_map, refl, IfSome, IsSome, subst}
+use Rattle.egt_probe.specs.Prelude.{IsShelved, table_at, TableValue, loaded_in}
 use Rattle.egt_probe.proofs.Shelved.{step_loaded}
 use Rattle.egt_probe.proofs.looking.moves_stay_loaded.Goals as goal
 

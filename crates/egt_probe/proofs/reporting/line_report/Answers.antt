@@ -1,5 +1,4 @@
-use Rattle.std.proofs.lemmas.Result.{IfOk-weaker}
-use Rattle.egt_probe.specs.Report.{Refused, Answered}
+use Rattle.egt_probe.specs.Prelude.{IfOk-weaker, Refused, Answered}
 use Rattle.egt_probe.proofs.reporting.line_report.Goals as goal
 
 pub returns-in-Ok : goal.returns-in-Ok

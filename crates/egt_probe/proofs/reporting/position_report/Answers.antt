@@ -1,12 +1,5 @@
-use Rattle.std.proofs.Common.{List, sym, subst}
-use Rattle.std.proofs.lemmas.Result.{IfOk-weaker}
-use Rattle.egt_moves.specs.Found.{mate_by}
-use Rattle.egt_moves.specs.declared.chess_move.Move.{Move}
-use Rattle.egt_probe.specs.declared.outcome.Outcome.{Outcome}
-use Rattle.egt_probe.specs.Line.{IsLine}
-use Rattle.egt_probe.specs.Report.{Unloaded, Decisive, Dead, Drawn, verdict_of}
-use Rattle.egt_probe.specs.Shelves.{loaded_in}
-use Rattle.egt_probe.specs.Verdict.{IsVerdict}
+use Rattle.egt_probe.specs.Prelude.{List, sym, subst, IfOk-weaker, mate_by, Move, Outcome, IsLine, Unloaded, Decisive}
+use Rattle.egt_probe.specs.Prelude.{Dead, Drawn, verdict_of, loaded_in, IsVerdict}
 use Rattle.egt_probe.proofs.reporting.position_report.Goals as goal
 
 pub returns-in-Err : goal.returns-in-Err

@@ -1,6 +1,4 @@
-use Rattle.std.proofs.Common.{◌≡◌, ◌∷◌, ◌++◌, take}
-use Rattle.std.specs.List.{flat_map}
-use Rattle.egt_moves.specs.Text.{text_of}
+use Rattle.egt_probe.specs.Prelude.{◌≡◌, ◌∷◌, ◌++◌, take, flat_map, text_of}
 use Rattle.egt_probe.proofs.wording.push_moves.Given as goal
 
 abbrev pub invariant-loop-chess_move : goal.invariant-loop-chess_move

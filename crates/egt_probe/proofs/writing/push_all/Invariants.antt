@@ -1,5 +1,4 @@
-use Rattle.std.proofs.Common.{◌≡◌, ◌++◌, List, ℕ, length}
-use Rattle.std.specs.Io.KnownBytes.{Appends}
+use Rattle.egt_probe.specs.Prelude.{◌≡◌, ◌++◌, List, ℕ, length, Appends}
 use Rattle.egt_probe.proofs.writing.push_all.Given as goal
 
 abbrev pub invariant-loop-rest : goal.invariant-loop-rest

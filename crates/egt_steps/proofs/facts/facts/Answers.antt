@@ -1,5 +1,4 @@
-use Rattle.std.proofs.Common.{refl, not, false, ⊎_elim}
-use Rattle.egt_board.specs.DecidedSetup.{settled_form}
+use Rattle.egt_steps.specs.Prelude.{refl, not, false, ⊎_elim, settled_form}
 use Rattle.egt_steps.proofs.facts.facts.Goals as goal
 
 pub returns : goal.returns

@@ -1,6 +1,4 @@
-use Rattle.std.proofs.Common.{◌≡◌, ℕ, ◌<◌, get_or, IfSome}
-use Rattle.egt_entries.specs.Tables.{table_at}
-use Rattle.egt_entries.specs.Truth.{IsTrueTable}
+use Rattle.egt_sweep.specs.Prelude.{◌≡◌, ℕ, ◌<◌, get_or, IfSome, table_at, IsTrueTable}
 use Rattle.egt_sweep.proofs.building.children_are_true.Given as goal
 
 -- the tables of the children so far are true

@@ -1,9 +1,6 @@
-use Rattle.std.proofs.Common.{◌≡◌, ℕ, Result, Ok, Err, IfOk, IfErr, refl, sym, subst, inl}
-use Rattle.egt_entries.specs.Tables.{Tables, table_at, HasChildren, HasReachChildren}
-use Rattle.egt_entries.specs.Truth.{HasTrueChildren}
-use Rattle.egt_table.specs.Table.{TableValue}
-use Rattle.egt_sweep.specs.Built.{AllWithinLimit, IsBuilt, IsNotBuilt, SomeAboveLimit}
-use Rattle.egt_sweep.specs.declared.build_fault.BuildFault.{BuildFault}
+use Rattle.egt_sweep.specs.Prelude.{◌≡◌, ℕ, Result, Ok, Err, IfOk, IfErr, refl, sym, subst, inl, Tables, table_at}
+use Rattle.egt_sweep.specs.Prelude.{HasChildren, HasReachChildren, HasTrueChildren, TableValue, AllWithinLimit, IsBuilt}
+use Rattle.egt_sweep.specs.Prelude.{IsNotBuilt, SomeAboveLimit, BuildFault}
 use Rattle.egt_sweep.specs.declared.build_fault.BuildFault.TheVariants as faults
 use Rattle.egt_sweep.proofs.FilledTables.{true_is_accepted}
 use Rattle.egt_sweep.proofs.TrueChildren.{true_children}

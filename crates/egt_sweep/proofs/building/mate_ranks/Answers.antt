@@ -1,11 +1,6 @@
-use Rattle.std.proofs.Common.{ℕ, ◌<◌, List, Option, Err, inl, refl, ap, ◌∙◌, subst}
-use Rattle.egt_graph.specs.Value.{SomeAbove}
-use Rattle.egt_table.specs.Table.{TableValue}
-use Rattle.egt_entries.specs.declared.metric.Metric.TheVariants.{Mate}
-use Rattle.egt_entries.specs.Tables.{table_at}
-use Rattle.egt_sweep.specs.ClassGame.{class_game}
+use Rattle.egt_sweep.specs.Prelude.{ℕ, ◌<◌, List, Option, Err, inl, refl, ap, ◌∙◌, subst, SomeAbove, TableValue, Mate}
+use Rattle.egt_sweep.specs.Prelude.{table_at, class_game, values_below}
 use Rattle.egt_sweep.proofs.TrueChildren.{true_children}
-use Rattle.egt_check.proofs.BelowTrue.{values_below}
 use Rattle.egt_sweep.proofs.building.mate_ranks.Goals as goal
 
 pub returns-in-Err-TooDeep-clause-refused : goal.returns-in-Err-TooDeep-clause-refused

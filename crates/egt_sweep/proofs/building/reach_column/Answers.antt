@@ -1,10 +1,6 @@
-use Rattle.std.proofs.Common.{ℕ, ◌<◌, List, Option, subst}
-use Rattle.egt_graph.specs.Near.{SomeFar}
-use Rattle.egt_table.specs.Table.{TableValue}
-use Rattle.egt_entries.specs.Tables.{table_at}
-use Rattle.egt_sweep.specs.ReachGame.{reach_game}
+use Rattle.egt_sweep.specs.Prelude.{ℕ, ◌<◌, List, Option, subst, SomeFar, TableValue, table_at, reach_game}
+use Rattle.egt_sweep.specs.Prelude.{reaches_below}
 use Rattle.egt_sweep.proofs.TrueChildren.{true_children}
-use Rattle.egt_check.proofs.BelowTrue.{reaches_below}
 use Rattle.egt_sweep.proofs.building.reach_column.Goals as goal
 
 pub returns-clause-too_deep : goal.returns-clause-too_deep

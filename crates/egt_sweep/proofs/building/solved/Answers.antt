@@ -1,17 +1,9 @@
-use Rattle.std.proofs.Common.{ℕ, ◌<◌, None, refl, sym, subst, rules}
-use Rattle.egt_moves.specs.Arena.{HasValue}
-use Rattle.egt_moves.specs.Chess.{chess}
-use Rattle.egt_moves.specs.Zeroing.{HasZeroing}
-use Rattle.egt_table.specs.Table.{TableValue}
-use Rattle.egt_entries.specs.declared.metric.Metric.TheVariants.{Mate, Zeroing}
-use Rattle.egt_entries.specs.Tables.{Tables, table_at, beside}
-use Rattle.egt_sweep.specs.Built.{IsBuilt}
-use Rattle.egt_sweep.specs.ClassGame.{class_game}
-use Rattle.egt_sweep.specs.MateColumn.{mate_table}
+use Rattle.egt_sweep.specs.Prelude.{ℕ, ◌<◌, None, refl, sym, subst, rules, HasValue, chess, HasZeroing, TableValue}
+use Rattle.egt_sweep.specs.Prelude.{Mate, Zeroing, Tables, table_at, beside, IsBuilt, class_game, mate_table}
+use Rattle.egt_sweep.specs.Prelude.{reaches_below, values_below}
 use Rattle.egt_sweep.proofs.BuiltTables.{RanksTell, built_is_table, built_is_true, mates_show_values, values_within}
 use Rattle.egt_sweep.proofs.JoinedTables.{NearsTell, joined_is_accepted, joined_is_true}
 use Rattle.egt_sweep.proofs.TrueChildren.{true_children}
-use Rattle.egt_check.proofs.BelowTrue.{reaches_below, values_below}
 use Rattle.egt_sweep.proofs.building.solved.Goals as goal
 
 pub returns-in_err-nears-clause-refused : goal.returns-in_err-nears-clause-refused

@@ -1,15 +1,7 @@
-use Rattle.std.proofs.Common.{ℕ, ◌<◌, List, Option, Err, ap, ◌∙◌, subst}
-use Rattle.egt_moves.specs.Arena.{HasValue}
-use Rattle.egt_moves.specs.Chess.{chess}
-use Rattle.egt_graph.specs.Value.{SomeAbove}
-use Rattle.egt_table.specs.Table.{TableValue}
-use Rattle.egt_entries.specs.declared.metric.Metric.TheVariants.{Mate, Zeroing}
-use Rattle.egt_entries.specs.Tables.{table_at, beside}
-use Rattle.egt_sweep.specs.ClassGame.{class_game}
-use Rattle.egt_sweep.specs.MateColumn.{mate_table}
+use Rattle.egt_sweep.specs.Prelude.{ℕ, ◌<◌, List, Option, Err, ap, ◌∙◌, subst, HasValue, chess, SomeAbove, TableValue}
+use Rattle.egt_sweep.specs.Prelude.{Mate, Zeroing, table_at, beside, class_game, mate_table, values_below}
 use Rattle.egt_sweep.proofs.BuiltTables.{RanksTell, mates_show_values, none_above}
 use Rattle.egt_sweep.proofs.TrueChildren.{true_children}
-use Rattle.egt_check.proofs.BelowTrue.{values_below}
 use Rattle.egt_sweep.proofs.building.zeroing_ranks.Goals as goal
 
 pub unreachable-requires : goal.unreachable-requires

@@ -1,5 +1,4 @@
-use Rattle.std.proofs.Common.{arith}
-use Rattle.egt_sweep.specs.Edges.{LeadsOn}
+use Rattle.egt_sweep.specs.Prelude.{arith, LeadsOn}
 use Rattle.egt_sweep.proofs.Collecting.{listed_is_legal, collected_start, collected_more, collected_all, edges_collected, members_then}
 use Rattle.egt_sweep.proofs.edges.edges.Goals as goal
 

@@ -1,7 +1,4 @@
-use Rattle.std.proofs.Common.{◌↔◌, ℕ, ◌<◌, not, IsTrue, sym, subst}
-use Rattle.egt_class.specs.Membership.{IsOf}
-use Rattle.egt_entries.specs.declared.metric.Metric.{Metric}
-use Rattle.egt_sweep.specs.Edges.{GoesOn}
+use Rattle.egt_sweep.specs.Prelude.{◌↔◌, ℕ, ◌<◌, not, IsTrue, sym, subst, IsOf, Metric, GoesOn}
 use Rattle.egt_sweep.proofs.Staying.{does_not_zero, quiet_stays, stays_in_class, tests_equal}
 use Rattle.egt_sweep.proofs.edges.goes_on.Goals as goal
 

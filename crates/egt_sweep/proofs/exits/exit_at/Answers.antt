@@ -1,8 +1,4 @@
-use Rattle.std.proofs.Common.{ℕ, ◌<◌, refl, sym, ap, ◌∙◌, subst}
-use Rattle.egt_check.specs.Reading.{read}
-use Rattle.egt_entries.specs.Tables.{table_at}
-use Rattle.egt_sweep.specs.Objective.{metric_of, known}
-use Rattle.egt_sweep.specs.Nodes.{exit_of}
+use Rattle.egt_sweep.specs.Prelude.{ℕ, ◌<◌, refl, sym, ap, ◌∙◌, subst, read, table_at, metric_of, known, exit_of}
 use Rattle.egt_sweep.proofs.OwnColumn.{shown_known}
 use Rattle.egt_sweep.proofs.exits.exit_at.Goals as goal
 

@@ -1,14 +1,6 @@
-use Rattle.std.proofs.Common.{◌≡◌, ℕ, ◌+◌, ◌<◌, ◌++◌, List, [], ◌∷◌, get_or, length, take, sym, ap, ◌∙◌, arith}
-use Rattle.std.specs.List.{flat_map}
-use Rattle.std.specs.Option.{option_to_list}
-use Rattle.std.proofs.lemmas.Grind.{flat_map-append}
-use Rattle.std.proofs.lemmas.List.{append-nil, take_more, take_all}
-use Rattle.egt_moves.specs.Moves.{played}
-use Rattle.egt_moves.specs.declared.chess_move.Move.{Move}
-use Rattle.egt_graph.specs.declared.game.Exit.{Exit}
-use Rattle.egt_entries.specs.Tables.{table_at}
-use Rattle.egt_sweep.specs.Nodes.{exit_by, exits_by}
-use Rattle.egt_sweep.specs.Objective.{metric_of, known}
+use Rattle.egt_sweep.specs.Prelude.{◌≡◌, ℕ, ◌+◌, ◌<◌, ◌++◌, List, [], ◌∷◌, get_or, length, take, sym, ap, ◌∙◌, arith}
+use Rattle.egt_sweep.specs.Prelude.{flat_map, option_to_list, flat_map-append, append-nil, take_more, take_all, played}
+use Rattle.egt_sweep.specs.Prelude.{Move, Exit, table_at, exit_by, exits_by, metric_of, known}
 use Rattle.egt_sweep.proofs.Collecting.{listed_is_legal}
 use Rattle.egt_sweep.proofs.exits.exits_of.Goals as goal
 

@@ -1,8 +1,4 @@
-use Rattle.std.proofs.Common.{◌≡◌, ◌≤◌, take}
-use Rattle.arrayvec.specs.ArrayVec.{array_vec_len}
-use Rattle.egt_entries.specs.Tables.{table_at}
-use Rattle.egt_sweep.specs.Nodes.{exits_by}
-use Rattle.egt_sweep.specs.Objective.{metric_of, known}
+use Rattle.egt_sweep.specs.Prelude.{◌≡◌, ◌≤◌, take, array_vec_len, table_at, exits_by, metric_of, known}
 use Rattle.egt_sweep.proofs.exits.exits_of.Given as goal
 
 -- the exits of the moves so far

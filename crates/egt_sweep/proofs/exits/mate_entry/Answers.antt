@@ -1,11 +1,5 @@
-use Rattle.std.proofs.Common.{◌≡◌, ℕ, ◌<◌, Option, IfSome, sym, subst, ◌∙◌}
-use Rattle.std.proofs.lemmas.Bool.{false≢true}
-use Rattle.egt_entries.specs.declared.metric.Metric.TheVariants.{Mate}
-use Rattle.egt_table.specs.Table.{TableValue}
-use Rattle.egt_entries.specs.Tables.{table_at, entry_at}
-use Rattle.egt_sweep.specs.Objective.{known, Knows}
-use Rattle.egt_sweep.specs.MateColumn.{mate_table}
-use Rattle.egt_sweep.specs.declared.objective.Objective.{Objective}
+use Rattle.egt_sweep.specs.Prelude.{◌≡◌, ℕ, ◌<◌, Option, IfSome, sym, subst, ◌∙◌, false≢true, Mate, TableValue}
+use Rattle.egt_sweep.specs.Prelude.{table_at, entry_at, known, Knows, mate_table, Objective}
 use Rattle.egt_sweep.proofs.OutOfClass.{beside_other}
 use Rattle.egt_sweep.proofs.OwnColumn.{own_bound, own_shows}
 use Rattle.egt_sweep.proofs.Staying.{tests_equal}

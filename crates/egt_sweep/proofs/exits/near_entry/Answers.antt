@@ -1,12 +1,6 @@
-use Rattle.std.proofs.Common.{◌≡◌, ℕ, ◌<◌, ◌*◌, ◌-◌, ◌∙◌, Option, Some, IfSome, IsSome, refl, ap, sym, subst, arith}
-use Rattle.egt_entries.specs.declared.metric.Metric.TheVariants.{Mate}
-use Rattle.egt_table.specs.Table.{TableValue, entries_or_none}
-use Rattle.egt_index.specs.Index.{IsIndex}
-use Rattle.egt_index.specs.Size.{size_of}
-use Rattle.egt_entries.specs.Library.{IsShelved}
-use Rattle.egt_entries.specs.NearTables.{near_entry}
-use Rattle.egt_entries.specs.Reach.{ShowsReach}
-use Rattle.egt_entries.specs.Tables.{table_at, entry_at}
+use Rattle.egt_sweep.specs.Prelude.{◌≡◌, ℕ, ◌<◌, ◌*◌, ◌-◌, ◌∙◌, Option, Some, IfSome, IsSome, refl, ap, sym, subst}
+use Rattle.egt_sweep.specs.Prelude.{arith, Mate, TableValue, entries_or_none, IsIndex, size_of, IsShelved, near_entry}
+use Rattle.egt_sweep.specs.Prelude.{ShowsReach, table_at, entry_at}
 use Rattle.egt_sweep.proofs.NearEntries.{near_found, near_has, near_shown, near_of_entry, shown_range, slice_near}
 use Rattle.egt_sweep.proofs.OutOfClass.{mapped_some, mapped_found}
 use Rattle.egt_sweep.proofs.exits.near_entry.Goals as goal

@@ -1,11 +1,5 @@
-use Rattle.std.proofs.Common.{◌≡◌, ℕ, ◌<◌, Option, IfSome, sym, subst}
-use Rattle.egt_entries.specs.declared.metric.Metric.TheVariants.{Mate}
-use Rattle.egt_table.specs.Table.{TableValue}
-use Rattle.egt_index.specs.Index.{IsIndex}
-use Rattle.egt_index.specs.Size.{size_of}
-use Rattle.egt_entries.specs.Entry.{Shows}
-use Rattle.egt_entries.specs.Library.{IsShelved}
-use Rattle.egt_entries.specs.Tables.{table_at, entry_at}
+use Rattle.egt_sweep.specs.Prelude.{◌≡◌, ℕ, ◌<◌, Option, IfSome, sym, subst, Mate, TableValue, IsIndex, size_of, Shows}
+use Rattle.egt_sweep.specs.Prelude.{IsShelved, table_at, entry_at}
 use Rattle.egt_sweep.proofs.OutOfClass.{mapped_some, mapped_found}
 use Rattle.egt_sweep.proofs.exits.table_entry.Goals as goal
 

@@ -1,5 +1,4 @@
-use Rattle.std.proofs.Common.{refl}
-use Rattle.egt_board.specs.DecidedSetup.{settled_form}
+use Rattle.egt_sweep.specs.Prelude.{refl, settled_form}
 use Rattle.egt_sweep.proofs.laws.laws.Goals as goal
 
 pub returns : goal.returns

@@ -1,6 +1,4 @@
-use Rattle.std.proofs.Common.{ℕ, ◌<◌, ◌≤◌}
-use Rattle.egt_entries.specs.Tables.{entry_at}
-use Rattle.egt_entries.specs.declared.metric.Metric.TheVariants.{Mate}
+use Rattle.egt_sweep.specs.Prelude.{ℕ, ◌<◌, ◌≤◌, entry_at, Mate}
 use Rattle.egt_sweep.proofs.limit.first_above.Given as goal
 
 -- no mate entry so far is greater

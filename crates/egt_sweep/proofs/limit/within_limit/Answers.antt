@@ -1,7 +1,4 @@
-use Rattle.std.proofs.Common.{ℕ, ◌+◌, ◌*◌, ◌<◌, ◌≤◌, Option, IfSome, IfNone, subst}
-use Rattle.egt_index.specs.Size.{size_of}
-use Rattle.egt_entries.specs.Tables.{entry_at}
-use Rattle.egt_entries.specs.declared.metric.Metric.TheVariants.{Mate}
+use Rattle.egt_sweep.specs.Prelude.{ℕ, ◌+◌, ◌*◌, ◌<◌, ◌≤◌, Option, IfSome, IfNone, subst, size_of, entry_at, Mate}
 use Rattle.egt_sweep.proofs.WithinLimit.{all_within, some_above}
 use Rattle.egt_sweep.proofs.limit.within_limit.Goals as goal
 

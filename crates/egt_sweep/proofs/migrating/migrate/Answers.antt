@@ -1,7 +1,5 @@
-use Rattle.std.proofs.Common.{sym, subst}
-use Rattle.egt_entries.specs.Tables.{table_at, HasChildren, HasReachChildren}
-use Rattle.egt_entries.specs.Truth.{HasTrueChildren}
-use Rattle.egt_sweep.specs.Built.{HasNoFalseChild}
+use Rattle.egt_sweep.specs.Prelude.{sym, subst, table_at, HasChildren, HasReachChildren, HasTrueChildren}
+use Rattle.egt_sweep.specs.Prelude.{HasNoFalseChild}
 use Rattle.egt_sweep.proofs.FilledTables.{kept_is_true, true_is_accepted}
 use Rattle.egt_sweep.proofs.JoinedTables.{not_there}
 use Rattle.egt_sweep.proofs.TrueChildren.{true_children}

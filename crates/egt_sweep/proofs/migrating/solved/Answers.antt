@@ -1,14 +1,8 @@
-use Rattle.std.proofs.Common.{ℕ, Err, refl, sym, ap, subst}
-use Rattle.egt_graph.specs.Near.{AreNears}
-use Rattle.egt_table.specs.Table.{IsTable}
-use Rattle.egt_entries.specs.Tables.{Tables, table_at}
-use Rattle.egt_entries.specs.Truth.{HasTrueChildren, IsTrueTable}
-use Rattle.egt_sweep.specs.Built.{HasNoFalseChild, IsMigrated, SomeReachesFar}
-use Rattle.egt_sweep.specs.ReachGame.{reach_game}
+use Rattle.egt_sweep.specs.Prelude.{ℕ, Err, refl, sym, ap, subst, AreNears, IsTable, Tables, table_at, HasTrueChildren}
+use Rattle.egt_sweep.specs.Prelude.{IsTrueTable, HasNoFalseChild, IsMigrated, SomeReachesFar, reach_game, reaches_below}
 use Rattle.egt_sweep.proofs.FilledTables.{kept_is_true}
 use Rattle.egt_sweep.proofs.JoinedTables.{NearsTell, joined_is_accepted, joined_reach}
 use Rattle.egt_sweep.proofs.TrueChildren.{true_children}
-use Rattle.egt_check.proofs.BelowTrue.{reaches_below}
 use Rattle.egt_sweep.proofs.migrating.solved.Goals as goal
 
 pub returns-in-Err-TooDeep-clause-reason : goal.returns-in-Err-TooDeep-clause-reason

@@ -1,7 +1,4 @@
-use Rattle.std.proofs.Common.{ap, sym, ◌∙◌}
-use Rattle.egt_entries.specs.Tables.{table_at}
-use Rattle.egt_sweep.specs.Nodes.{exits_at, exits_from}
-use Rattle.egt_sweep.specs.Objective.{metric_of, known}
+use Rattle.egt_sweep.specs.Prelude.{ap, sym, ◌∙◌, table_at, exits_at, exits_from, metric_of, known}
 use Rattle.egt_sweep.proofs.Linked.{position_is}
 use Rattle.egt_sweep.proofs.nodes.exits.Goals as goal
 

@@ -1,5 +1,4 @@
-use Rattle.std.proofs.Common.{refl}
-use Rattle.egt_entries.specs.Tables.{beside}
+use Rattle.egt_sweep.specs.Prelude.{refl, beside}
 use Rattle.egt_sweep.proofs.OutOfClass.{beside_own}
 use Rattle.egt_sweep.proofs.Shown.{beside_values}
 use Rattle.egt_sweep.proofs.ZeroRanks.{rank_is_distance, rank_in_time}

@@ -1,5 +1,4 @@
-use Rattle.std.proofs.Common.{◌≡◌, map, take}
-use Rattle.egt_sweep.specs.ReachGame.{as_win}
+use Rattle.egt_sweep.specs.Prelude.{◌≡◌, map, take, as_win}
 use Rattle.egt_sweep.proofs.reach_game.as_wins.Given as goal
 
 -- the exits so far

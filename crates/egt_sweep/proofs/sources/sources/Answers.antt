@@ -1,8 +1,4 @@
-use Rattle.std.proofs.Common.{ℕ, ◌<◌, arith, subst, sym}
-use Rattle.std.specs.List.{Contains}
-use Rattle.egt_unmoves.specs.declared.unmove.Unmove.{Unmove}
-use Rattle.std.proofs.Common.{List}
-use Rattle.egt_sweep.specs.Edges.{ComesFrom}
+use Rattle.egt_sweep.specs.Prelude.{ℕ, ◌<◌, arith, subst, sym, Contains, Unmove, List, ComesFrom}
 use Rattle.egt_sweep.proofs.Backward.{before_class, sources_are}
 use Rattle.egt_sweep.proofs.Collecting.{collected_start, collected_more, collected_all, members_then}
 use Rattle.egt_sweep.proofs.sources.sources.Goals as goal

@@ -1,8 +1,4 @@
-use Rattle.std.proofs.Common.{ℕ, ◌≤◌, ◌↔◌}
-use Rattle.std.specs.List.{Contains}
-use Rattle.std.specs.List.Sorted.{IsStrictlyIncreasing}
-use Rattle.arrayvec.specs.ArrayVec.{array_vec_len}
-use Rattle.egt_sweep.specs.Edges.{ComesFrom}
+use Rattle.egt_sweep.specs.Prelude.{ℕ, ◌≤◌, ◌↔◌, Contains, IsStrictlyIncreasing, array_vec_len, ComesFrom}
 use Rattle.egt_sweep.proofs.Collecting.{Collected}
 use Rattle.egt_sweep.proofs.sources.sources.Given as goal
 

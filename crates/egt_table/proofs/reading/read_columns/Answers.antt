@@ -1,6 +1,4 @@
-use Rattle.std.proofs.Common.{◌++◌, refl, arith, length-append}
-use Rattle.std.proofs.lemmas.Result.{err_from_is_err_and, IfErr-weaker}
-use Rattle.egt_table.specs.File.{entries_bytes}
+use Rattle.egt_table.specs.Prelude.{◌++◌, refl, arith, length-append, err_from_is_err_and, IfErr-weaker, entries_bytes}
 use Rattle.egt_table.proofs.Answers.{cut_more, misfit_more, misfit_of_cut}
 use Rattle.egt_table.proofs.Entries.{entries_length}
 use Rattle.egt_table.proofs.Known.{consumes_more}

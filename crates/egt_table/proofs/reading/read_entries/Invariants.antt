@@ -1,6 +1,4 @@
-use Rattle.std.proofs.Common.{◌≡◌, ◌≤◌, ◌-◌, take, length}
-use Rattle.std.specs.Io.KnownBytes.{Consumes}
-use Rattle.egt_table.specs.File.{entries_bytes}
+use Rattle.egt_table.specs.Prelude.{◌≡◌, ◌≤◌, ◌-◌, take, length, Consumes, entries_bytes}
 use Rattle.egt_table.proofs.reading.read_entries.Given as goal
 
 abbrev pub invariant-loop-at : goal.invariant-loop-at

@@ -1,6 +1,4 @@
-use Rattle.std.proofs.Common.{ℕ, List, subst, sym, ◌∙◌, arith}
-use Rattle.std.specs.Io.KnownBytes.{Consumes}
-use Rattle.std.proofs.lemmas.List.{take_all}
+use Rattle.egt_table.specs.Prelude.{ℕ, List, subst, sym, ◌∙◌, arith, Consumes, take_all}
 use Rattle.egt_table.proofs.Entries.{entries_read}
 use Rattle.egt_table.proofs.reading.read_piece.Goals as goal
 

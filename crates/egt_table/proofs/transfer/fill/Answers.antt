@@ -1,5 +1,4 @@
-use Rattle.std.proofs.Common.{◌∙◌, arith, length-append, ℕ}
-use Rattle.std.proofs.lemmas.List.{length-take-le}
+use Rattle.egt_table.specs.Prelude.{◌∙◌, arith, length-append, ℕ, length-take-le}
 use Rattle.egt_table.proofs.Known.{consumes_more, take_across}
 use Rattle.egt_table.proofs.transfer.fill.Goals as goal
 

@@ -1,5 +1,4 @@
-use Rattle.std.proofs.Common.{length, ℕ, ◌<◌, get_or, ◌-◌, ◌≡◌, ◌≤◌, take}
-use Rattle.std.specs.Io.KnownBytes.{Consumes}
+use Rattle.egt_table.specs.Prelude.{length, ℕ, ◌<◌, get_or, ◌-◌, ◌≡◌, ◌≤◌, take, Consumes}
 use Rattle.egt_table.proofs.transfer.fill.Given as goal
 
 abbrev pub invariant-loop-got : goal.invariant-loop-got

@@ -1,5 +1,4 @@
-use Rattle.std.proofs.Common.{◌≡◌, ◌++◌, List, ℕ, length}
-use Rattle.std.specs.Io.KnownBytes.{Appends}
+use Rattle.egt_table.specs.Prelude.{◌≡◌, ◌++◌, List, ℕ, length, Appends}
 use Rattle.egt_table.proofs.transfer.push_all.Given as goal
 
 abbrev pub invariant-loop-rest : goal.invariant-loop-rest

@@ -1,6 +1,4 @@
-use Rattle.std.proofs.Common.{◌≡◌, ◌++◌, List, ℕ, length}
-use Rattle.std.specs.Io.KnownBytes.{Appends}
-use Rattle.egt_table.specs.File.{entries_bytes}
+use Rattle.egt_table.specs.Prelude.{◌≡◌, ◌++◌, List, ℕ, length, Appends, entries_bytes}
 use Rattle.egt_table.proofs.writing.push_entries.Given as goal
 
 abbrev pub invariant-loop-rest : goal.invariant-loop-rest

@@ -1,12 +1,5 @@
-use Rattle.std.proofs.Common.{◌≡◌, refl, subst}
-use Rattle.egt_board.specs.DecidedSetup.{settled_form}
-use Rattle.egt_board.specs.Images.{AreImages}
-use Rattle.egt_board.specs.Setup.{Setup, IsAdmissible}
-use Rattle.egt_board.specs.Settled.{SettlesTo}
-use Rattle.egt_board.specs.Symmetry.{KeepsPlay}
-use Rattle.egt_board.specs.Turned.{IsTurnedBy, IsSetBy, turned_by}
-use Rattle.egt_moves.specs.Turned.{turned_move}
-use Rattle.egt_unmoves.specs.Unmoves.{ComesBy}
+use Rattle.egt_unmoves.specs.Prelude.{◌≡◌, refl, subst, settled_form, AreImages, Setup, IsAdmissible, SettlesTo}
+use Rattle.egt_unmoves.specs.Prelude.{KeepsPlay, IsTurnedBy, IsSetBy, turned_by, turned_move, ComesBy}
 use Rattle.egt_unmoves.proofs.UnmoveImages.{keeps_before, pawn_turned, comes_turned}
 use Rattle.egt_unmoves.proofs.laws.images_have_like_unmoves.Goals as goal
 

@@ -1,5 +1,4 @@
-use Rattle.std.proofs.Common.{arith, ap}
-use Rattle.egt_board.specs.Setup.{Setup}
+use Rattle.egt_unmoves.specs.Prelude.{arith, ap, Setup}
 use Rattle.egt_unmoves.proofs.Pushing.{pushed}
 use Rattle.egt_unmoves.proofs.listing.push_before.Goals as goal
 

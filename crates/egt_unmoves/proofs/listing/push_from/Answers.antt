@@ -1,12 +1,6 @@
-use Rattle.std.proofs.Common.{◌≡◌, Some, None, arith, ap, sym, ◌∙◌, refl, inl, inr, subst}
+use Rattle.egt_unmoves.specs.Prelude.{◌≡◌, Some, None, arith, ap, sym, ◌∙◌, refl, inl, inr, subst, false≢true}
+use Rattle.egt_unmoves.specs.Prelude.{other_side, ahead, HasPawnBeside, Placement, IsTarget, men_before, ListsBelow}
 use Rattle.std.specs.FinMap as map
-use Rattle.std.proofs.lemmas.Bool.{false≢true}
-use Rattle.egt_board.specs.Man.{other_side}
-use Rattle.egt_board.specs.Pawn.{ahead, HasPawnBeside}
-use Rattle.egt_board.specs.Placement.{Placement}
-use Rattle.egt_board.specs.Target.{IsTarget}
-use Rattle.egt_unmoves.specs.Unmoves.{men_before}
-use Rattle.egt_unmoves.specs.Order.{ListsBelow}
 use Rattle.egt_unmoves.proofs.Pushing.{this_one, none_of, no_target, not_pushed, not_ready}
 use Rattle.egt_unmoves.proofs.Quiet.{free_left}
 use Rattle.egt_unmoves.proofs.Room.{few_left}

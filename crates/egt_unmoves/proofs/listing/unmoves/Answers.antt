@@ -1,7 +1,4 @@
-use Rattle.std.proofs.Common.{◌↔◌, arith, sym, ◌∙◌, subst, ap}
-use Rattle.egt_board.specs.Man.{other_side}
-use Rattle.egt_board.specs.Placement.{IsHeld}
-use Rattle.egt_board.specs.SquareSet.{Has}
+use Rattle.egt_unmoves.specs.Prelude.{◌↔◌, arith, sym, ◌∙◌, subst, ap, other_side, IsHeld, Has}
 use Rattle.egt_unmoves.proofs.Men.{ListsMen-none, ListsMen-room, ListsMen-before, ListsMen-more, ListsMen-all}
 use Rattle.egt_unmoves.proofs.InOrder.{ListsBelow-all}
 use Rattle.egt_unmoves.proofs.listing.unmoves.Goals as goal

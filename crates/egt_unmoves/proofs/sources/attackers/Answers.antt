@@ -1,7 +1,4 @@
-use Rattle.std.proofs.Common.{arith, subst}
-use Rattle.egt_board.specs.Placement.{IsFree}
-use Rattle.egt_board.specs.AttackLines.{Reaches}
-use Rattle.egt_board.proofs.Facing.{attacks_back}
+use Rattle.egt_unmoves.specs.Prelude.{arith, subst, IsFree, Reaches, attacks_back}
 use Rattle.egt_unmoves.proofs.sources.attackers.Goals as goal
 
 pub returns-clause-attackers : goal.returns-clause-attackers

@@ -1,8 +1,5 @@
-use Rattle.std.proofs.Common.{◌≡◌, ℕ, ◌<◌, max, arith, inl, inr, subst, sym}
+use Rattle.egt_unmoves.specs.Prelude.{◌≡◌, ℕ, ◌<◌, max, arith, inl, inr, subst, sym, bit_at-lt, IsFree, Advances, ahead}
 use Rattle.std.specs.FinMap as map
-use Rattle.std.proofs.lemmas.Nat.Bits.{bit_at-lt}
-use Rattle.egt_board.specs.Placement.{IsFree}
-use Rattle.egt_board.specs.Pawn.{Advances, ahead}
 use Rattle.egt_unmoves.proofs.Ways.{Advances-back}
 use Rattle.egt_unmoves.proofs.sources.pawn_sources.Goals as goal
 

@@ -1,9 +1,6 @@
-use Rattle.std.proofs.Common.{◌≡◌, ◌≢◌, ℕ, ◌-◌, ◌<◌, ◌↔◌, min, arith, ◌∙◌, subst}
-use Rattle.std.proofs.lemmas.Nat.Bits.{bit_at-lt}
-use Rattle.egt_board.specs.Attack.{king_of}
-use Rattle.egt_board.specs.Setup.{IsKingOn}
+use Rattle.egt_unmoves.specs.Prelude.{◌≡◌, ◌≢◌, ℕ, ◌-◌, ◌<◌, ◌↔◌, min, arith, ◌∙◌, subst, bit_at-lt, king_of, IsKingOn}
+use Rattle.egt_unmoves.specs.Prelude.{sides_differ}
 use Rattle.egt_unmoves.proofs.Quiet.{quiet_at}
-use Rattle.egt_board.proofs.Sides.{sides_differ}
 use Rattle.egt_unmoves.proofs.sources.quiet.Goals as goal
 
 -- a bit of the one set and not of the other

@@ -1,14 +1,7 @@
-use Rattle.std.proofs.Common.{◌≡◌, ℕ, ◌-◌, ◌<◌, min, arith, sym, ◌∙◌, ap, inl, inr, subst}
-use Rattle.std.specs.Int.{bit_at}
+use Rattle.egt_unmoves.specs.Prelude.{◌≡◌, ℕ, ◌-◌, ◌<◌, min, arith, sym, ◌∙◌, ap, inl, inr, subst, bit_at, false≢true}
+use Rattle.egt_unmoves.specs.Prelude.{bit_at-lt, SquareSet, IsInCheck, Reaches, Advances, Placement, IsFree, Went}
+use Rattle.egt_unmoves.specs.Prelude.{men_before}
 use Rattle.std.specs.FinMap as map
-use Rattle.std.proofs.lemmas.Bool.{false≢true}
-use Rattle.std.proofs.lemmas.Nat.Bits.{bit_at-lt}
-use Rattle.egt_board.specs.declared.square_set.SquareSet.{SquareSet}
-use Rattle.egt_board.specs.Attack.{IsInCheck}
-use Rattle.egt_board.specs.AttackLines.{Reaches}
-use Rattle.egt_board.specs.Pawn.{Advances}
-use Rattle.egt_board.specs.Placement.{Placement, IsFree}
-use Rattle.egt_unmoves.specs.Unmoves.{Went, men_before}
 use Rattle.egt_unmoves.proofs.Quiet.{king_left, free_left}
 use Rattle.egt_unmoves.proofs.sources.sources.Goals as goal
 use Rattle.egt_unmoves.proofs.sources.sources.Goals.{then-is_pawn, else-is_pawn}

@@ -1,6 +1,4 @@
-use Rattle.std.proofs.Common.{sym, ◌∙◌}
-use Rattle.std.proofs.lemmas.Bool.{false≢true}
-use Rattle.egt_board.specs.Placement.{IsFree}
+use Rattle.egt_unmoves.specs.Prelude.{sym, ◌∙◌, false≢true, IsFree}
 use Rattle.egt_unmoves.proofs.Went.{advances_anyhow, same_target}
 use Rattle.egt_unmoves.proofs.taking_back.advanced.Goals as goal
 

@@ -1,7 +1,4 @@
-use Rattle.std.proofs.Common.{◌≡◌, Some, rules, sym, ◌∙◌, subst}
-use Rattle.std.proofs.lemmas.Bool.{false≢true}
-use Rattle.egt_board.specs.Pawn.{HasPawnBeside}
-use Rattle.egt_moves.specs.Legal.{passed}
+use Rattle.egt_unmoves.specs.Prelude.{◌≡◌, Some, rules, sym, ◌∙◌, subst, false≢true, HasPawnBeside, passed}
 use Rattle.egt_unmoves.proofs.Went.{target_stays, target_goes}
 use Rattle.egt_unmoves.proofs.taking_back.target_left.Goals as goal
 

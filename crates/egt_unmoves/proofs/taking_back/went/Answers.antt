@@ -1,7 +1,4 @@
-use Rattle.std.proofs.Common.{arith, sym, inl, inr, subst}
-use Rattle.egt_board.specs.Pawn.{Advances}
-use Rattle.egt_board.specs.Placement.{Placement, IsFree}
-use Rattle.egt_unmoves.specs.Unmoves.{Went}
+use Rattle.egt_unmoves.specs.Prelude.{arith, sym, inl, inr, subst, Advances, Placement, IsFree, Went}
 use Rattle.egt_unmoves.proofs.taking_back.went.Goals as goal
 
 pub returns-then-is_pawn : goal.returns-then-is_pawn

@@ -1,8 +1,5 @@
-use Rattle.std.proofs.Common.{◌≡◌, ◌⊎◌, ℕ, arith, Some, None, sym, ap, ◌∙◌, inl, subst}
-use Rattle.std.specs.Int.{bit_at}
-use Rattle.egt_board.specs.Man.{other_side}
-use Rattle.egt_board.specs.Pawn.{pawn_of, ahead}
-use Rattle.egt_board.specs.Placement.{Stands}
+use Rattle.egt_unmoves.specs.Prelude.{◌≡◌, ◌⊎◌, ℕ, arith, Some, None, sym, ap, ◌∙◌, inl, subst, bit_at, other_side}
+use Rattle.egt_unmoves.specs.Prelude.{pawn_of, ahead, Stands}
 use Rattle.egt_unmoves.proofs.FiveMen.{target_found, no_target_before}
 use Rattle.egt_unmoves.proofs.targets.target_before.Goals as goal
 

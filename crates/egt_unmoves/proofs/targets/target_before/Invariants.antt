@@ -1,9 +1,4 @@
-use Rattle.std.proofs.Common.{◌≡◌, ℕ}
-use Rattle.egt_board.specs.Pawn.{pawn_of}
-use Rattle.egt_board.specs.Placement.{Stands}
-use Rattle.egt_board.specs.Square.{rank_of}
-use Rattle.egt_board.specs.SquareSet.{Has}
-use Rattle.egt_unmoves.specs.Targets.{advanced_rank}
+use Rattle.egt_unmoves.specs.Prelude.{◌≡◌, ℕ, pawn_of, Stands, rank_of, Has, advanced_rank}
 use Rattle.egt_unmoves.proofs.targets.target_before.Given as goal
 
 abbrev pub invariant-loop-square : goal.invariant-loop-square

@@ -1,7 +1,4 @@
-use Rattle.std.proofs.Common.{◌≡◌, arith}
-use Rattle.std.specs.Int.{bit_at}
-use Rattle.std.proofs.lemmas.Nat.Bits.{bit_at-lt}
-use Rattle.egt_board.specs.AttackLines.{Rides-free}
+use Rattle.egt_board.specs.Prelude.{◌≡◌, arith, bit_at, bit_at-lt, Rides-free}
 use Rattle.egt_board.proofs.Bits.{bit_at-within}
 use Rattle.egt_board.proofs.Sizes.{advances_few}
 use Rattle.egt_board.proofs.board.Board.advances.Goals as goal

@@ -1,5 +1,4 @@
-use Rattle.std.proofs.Common.{refl, sym, ◌∙◌, inl, inr}
-use Rattle.std.proofs.lemmas.Bool.{false≢true}
+use Rattle.egt_board.specs.Prelude.{refl, sym, ◌∙◌, inl, inr, false≢true}
 use Rattle.egt_board.proofs.Attacks.{attacked_by}
 use Rattle.egt_board.proofs.board.Board.attacks.Goals as goal
 

@@ -1,7 +1,4 @@
-use Rattle.std.proofs.Common.{◌≡◌, ℕ, refl}
-use Rattle.std.specs.Int.{bit_at}
-use Rattle.std.proofs.lemmas.Nat.Bits.{bit_at-lt}
-use Rattle.egt_board.specs.Attack.{AttacksFrom}
+use Rattle.egt_board.specs.Prelude.{◌≡◌, ℕ, refl, bit_at, bit_at-lt, AttacksFrom}
 use Rattle.egt_board.proofs.Attacks.{attacked_as, seen_without}
 use Rattle.egt_board.proofs.Sheltering.{any_of_four}
 use Rattle.egt_board.proofs.board.Board.danger_without.Goals as goal

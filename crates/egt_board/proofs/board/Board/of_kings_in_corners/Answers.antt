@@ -1,8 +1,4 @@
-use Rattle.std.proofs.Common.{◌≡◌, [], ◌∷◌, Some, None, ◌∙◌, subst, sym}
-use Rattle.egt_board.specs.declared.man.Side.TheVariants.{White, Black}
-use Rattle.egt_board.specs.Attack.{king_of}
-use Rattle.egt_board.specs.Board.{Slot}
-use Rattle.egt_board.specs.Corners.{corners}
+use Rattle.egt_board.specs.Prelude.{◌≡◌, [], ◌∷◌, Some, None, ◌∙◌, subst, sym, White, Black, king_of, Slot, corners}
 use Rattle.egt_board.proofs.Slots.{AreShown, shown_corners, placed_of, kept_of}
 use Rattle.egt_board.proofs.board.Board.of_kings_in_corners.Goals as goal
 

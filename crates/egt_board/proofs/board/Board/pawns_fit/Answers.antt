@@ -1,7 +1,4 @@
-use Rattle.std.proofs.Common.{◌≡◌, rules, sym, ◌∙◌, inl, inr, refl, Some, subst, arith}
-use Rattle.std.proofs.lemmas.Nat.Bits.{bit_at-lt}
-use Rattle.egt_board.specs.declared.man.Man.{Man}
-use Rattle.egt_board.specs.Pawn.{MayStand}
+use Rattle.egt_board.specs.Prelude.{◌≡◌, rules, sym, ◌∙◌, inl, inr, refl, Some, subst, arith, bit_at-lt, Man, MayStand}
 use Rattle.egt_board.proofs.Pawns.{FitSoFar-init, FitSoFar-less}
 use Rattle.egt_board.proofs.board.Board.pawns_fit.Goals as goal
 

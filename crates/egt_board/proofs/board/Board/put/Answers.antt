@@ -1,9 +1,7 @@
-use Rattle.std.proofs.Common.{◌≡◌, ℕ, ◌-◌, ◌≤◌, Bool, true, false, cond, arith, refl, sym, ap, ◌∙◌, inl, inr}
-use Rattle.std.specs.Cmp.{nat_cmp_total}
+use Rattle.egt_board.specs.Prelude.{◌≡◌, ℕ, ◌-◌, ◌≤◌, Bool, true, false, cond, arith, refl, sym, ap, ◌∙◌, inl, inr}
+use Rattle.egt_board.specs.Prelude.{nat_cmp_total, cases_eq, Man, Placement, same_men, get-insert_same}
+use Rattle.egt_board.specs.Prelude.{get-insert_other, get-remove_same, get-remove_other}
 use Rattle.std.specs.FinMap as map
-use Rattle.std.proofs.lemmas.Bool.{cases_eq}
-use Rattle.egt_board.specs.declared.man.Man.{Man}
-use Rattle.egt_board.specs.Placement.{Placement, same_men, get-insert_same, get-insert_other, get-remove_same, get-remove_other}
 use Rattle.egt_board.proofs.board.Board.put.Goals as goal
 
 no_more : (m : Placement) (s : ℕ) → map.len (map.remove m s) ≤ map.len m

@@ -1,6 +1,4 @@
-use Rattle.std.proofs.Common.{refl}
-use Rattle.std.proofs.lemmas.Nat.Bits.{bit_at-lt}
-use Rattle.egt_board.specs.Safety.{StopsSlot}
+use Rattle.egt_board.specs.Prelude.{refl, bit_at-lt, StopsSlot}
 use Rattle.egt_board.proofs.Sheltering.{all_of_four, kept_as}
 use Rattle.egt_board.proofs.board.Board.shelter_among.Goals as goal
 

@@ -1,12 +1,6 @@
-use Rattle.std.proofs.Common.{◌≡◌, ℕ, ◌<◌, ◌/◌, ◌%◌, Bool, true, false, Option, Some, None, refl, ap, ◌∙◌, subst, inl, inr, arith}
-use Rattle.std.specs.Prelude.{◌==◌}
-use Rattle.std.specs.Option.{option_map}
-use Rattle.egt_board.specs.declared.mirror.Mirror.{Mirror}
-use Rattle.egt_board.specs.declared.mirror.Mirror.TheVariants.{Files, Ranks, Diagonal}
-use Rattle.egt_board.specs.Setup.{Setup}
-use Rattle.egt_board.specs.MirrorLaws.{square_by-within}
-use Rattle.egt_board.specs.Symmetry.{IsCarried, IsTurned, square_if, square_of}
-use Rattle.std.proofs.lemmas.Bool.{eqb-true}
+use Rattle.egt_board.specs.Prelude.{◌≡◌, ℕ, ◌<◌, ◌/◌, ◌%◌, Bool, true, false, Option, Some, None, refl, ap, ◌∙◌, subst}
+use Rattle.egt_board.specs.Prelude.{inl, inr, arith, ◌==◌, option_map, Mirror, Files, Ranks, Diagonal, Setup}
+use Rattle.egt_board.specs.Prelude.{square_by-within, IsCarried, IsTurned, square_if, square_of, eqb-true}
 use Rattle.egt_board.proofs.position.Position.image.Goals as goal
 
 pub turned-by_ranks-requires-clause-allowed : goal.turned-by_ranks-requires-clause-allowed

@@ -1,6 +1,4 @@
-use Rattle.std.proofs.Common.{ap, ◌∙◌}
-use Rattle.std.specs.Option.{option_map}
-use Rattle.egt_board.specs.Mirror.{square_by}
+use Rattle.egt_board.specs.Prelude.{ap, ◌∙◌, option_map, square_by}
 use Rattle.egt_board.proofs.Turning.{admissible_by}
 use Rattle.egt_board.proofs.position.Position.mirrored.Goals as goal
 

@@ -1,12 +1,6 @@
-use Rattle.std.proofs.Common.{◌≡◌, ◌≤◌, arith, rules, sym, ap, ◌∙◌, inl, inr, subst, refl, ℕ, List}
-use Rattle.std.proofs.lemmas.Bool.{false≢true}
+use Rattle.egt_board.specs.Prelude.{◌≡◌, ◌≤◌, arith, rules, sym, ap, ◌∙◌, inl, inr, subst, refl, ℕ, List, false≢true}
+use Rattle.egt_board.specs.Prelude.{White, Black, Man, other_side, Placement, IsAdmissible, IsKingOn, men_of, FitsBoard}
 use Rattle.std.specs.FinMap as map
-use Rattle.egt_board.specs.declared.man.Side.TheVariants.{White, Black}
-use Rattle.egt_board.specs.declared.man.Man.{Man}
-use Rattle.egt_board.specs.Man.{other_side}
-use Rattle.egt_board.specs.Placement.{Placement}
-use Rattle.egt_board.specs.Setup.{IsAdmissible, IsKingOn}
-use Rattle.egt_board.specs.Listed.{men_of, FitsBoard}
 use Rattle.egt_board.proofs.Lists.{len-men_of}
 use Rattle.egt_board.proofs.Positions.{waiting_king, fits_some, fits_none}
 use Rattle.egt_board.proofs.position.Position.new.Goals as goal

@@ -1,5 +1,4 @@
-use Rattle.std.proofs.Common.{inr, sym, ◌∙◌}
-use Rattle.std.proofs.lemmas.Bool.{false≢true}
+use Rattle.egt_board.specs.Prelude.{inr, sym, ◌∙◌, false≢true}
 use Rattle.egt_board.proofs.position.Position.settle.Goals as goal
 
 pub returns-else-is_settled : goal.returns-else-is_settled

@@ -1,7 +1,4 @@
-use Rattle.std.proofs.Common.{ap, ◌∙◌, sym}
-use Rattle.std.specs.Int.{bit_at}
-use Rattle.std.proofs.lemmas.Bool.{eqb-true, eq-eqb}
-use Rattle.std.proofs.lemmas.Nat.Bits.{bit_at-zero, same_from_bits}
+use Rattle.egt_board.specs.Prelude.{ap, ◌∙◌, sym, bit_at, eqb-true, eq-eqb, bit_at-zero, same_from_bits}
 use Rattle.egt_board.proofs.square_set.SquareSet.is_empty.Goals as goal
 
 pub returns : goal.returns

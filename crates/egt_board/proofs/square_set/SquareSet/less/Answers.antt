@@ -1,5 +1,4 @@
-use Rattle.std.proofs.Common.{arith, w64}
-use Rattle.std.proofs.lemmas.Nat.Bits.{bit_at_clear_same}
+use Rattle.egt_board.specs.Prelude.{arith, w64, bit_at_clear_same}
 use Rattle.egt_board.proofs.Bits.{clear-lt, bit_at_cleared_other}
 use Rattle.egt_board.proofs.square_set.SquareSet.less.Goals as goal
 

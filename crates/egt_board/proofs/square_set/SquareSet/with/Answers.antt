@@ -1,5 +1,4 @@
-use Rattle.std.proofs.Common.{arith, w64}
-use Rattle.std.proofs.lemmas.Nat.Bits.{bit_at_set_same, bit_at_set_other}
+use Rattle.egt_board.specs.Prelude.{arith, w64, bit_at_set_same, bit_at_set_other}
 use Rattle.egt_board.proofs.square_set.SquareSet.with.Goals as goal
 
 pub returns-clause-same : goal.returns-clause-same

@@ -1,5 +1,5 @@
 -- A handle may go to another thread, as the library that it owns may.
-use Rattle.std.specs.Prelude.{Bool, true, false}
+use Rattle.egt_c.specs.Prelude.{Bool, true, false, Shared, shared_row, the_row, the_type}
 use mir.Raw.{raw}
 use base.Shift.{Keyless}
 use denote.Memory.{lone}
@@ -12,10 +12,8 @@ use denote.Struct.Owning.{shape, fields, to}
 use denote.Param.Send.{IsSend, AllSend, Quiet, part_keyless, owning_send, struct_send, sendable}
 use Rattle.std.proofs.Crossing as heap
 use Rattle.egt_check.specs.contracts.library.Library as inside
-use Rattle.egt_c.specs.Shared.{Shared, shared_row}
 use Rattle.egt_check.proofs.library.Library.TheSendSync.{the_send as library, the_sync as library_shared}
 use Rattle.egt_c.specs.Owned as owned
-use Rattle.egt_c.specs.contracts.handle.EgtbLibrary.{the_row, the_type}
 
 lies : (R : RattleType) → IsSend R → (p : Ptr) (x : R.Denot) → Keyless (lies_at R full_share p x)
 lies R s (block_ptr b o) x = part_keyless R s full_share x b o

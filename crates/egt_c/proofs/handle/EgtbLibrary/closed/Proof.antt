@@ -1,5 +1,5 @@
 -- `closed` makes a handle that owns nothing.
-use Rattle.std.proofs.Common.{◌≡◌, [], ◌∷◌, refl}
+use Rattle.egt_c.specs.Prelude.{◌≡◌, [], ◌∷◌, refl, proved_at, leaves, None, owned, Shared}
 use mathlib.Core.Bool.{false}
 use mir.Val.{Val, vbool}
 use base.Logic.{SProp, emp, id⊢}
@@ -15,10 +15,6 @@ use denote.RawPtr.{null_ptr, ptr_val}
 use denote.Steps.{nothing}
 use denote.Triple.Entry.{alive}
 use denote.Triple.Walked.{Stays, walk_of}
-use Rattle.std.proofs.raw_atomic.Walks.{proved_at, leaves}
-use Rattle.std.specs.Prelude.{None}
-use Rattle.egt_c.specs.Owned.{owned}
-use Rattle.egt_c.specs.Shared.{Shared}
 use Rattle.egt_c.proofs.Values.{both}
 use Rattle.egt_c.proofs.Opened.{handle_good, handle_in}
 use Rattle.egt_c.specs.contracts.handle.EgtbLibrary.closed.{ended, clauses}

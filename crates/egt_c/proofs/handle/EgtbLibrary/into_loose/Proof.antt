@@ -1,5 +1,7 @@
 -- `into_loose` gives the pointer and what it owns, where the handle is open.
-use Rattle.std.proofs.Common.{◌≡◌, List, [], ◌∷◌, ◌++◌, refl, sym, ap, subst, lit<, ◌∙◌}
+use Rattle.egt_c.specs.Prelude.{◌≡◌, List, [], ◌∷◌, ◌++◌, refl, sym, ap, subst, lit<, ◌∙◌, Goes-blank, handle_tells}
+use Rattle.egt_c.specs.Prelude.{after, Good, Some-of, none_of, and_tt, proved_at, leaves, Option, Some, None}
+use Rattle.egt_c.specs.Prelude.{option_map, ghosts, arc_value, Places, if_open}
 use mathlib.Core.Bool.{Bool, true, false}
 use mir.Val.{Val, vptr, vbool, vcons, vnil}
 use base.Logic.{SProp, ent, emp, id⊢}
@@ -19,17 +21,7 @@ use denote.Steps.{nothing}
 use denote.Param.{layout}
 use denote.Triple.Entry.{alive}
 use denote.Triple.Walked.{Stays, stay_dropped, walk_of}
-use Rattle.std.proofs.alloc.Calls.{Goes-blank, handle_tells}
-use Rattle.std.proofs.alloc.Shapes.{after}
-use Rattle.std.proofs.cell.Inside.{Good}
-use Rattle.std.proofs.option.Made.{Some-of, none_of}
-use Rattle.std.proofs.ResultValues.{and_tt}
-use Rattle.std.proofs.raw_atomic.Walks.{proved_at, leaves}
-use Rattle.std.specs.Prelude.{Option, Some, None, option_map}
 use Rattle.std.proofs.alloc.Global.TheLaws as heap_laws
-use Rattle.std.specs.contracts.impls.GlobalAllocator.TheImpl.{ghosts}
-use Rattle.std.specs.Arc.{arc_value}
-use Rattle.egt_c.specs.Held.{Places, if_open}
 use Rattle.egt_c.proofs.Values.{both, loose_good, loose_in}
 use Rattle.egt_c.proofs.Opened.{R, Heap, Handle, Loosened, al, pointer_good, handle_good, handle_out, either}
 use Rattle.egt_c.specs.contracts.handle.EgtbLibrary.into_loose.{ended, clauses}

@@ -1,5 +1,6 @@
 -- `of` keeps the pointer and what it owns.
-use Rattle.std.proofs.Common.{◌≡◌, List, [], ◌∷◌, ◌++◌, refl, sym, subst}
+use Rattle.egt_c.specs.Prelude.{◌≡◌, List, [], ◌∷◌, ◌++◌, refl, sym, subst, Goes-blank, proved_at, leaves, Some, ghosts}
+use Rattle.egt_c.specs.Prelude.{arc_value, owned}
 use mathlib.Core.Bool.{true}
 use mir.Val.{Val, vptr, vbool}
 use base.Logic.{SProp, ent, emp, id⊢}
@@ -17,13 +18,7 @@ use denote.RawPtr.{block_ptr}
 use denote.Steps.{nothing}
 use denote.Triple.Entry.{alive}
 use denote.Triple.Walked.{Stays, stay_dropped, walk_of}
-use Rattle.std.proofs.alloc.Calls.{Goes-blank}
-use Rattle.std.proofs.raw_atomic.Walks.{proved_at, leaves}
-use Rattle.std.specs.Prelude.{Some}
 use Rattle.std.proofs.alloc.Global.TheLaws as heap_laws
-use Rattle.std.specs.contracts.impls.GlobalAllocator.TheImpl.{ghosts}
-use Rattle.std.specs.Arc.{arc_value}
-use Rattle.egt_c.specs.Owned.{owned}
 use Rattle.egt_c.proofs.Values.{both, loose_good, loose_out}
 use Rattle.egt_c.proofs.Opened.{R, Heap, Loosened, handle_good, handle_in}
 use Rattle.egt_c.specs.contracts.handle.EgtbLibrary.of.{ended, clauses}

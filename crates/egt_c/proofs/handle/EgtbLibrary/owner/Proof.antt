@@ -1,5 +1,7 @@
 -- `owner` lends the owner of an open handle, and leaves a closed one as it is. Assumes `Logic`.
-use Rattle.std.proofs.Common.{◌≡◌, List, [], ◌∷◌, ◌++◌, refl, sym, ap, subst, lit<}
+use Rattle.egt_c.specs.Prelude.{◌≡◌, List, [], ◌∷◌, ◌++◌, refl, sym, ap, subst, lit<, after, Some-of, none_of}
+use Rattle.egt_c.specs.Prelude.{proved_at, leaves, Option, Some, None, option_map, arc_value, Places, if_open}
+use Rattle.egt_c.specs.Prelude.{with_library, owned}
 use mathlib.Core.Bool.{Bool, false}
 use mir.Val.{Val, vptr, vbool, vcons, vnil}
 use base.Fraction.{full_share}
@@ -23,14 +25,6 @@ use denote.Memory.{cell_at}
 use denote.Steps.{nothing, opens, closes}
 use denote.Follow.{follows, follows_by, lends_Part}
 use denote.Triple.Walked.{Stays, stay_dropped, walk_of, Goes-spent_ref}
-use Rattle.std.proofs.alloc.Shapes.{after}
-use Rattle.std.proofs.option.Made.{Some-of, none_of}
-use Rattle.std.proofs.raw_atomic.Walks.{proved_at, leaves}
-use Rattle.std.specs.Prelude.{Option, Some, None, option_map}
-use Rattle.std.specs.Arc.{arc_value}
-use Rattle.egt_c.specs.Held.{Places, if_open}
-use Rattle.egt_c.specs.Lent.{with_library}
-use Rattle.egt_c.specs.Owned.{owned}
 use Rattle.egt_c.proofs.Values.{both}
 use Rattle.egt_c.proofs.Opened.{R, Handle, handle_out, handle_in, either}
 use Rattle.egt_c.proofs.Lending.{Rest, back}

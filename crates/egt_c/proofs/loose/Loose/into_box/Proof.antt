@@ -1,5 +1,6 @@
 -- `into_box` makes the box again.
-use Rattle.std.proofs.Common.{◌≡◌, List, [], ◌∷◌, ◌++◌, refl, sym, ap, subst}
+use Rattle.egt_c.specs.Prelude.{◌≡◌, List, [], ◌∷◌, ◌++◌, refl, sym, ap, subst, Goes-blank, after, Good, box_out}
+use Rattle.egt_c.specs.Prelude.{box_in, proved_at, leaves, met}
 use mir.Syntax.{a_type, dcons, dnil}
 use mir.Val.{Val, vptr}
 use mir.MapTy.{inst_fn}
@@ -24,16 +25,10 @@ use denote.Triple.Clauses.{Lasts, lasts}
 use denote.Triple.Spec.{triple_of}
 use denote.Triple.Call.{calls_at_last}
 use denote.Triple.Walked.{Stays, stay_dropped, walk_of}
-use Rattle.std.proofs.alloc.Calls.{Goes-blank}
-use Rattle.std.proofs.alloc.Shapes.{after}
 use denote.Triple.Table.{framed}
-use Rattle.std.proofs.cell.Inside.{Good}
 use Rattle.std.proofs.BoxSteps.Form as box
-use Rattle.std.proofs.BoxSteps.Steps.{box_out, box_in}
-use Rattle.std.proofs.raw_atomic.Walks.{proved_at, leaves}
 use Rattle.egt_c.proofs.Values.{both, Loose, loose_good, loose_out}
 use Rattle.std.specs.contracts.boxed.Box.from_raw as callee
-use Rattle.std.proofs.boxed.Box.from_raw.Met.{met}
 use Rattle.egt_c.specs.contracts.loose.Loose.into_box.{ended, clauses}
 use Rattle.egt_c.specs.contracts.loose.Loose.into_box.Key.{name as #self}
 use Rattle.egt_c.proofs.loose.Loose.into_box.Statement.{statement}

@@ -1,5 +1,6 @@
 -- `of` takes the box apart.
-use Rattle.std.proofs.Common.{◌≡◌, List, [], ◌∷◌, ◌++◌, refl, sym, ap, ◌∙◌, subst}
+use Rattle.egt_c.specs.Prelude.{◌≡◌, List, [], ◌∷◌, ◌++◌, refl, sym, ap, ◌∙◌, subst, Goes-blank, handle_tells, box_owns}
+use Rattle.egt_c.specs.Prelude.{box_out, box_in, proved_at, leaves, met, ended, clauses}
 use mir.Syntax.{a_type, dcons, dnil}
 use mir.Raw.{raw as bare}
 use mir.Val.{Val, vptr, vstruct, of_list}
@@ -26,16 +27,10 @@ use denote.Struct.Tuple.{Tuple}
 use denote.Triple.Spec.{triple_of}
 use denote.Triple.Call.{calls_at}
 use denote.Triple.Walked.{Stays, stay_dropped, walk_of}
-use Rattle.std.proofs.alloc.Calls.{Goes-blank, handle_tells}
 use denote.Triple.Table.{framed}
-use Rattle.std.specs.Box.Ownership.{box_owns}
 use Rattle.std.proofs.BoxSteps.Form as box
-use Rattle.std.proofs.BoxSteps.Steps.{box_out, box_in}
-use Rattle.std.proofs.raw_atomic.Walks.{proved_at, leaves}
 use Rattle.egt_c.proofs.Values.{both, loose_good, loose_in}
 use Rattle.std.specs.contracts.boxed.Box.into_raw_with_allocator as callee
-use Rattle.std.proofs.boxed.Box.into_raw_with_allocator.Met.{met}
-use Rattle.egt_c.specs.contracts.loose.Loose.of.{ended, clauses}
 use Rattle.egt_c.specs.contracts.loose.Loose.of.Key.{name as #self}
 use Rattle.egt_c.proofs.loose.Loose.of.Statement.{statement}
 use Rattle.egt_c.proofs.loose.Loose.of.Code as code

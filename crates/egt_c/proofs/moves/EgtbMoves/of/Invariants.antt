@@ -1,5 +1,4 @@
-use Rattle.std.proofs.Common.{◌≡◌, length, map, take}
-use Rattle.egt_c.specs.Move.{written}
+use Rattle.egt_c.specs.Prelude.{◌≡◌, length, map, take, written}
 use Rattle.egt_c.proofs.moves.EgtbMoves.of.Given as goal
 
 abbrev pub invariant-loop-chess_move : goal.invariant-loop-chess_move

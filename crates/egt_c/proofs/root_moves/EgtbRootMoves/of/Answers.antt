@@ -1,5 +1,4 @@
-use Rattle.std.proofs.Common.{ℕ, ◌+◌, ap, ◌∙◌, length-set}
-use Rattle.egt_c.specs.RootMoves.{shown_root}
+use Rattle.egt_c.specs.Prelude.{ℕ, ◌+◌, ap, ◌∙◌, length-set, shown_root}
 use Rattle.egt_c.proofs.Listed.{one_more}
 use Rattle.egt_c.proofs.root_moves.EgtbRootMoves.of.Goals as goal
 

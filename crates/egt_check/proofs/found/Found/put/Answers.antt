@@ -1,7 +1,4 @@
-use Rattle.std.proofs.Common.{true}
-use Rattle.egt_check.specs.Found.{AreFound, table_told}
-use Rattle.egt_check.specs.Put.{IsPut}
-use Rattle.egt_check.specs.declared.found.Found.TheInside.{Inside}
+use Rattle.egt_check.specs.Prelude.{true, AreFound, table_told, IsPut, Inside}
 use Rattle.egt_check.proofs.FoundPut.{IsRowPut, near_put, values_put}
 use Rattle.egt_check.proofs.found.Found.put.Goals.{in-Values-Some, in-Reach-None}
 use Rattle.egt_check.proofs.found.Found.put.Goals as goal

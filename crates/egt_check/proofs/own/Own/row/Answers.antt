@@ -1,7 +1,4 @@
-use Rattle.std.proofs.Common.{◌∙◌, ap, sym, subst}
-use Rattle.egt_index.specs.ShelfCodes.{IsShelfOf}
-use Rattle.egt_table.specs.Table.{TableValue}
-use Rattle.egt_check.specs.Own.{entries_seen}
+use Rattle.egt_check.specs.Prelude.{◌∙◌, ap, sym, subst, IsShelfOf, TableValue, entries_seen}
 use Rattle.egt_check.proofs.own.Own.row.Goals as goal
 
 pub row_of-requires-clause-shelf : goal.row_of-requires-clause-shelf

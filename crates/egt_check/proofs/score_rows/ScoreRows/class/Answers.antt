@@ -1,7 +1,4 @@
-use Rattle.std.proofs.Common.{◌≡◌, length, subst}
-use Rattle.egt_index.specs.Scales.{kind_less}
-use Rattle.egt_index.specs.Size.{size_of}
-use Rattle.egt_check.specs.ScoreRows.{CodeScores}
+use Rattle.egt_check.specs.Prelude.{◌≡◌, length, subst, kind_less, size_of, CodeScores}
 use Rattle.egt_check.proofs.ScoreRowsRead.{scores_long}
 use Rattle.egt_check.proofs.score_rows.ScoreRows.class.Goals as goal
 

@@ -1,10 +1,5 @@
-use Rattle.std.proofs.Common.{◌≡◌, ◌<◌, ◌∙◌, ◌+◌, ◌*◌, ℕ, ap, arith, refl, sym, subst, slice_index}
-use Rattle.egt_board.specs.Images.{side_number}
-use Rattle.egt_board.specs.declared.man.Side.TheVariants.{White, Black}
-use Rattle.egt_index.specs.Index.{IsVoid}
-use Rattle.egt_index.specs.Numbers.{code_of, places}
-use Rattle.egt_index.specs.ShelfCodes.{AreIndexed, IsShelf, number_in}
-use Rattle.egt_check.specs.ScoreRows.{CodeScores}
+use Rattle.egt_check.specs.Prelude.{◌≡◌, ◌<◌, ◌∙◌, ◌+◌, ◌*◌, ℕ, ap, arith, refl, sym, subst, slice_index, side_number}
+use Rattle.egt_check.specs.Prelude.{White, Black, IsVoid, code_of, places, AreIndexed, IsShelf, number_in, CodeScores}
 use Rattle.egt_check.proofs.ScoresDrawn.{IsDrawnFrom, both_drawn, by_side, drawn_from, drawn_side, still_128, still_few, still_void}
 use Rattle.egt_check.proofs.score_rows.ScoreRows.draw_shelf.Goals as goal
 

@@ -1,9 +1,5 @@
-use Rattle.std.proofs.Common.{◌≡◌, ◌∙◌, ◌<◌, ◌+◌, ◌*◌, ◌/◌, ℕ, arith, below_more, sym, subst}
-use Rattle.egt_board.specs.declared.man.Side.{Side}
-use Rattle.egt_index.specs.Index.{IsVoid}
-use Rattle.egt_index.specs.Numbers.{code_of, places}
-use Rattle.egt_index.specs.ShelfCodes.{number_in}
-use Rattle.egt_check.specs.ScoreRows.{CodeScores, IsDrawnIndex}
+use Rattle.egt_check.specs.Prelude.{◌≡◌, ◌∙◌, ◌<◌, ◌+◌, ◌*◌, ◌/◌, ℕ, arith, below_more, sym, subst, Side, IsVoid}
+use Rattle.egt_check.specs.Prelude.{code_of, places, number_in, CodeScores, IsDrawnIndex}
 use Rattle.egt_check.proofs.ScoreRowsRead.{whole_class}
 use Rattle.egt_check.proofs.ScoresDrawn.{of_code}
 use Rattle.egt_check.proofs.score_rows.ScoreRows.drawn.Goals as goal

@@ -1,8 +1,5 @@
-use Rattle.std.proofs.Common.{◌≡◌, ℕ, ◌<◌}
-use Rattle.egt_board.specs.declared.man.Side.{Side}
-use Rattle.egt_index.specs.Numbers.{code_of, places}
-use Rattle.egt_index.specs.ShelfCodes.{number_in}
-use Rattle.egt_check.specs.ScoreRows.{AreDrawnOrNone, HasNoVoidScore, IsDrawnIndex}
+use Rattle.egt_check.specs.Prelude.{◌≡◌, ℕ, ◌<◌, Side, code_of, places, number_in, AreDrawnOrNone, HasNoVoidScore}
+use Rattle.egt_check.specs.Prelude.{IsDrawnIndex}
 use Rattle.egt_check.proofs.score_rows.ScoreRows.drawn.Given as goal
 
 -- the indexes of the shelves so far are drawn

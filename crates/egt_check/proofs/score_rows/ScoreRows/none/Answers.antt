@@ -1,8 +1,5 @@
-use Rattle.std.proofs.Common.{◌≡◌, ◌∙◌, ◌<◌, ◌*◌, ◌/◌, List, ℕ, [], ap, sym, subst, arith, length, replicate}
-use Rattle.std.specs.Prelude.{slice_index, slice_index_or}
-use Rattle.std.proofs.Math.Nat.{div-le_self}
-use Rattle.egt_index.specs.Scales.{kind_less}
-use Rattle.egt_check.specs.ScoreRows.{scores_in}
+use Rattle.egt_check.specs.Prelude.{◌≡◌, ◌∙◌, ◌<◌, ◌*◌, ◌/◌, List, ℕ, [], ap, sym, subst, arith, length, replicate}
+use Rattle.egt_check.specs.Prelude.{slice_index, slice_index_or, div-le_self, kind_less, scores_in}
 use Rattle.egt_check.proofs.ScoreRowsRead.{no_score, no_scores, one_last, whole_class}
 use Rattle.egt_check.proofs.score_rows.ScoreRows.none.Goals as goal
 

@@ -1,12 +1,6 @@
-use Rattle.std.proofs.Common.{◌≡◌, ◌⊎◌, ◌∙◌, ◌*◌, ◌+◌, ◌<◌, [], List, ℕ, ap, arith, length, sym, subst, slice_index, slice_set}
-use Rattle.std.specs.Prelude.{slice_index_or}
-use Rattle.std.proofs.lemmas.List.{get_or_default}
-use Rattle.egt_board.specs.Images.{side_number}
-use Rattle.egt_index.specs.Numbers.{code_of}
-use Rattle.egt_index.specs.Scales.{kind_less}
-use Rattle.egt_index.specs.ShelfCodes.{IsShelf, IsWithin, number_in}
-use Rattle.egt_index.specs.Size.{size_of}
-use Rattle.egt_check.specs.ScoreRows.{CodeScores, IsLaneIn, scores_in}
+use Rattle.egt_check.specs.Prelude.{◌≡◌, ◌⊎◌, ◌∙◌, ◌*◌, ◌+◌, ◌<◌, [], List, ℕ, ap, arith, length, sym, subst}
+use Rattle.egt_check.specs.Prelude.{slice_index, slice_set, slice_index_or, get_or_default, side_number, code_of}
+use Rattle.egt_check.specs.Prelude.{kind_less, IsShelf, IsWithin, number_in, size_of, CodeScores, IsLaneIn, scores_in}
 use Rattle.egt_check.proofs.ScoreRowsRead.{put_lanes, put_others, scores_long}
 use Rattle.egt_check.proofs.score_rows.ScoreRows.put.Goals as goal
 

@@ -1,11 +1,6 @@
-use Rattle.std.proofs.Common.{◌≡◌, ◌<◌, ◌∙◌, ◌*◌, ◌+◌, [], List, ℕ, ap, arith, length, sym, subst, slice_index}
-use Rattle.std.specs.Prelude.{slice_index_or}
-use Rattle.std.proofs.lemmas.List.{get_or_default}
-use Rattle.egt_board.specs.Images.{side_number}
-use Rattle.egt_index.specs.Scales.{kind_less}
-use Rattle.egt_index.specs.ShelfCodes.{IsShelf, IsWithin}
-use Rattle.egt_blocks.specs.ShelfRow.{IsShelfRow}
-use Rattle.egt_check.specs.ScoreRows.{CodeScores, scores_in}
+use Rattle.egt_check.specs.Prelude.{◌≡◌, ◌<◌, ◌∙◌, ◌*◌, ◌+◌, [], List, ℕ, ap, arith, length, sym, subst, slice_index}
+use Rattle.egt_check.specs.Prelude.{slice_index_or, get_or_default, side_number, kind_less, IsShelf, IsWithin}
+use Rattle.egt_check.specs.Prelude.{IsShelfRow, CodeScores, scores_in}
 use Rattle.egt_check.proofs.ScoreRowsRead.{shelf_read}
 use Rattle.egt_check.proofs.score_rows.ScoreRows.row.Goals as goal
 

@@ -1,6 +1,4 @@
-use Rattle.std.proofs.Common.{sym, ap, ◌∙◌}
-use Rattle.egt_index.specs.Size.{size_of}
-use Rattle.egt_table.specs.declared.column.Column.TheVariants.{Mate}
+use Rattle.egt_commands.specs.Prelude.{sym, ap, ◌∙◌, size_of, Mate}
 use Rattle.egt_commands.proofs.statistics.Statistics.of.Goals as goal
 
 pub returns : goal.returns

@@ -1,5 +1,4 @@
-use Rattle.std.proofs.Common.{◌≡◌, ◌++◌, ◌∷◌, [], length, ◌∙◌, arith, rules}
-use Rattle.std.proofs.lemmas.Grind.{common_steps}
+use Rattle.egt_graph.specs.Prelude.{◌≡◌, ◌++◌, ◌∷◌, [], length, ◌∙◌, arith, rules, common_steps}
 use Rattle.egt_graph.proofs.Growing.{Targets_more}
 use Rattle.egt_graph.proofs.batch.Batch.new.Goals as goal
 

@@ -1,5 +1,4 @@
-use Rattle.std.proofs.Common.{◌≡◌, ◌+◌, length, slice_index}
-use Rattle.egt_graph.specs.Batch.{IsTargets}
+use Rattle.egt_graph.specs.Prelude.{◌≡◌, ◌+◌, length, slice_index, IsTargets}
 use Rattle.egt_graph.proofs.batch.Batch.new.Given as goal
 
 abbrev pub invariant-loop-node : goal.invariant-loop-node

@@ -1,5 +1,4 @@
-use Rattle.std.proofs.Common.{◌≡◌, length, All, IsTrue, false, replicate, refl, ◌+◌, ap, ◌∙◌, rules}
-use Rattle.egt_graph.specs.declared.answer.Phase.TheVariants.{Running}
+use Rattle.egt_graph.specs.Prelude.{◌≡◌, length, All, IsTrue, false, replicate, refl, ◌+◌, ap, ◌∙◌, rules, Running}
 use Rattle.egt_graph.proofs.Running.{written, due_nodes, due_waited, due_counted, falls_from, finished_run, next_run, found_open, found_shut}
 use Rattle.egt_graph.proofs.rounds.Rounds.close_round.Goals as goal
 

@@ -1,6 +1,4 @@
-use Rattle.std.proofs.Common.{◌≡◌, ◌<◌, ◌^◌, false, replicate, arith}
-use Rattle.std.proofs.lemmas.Grind.{common_steps}
-use Rattle.egt_graph.specs.Frontier.{blocks_of}
+use Rattle.egt_graph.specs.Prelude.{◌≡◌, ◌<◌, ◌^◌, false, replicate, arith, common_steps, blocks_of}
 use Rattle.egt_graph.proofs.Beginning.{begun_run}
 use Rattle.egt_graph.proofs.rounds.Rounds.new.Goals as goal
 

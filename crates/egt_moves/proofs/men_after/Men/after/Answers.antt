@@ -1,6 +1,4 @@
-use Rattle.std.proofs.Common.{sym, ap, ◌∙◌}
-use Rattle.egt_board.specs.Man.{other_side}
-use Rattle.egt_board.specs.Setup.{Setup}
+use Rattle.egt_moves.specs.Prelude.{sym, ap, ◌∙◌, other_side, Setup}
 use Rattle.egt_moves.proofs.MenTold.{men_told}
 use Rattle.egt_moves.proofs.men_after.Men.after.Goals as goal
 

@@ -1,8 +1,4 @@
-use Rattle.std.proofs.Common.{◌≡◌, take}
-use Rattle.std.specs.List.{flat_map}
-use Rattle.std.specs.Io.KnownBytes.{Appends}
-use Rattle.egt_table.specs.File.{column_bytes}
-use Rattle.egt_table.specs.Table.{columns_of}
+use Rattle.egt_table.specs.Prelude.{◌≡◌, take, flat_map, Appends, column_bytes, columns_of}
 use Rattle.egt_table.proofs.table.Table.write.Given as goal
 
 abbrev pub invariant-loop-column : goal.invariant-loop-column

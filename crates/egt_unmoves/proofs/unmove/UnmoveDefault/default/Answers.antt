@@ -1,7 +1,4 @@
-use Rattle.std.proofs.Common.{sym, subst}
-use Rattle.egt_board.specs.Corners.{corners}
-use Rattle.egt_board.specs.Setup.{IsKingOn}
-use Rattle.egt_board.specs.declared.man.Side.TheVariants.{White, Black}
+use Rattle.egt_unmoves.specs.Prelude.{sym, subst, corners, IsKingOn, White, Black}
 use Rattle.egt_unmoves.proofs.TwoKings.{corners-admissible, white_there, black_there}
 use Rattle.egt_unmoves.proofs.unmove.UnmoveDefault.default.Goals as goal
 
