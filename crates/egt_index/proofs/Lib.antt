@@ -51,3 +51,4 @@ pub mod ShelfCodes
 pub mod ShelfFound
 pub mod LoneCodes
 pub mod TurnedMen
+pub mod FirstMan

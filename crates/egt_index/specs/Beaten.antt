@@ -1,12 +1,14 @@
 -- Codes that some image of a position beats: the image has a code that is less.
-use Rattle.std.specs.Prelude.{◌≡◌, ℕ, ◌/◌, ◌%◌, ◌<◌, ◌≤◌, ◌==◌, Bool, false, Some, None}
+use Rattle.std.specs.Prelude.{◌≡◌, ◌≢◌, ℕ, ◌/◌, ◌%◌, ◌<◌, ◌≤◌, ◌==◌, Bool, false, [], ◌∷◌, Some, None, IfSome}
 use Rattle.egt_board.specs.declared.man.Side.{Side}
+use Rattle.egt_board.specs.declared.man.Man.{Man}
 use Rattle.egt_board.specs.Setup.{Setup}
 use Rattle.egt_board.specs.Symmetry.{KeepsPlay}
+use Rattle.egt_board.specs.Turned.{turned_square}
 use Rattle.egt_class.specs.Material.{material_of}
 use Rattle.egt_index.specs.Code.{Spells, men_at}
 use Rattle.egt_index.specs.Home.{BringsHome}
-use Rattle.egt_index.specs.Size.{has_pawns}
+use Rattle.egt_index.specs.Size.{has_pawns, men_beside}
 use Rattle.egt_index.specs.Stood.{Entry, HasStand, list_of}
 use Rattle.egt_index.specs.Turns.{IsTurn}
 use Rattle.egt_index.specs.declared.stand.Stand.{Stand}
@@ -49,6 +51,19 @@ AllSpelled c stand Holds = (p : Setup) (side : Side) (passed : Bool) (code : ℕ
 -- the kings stand on these squares
 abbrev pub HasKingsOn : (white black : ℕ) → Stand → Type 0
 HasKingsOn white black stand = (stand.white ≡ white) × (stand.black ≡ black)
+
+-- these two stand beside the kings, this one the first
+abbrev pub IsFirstOfTwo : ℕ → Man → Type 0
+IsFirstOfTwo c man = (last : Man) × (men_beside (material_of c) ≡ man ∷ last ∷ []) × (man ≢ last)
+
+-- and the first man on his, where he is known
+abbrev pub HasFront : (white black : ℕ) → Entry → Stand → Type 0
+HasFront white black first stand = HasKingsOn white black stand × IfSome first (λ e. stand.next ≡ Some e)
+
+-- the first man is known, and the turn, which exchanges no colours, takes him so far
+abbrev pub IfMoved : Entry → ℕ → (ℕ → ℕ → Type 0) → Type 0
+IfMoved None t Holds = ⊥
+IfMoved (Some e) t Holds = (t < 8) × Holds e.1 (turned_square (t % 8) (t / 8 == 1) e.1)
 
 -- what the turn makes of each position with these men, where it brings the king home, has a lesser code
 abbrev pub TurnBeats : ℕ → Stand → ℕ → Type 0

@@ -40,8 +40,8 @@ pub use Rattle.egt_class.specs.Material.{Material, beside, count_in, is_kind, ki
 unfoldable pub use Rattle.egt_class.specs.Material.{has_equal_sides, material_of, materials, men_in}
 pub use Rattle.egt_class.specs.Membership.{IsOf}
 pub use Rattle.egt_class.specs.Pair.{AreNonKings}
-pub use Rattle.egt_index.specs.Beaten.{AllSpelled, AreBehind, Beats, HasKingsOn, IsBeaten, Keeps, KeepsWith, SpellsAt}
-pub use Rattle.egt_index.specs.Beaten.{TurnBeats, TurnKeeps}
+pub use Rattle.egt_index.specs.Beaten.{AllSpelled, AreBehind, Beats, HasFront, HasKingsOn, IfMoved, IsBeaten}
+pub use Rattle.egt_index.specs.Beaten.{IsFirstOfTwo, Keeps, KeepsWith, SpellsAt, TurnBeats, TurnKeeps}
 pub use Rattle.egt_index.specs.Code.{HasTargetDigit, Spells, SpellsBy, king_square, men_at, placed, square_by_digit}
 pub use Rattle.egt_index.specs.Code.{square_of, target_digit, target_digits}
 pub use Rattle.egt_index.specs.DecidedSpelled.{decided_spelled}

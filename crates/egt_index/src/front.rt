@@ -1,15 +1,16 @@
 //! What the men before the last one tell of all codes that differ by no more than his square, the side to move and the target: such
 //! codes follow one another.
-ghost use Rattle.egt_index.specs.Prelude.{IfSome, IfNone, IsFront, IsFrontOf, SpellsNothing};
+ghost use Rattle.egt_index.specs.Prelude.{◌≡◌, IfSome, IfNone, IsFirstOfTwo, IsFront, IsFrontOf, SpellsNothing};
 
 use crate::facts::facts;
 use crate::least_code::{Leastness, leastness_in_order};
+use crate::men::non_kings;
 use crate::spelling::{board_of, stand_before};
 use crate::stand::{Stand, are_apart, are_near};
-use egt_board::Board;
+use egt_board::{Board, Man, Square};
 use egt_class::Class;
 
-/// Where the men before the last one stand, and what their kings tell.
+/// Where the men before the last one stand, and what they tell.
 #[derive(Clone, Copy)]
 pub(crate) struct Front {
     /// Without the last man.
@@ -40,7 +41,21 @@ pub(crate) fn spelled_front(class: Class, number: u32) -> Option<Front>
     })
 }
 
-/// The men before the last one who have these digits, with what their kings tell; `None` where no code with these men is a position's index.
+/// The first man of the class with his square, where the last man is another: his digit comes behind those of the kings.
+fn first_of_two(class: Class, next: Option<(Man, Square)>) -> Option<(Man, Square)>
+    ensures first { IfSome result (λ e. IsFirstOfTwo class e.0) }
+    ensures is { IfSome result (λ e. next ≡ Some e) }
+{
+    let (man, square) = next?;
+    let (first, last) = non_kings(class);
+    if first? == man && last? != man {
+        Some((man, square))
+    } else {
+        None
+    }
+}
+
+/// The men before the last one who have these digits, with what they tell; `None` where no code with these men is a position's index.
 pub(crate) fn front_of(class: Class, number: u32) -> Option<Front>
     ensures { IsFrontOf class number result }
 {
@@ -48,7 +63,8 @@ pub(crate) fn front_of(class: Class, number: u32) -> Option<Front>
     let _number = class.number();
     let front = spelled_front(class, number)?;
     let stand = &front.stand;
-    match leastness_in_order(class, stand.white, stand.black) {
+    let first = first_of_two(class, stand.next);
+    match leastness_in_order(class, stand.white, stand.black, first) {
         Leastness::Beaten => None,
         Leastness::Least => Some(Front {
             tied: false,

@@ -1,24 +1,26 @@
-//! Whether codes are the least of all images of the positions that they spell, as the kings alone tell: their digits are the highest.
-ghost use Rattle.egt_index.specs.Prelude.{◌≡◌, ◌⊎◌, ◌+◌, ◌*◌, ◌<◌, true, false, if◌then◌else◌, has_equal_sides};
-ghost use Rattle.egt_index.specs.Prelude.{AllSpelled, HasKingsOn, IsBeaten, KeepsWith, TurnBeats, TurnKeeps, IsIndex};
-ghost use Rattle.egt_index.specs.Prelude.{IsInOrder, Stand};
+//! Whether codes are the least of all images of the positions that they spell, as the kings and the first man tell: their digits are the
+//! highest.
+ghost use Rattle.egt_index.specs.Prelude.{◌≡◌, ◌⊎◌, ◌+◌, ◌*◌, ◌<◌, true, false, if◌then◌else◌, IfSome};
+ghost use Rattle.egt_index.specs.Prelude.{has_equal_sides, AllSpelled, HasFront, HasKingsOn, IfMoved, IsBeaten};
+ghost use Rattle.egt_index.specs.Prelude.{IsFirstOfTwo, KeepsWith, TurnBeats, TurnKeeps, IsIndex, IsInOrder, Stand};
 ghost use Rattle.egt_index.specs.declared.least_code.Leastness.TheVariants.{Beaten, Least, Tied};
 
 use crate::facts::facts;
 use crate::home::{home, still_home};
 use crate::men::{has_equal_sides, has_pawns};
 use crate::nearer::{kings_after, pair};
-use egt_board::Square;
+use crate::turning::turned_square;
+use egt_board::{Man, Square};
 use egt_class::Class;
 
-/// What images tell of all codes that spell a position with the kings on the same squares.
+/// What images tell of all codes that spell a position with the kings, and the first man where he is known, on the same squares.
 #[derive(Clone, Copy)]
 pub(crate) enum Leastness {
     /// Some image has a lesser code.
     Beaten,
     /// No image has one.
     Least,
-    /// Images have their kings on the same squares, and so each code is to be asked about alone.
+    /// Images have them on the same squares: each code is to be asked about alone.
     Tied,
 }
 
@@ -49,11 +51,39 @@ fn both(one: Leastness, other: Leastness) -> Leastness
     }
 }
 
-/// What the image tells that the turn, which brings a king home, makes of a settled position: other squares of the kings decide.
-fn leastness_after(class: Class, white: Square, black: Square, turn: u8) -> Leastness
+/// What the image tells that has the kings on the same squares: in the same colours another square of the first man decides.
+fn leastness_by_first(first: Option<(Man, Square)>, turn: u8) -> Leastness
     requires { turn < 16 }
-    ensures beats { result ≡ Beaten → (stand : Stand) → HasKingsOn white black stand → TurnBeats class stand turn }
-    ensures keeps { result ≡ Least → (stand : Stand) → HasKingsOn white black stand → TurnKeeps class stand turn }
+    ensures beaten { result ≡ Beaten → IfMoved first turn (λ before after. after < before) }
+    ensures least { result ≡ Least → IfMoved first turn (λ before after. before < after) }
+{
+    let Some((_, square)) = first else {
+        return Leastness::Tied;
+    };
+    let before = square.number();
+    let after = turned_square(turn, square).number();
+    if 8 <= turn || after == before {
+        Leastness::Tied
+    } else if after < before {
+        Leastness::Beaten
+    } else {
+        Leastness::Least
+    }
+}
+
+/// What the image tells that the turn, which brings a king home, makes of a settled position: other squares of the kings decide,
+/// and then another square of the first man, where he is known.
+fn leastness_after(
+    class: Class,
+    white: Square,
+    black: Square,
+    first: Option<(Man, Square)>,
+    turn: u8,
+) -> Leastness
+    requires turn { turn < 16 }
+    requires first { IfSome first (λ e. IsFirstOfTwo class e.0) }
+    ensures beats { result ≡ Beaten → (stand : Stand) → HasFront white black first stand → TurnBeats class stand turn }
+    ensures keeps { result ≡ Least → (stand : Stand) → HasFront white black first stand → TurnKeeps class stand turn }
 {
     facts();
     let _number = class.number();
@@ -65,18 +95,24 @@ fn leastness_after(class: Class, white: Square, black: Square, turn: u8) -> Leas
     if own < image {
         return Leastness::Least;
     }
-    Leastness::Tied
+    leastness_by_first(first, turn)
 }
 
 /// What the images in the same colours tell, where equal men stand in order.
-fn leastness_straight(class: Class, white: Square, black: Square) -> Leastness
-    ensures beats { result ≡ Beaten → (stand : Stand) → HasKingsOn white black stand → AllSpelled class stand (IsBeaten class) }
-    ensures keeps { result ≡ Least → (stand : Stand) → HasKingsOn white black stand → IsInOrder stand.next stand.last → AllSpelled class stand (λ p code. KeepsWith class p false code) }
+fn leastness_straight(
+    class: Class,
+    white: Square,
+    black: Square,
+    first: Option<(Man, Square)>,
+) -> Leastness
+    requires { IfSome first (λ e. IsFirstOfTwo class e.0) }
+    ensures beats { result ≡ Beaten → (stand : Stand) → HasFront white black first stand → AllSpelled class stand (IsBeaten class) }
+    ensures keeps { result ≡ Least → (stand : Stand) → HasFront white black first stand → IsInOrder stand.next stand.last → AllSpelled class stand (λ p code. KeepsWith class p false code) }
 {
     facts();
     let _number = class.number();
     match still_home(has_pawns(class), white) {
-        Some(turn) => leastness_after(class, white, black, turn),
+        Some(turn) => leastness_after(class, white, black, first, turn),
         None => Leastness::Least,
     }
 }
@@ -90,21 +126,28 @@ fn leastness_exchanged(class: Class, white: Square, black: Square) -> Leastness
     facts();
     let _number = class.number();
     let (first, second) = home(has_pawns(class), true, black);
-    let one = leastness_after(class, black, white, first);
+    let one = leastness_after(class, black, white, None, first);
     match second {
-        Some(second) => both(one, leastness_after(class, black, white, second)),
+        Some(second) => both(one, leastness_after(class, black, white, None, second)),
         None => one,
     }
 }
 
-/// What the images tell of the codes that spell settled positions with the kings on these squares, where equal men stand in order.
-pub(crate) fn leastness_in_order(class: Class, white: Square, black: Square) -> Leastness
-    ensures beaten { result ≡ Beaten → (stand : Stand) → HasKingsOn white black stand → AllSpelled class stand (λ p code. ¬ IsIndex class p code) }
-    ensures least { result ≡ Least → (stand : Stand) → HasKingsOn white black stand → IsInOrder stand.next stand.last → AllSpelled class stand (IsIndex class) }
+/// What the images tell of the codes that spell settled positions with the kings on these squares, and the first man on his where he is
+/// known, where equal men stand in order.
+pub(crate) fn leastness_in_order(
+    class: Class,
+    white: Square,
+    black: Square,
+    first: Option<(Man, Square)>,
+) -> Leastness
+    requires { IfSome first (λ e. IsFirstOfTwo class e.0) }
+    ensures beaten { result ≡ Beaten → (stand : Stand) → HasFront white black first stand → AllSpelled class stand (λ p code. ¬ IsIndex class p code) }
+    ensures least { result ≡ Least → (stand : Stand) → HasFront white black first stand → IsInOrder stand.next stand.last → AllSpelled class stand (IsIndex class) }
 {
     facts();
     let _number = class.number();
-    let straight = leastness_straight(class, white, black);
+    let straight = leastness_straight(class, white, black, first);
     if has_equal_sides(class) {
         both(straight, leastness_exchanged(class, white, black))
     } else {

@@ -27,49 +27,40 @@ fn expect_answers(
     Ok(())
 }
 
+/// Each row is a FEN, a colon, and what is answered.
+fn expect_rows(
+    rt: &impl Abort,
+    alloc: Global,
+    library: &Library,
+    rows: &[&str],
+) -> Result<(), Fail> {
+    for row in rows {
+        let (fen, line) = row.split_once(": ").unwrap_or((row, ""));
+        let answer = answered(alloc, library, fen.as_bytes())?;
+        assert!(rt; answer.as_slice() == line.as_bytes(), "{row}");
+    }
+    Ok(())
+}
+
 #[test]
 fn queens(rt: HostRuntime) -> Result<(), Fail> {
     let library = library_below(rt.alloc(), 2)?;
-    expect_answers(
+    expect_rows(
         &rt,
         rt.alloc(),
         &library,
         &[
-            (
-                "k7/1Q6/1K6/8/8/8/8/8 b - - 0 1\n",
-                "KQK white mates in 0 plies zeroing 0 line -\n",
-            ),
-            (
-                "k7/8/1K6/8/8/8/8/3Q4 w - - 0 1\n",
-                "KQK white mates in 1 plies zeroing 1 line d1d8\n",
-            ),
-            (
-                "k7/8/1K6/8/8/8/8/3Q4 b - - 0 1\n",
-                "KQK white mates in 2 plies zeroing 2 line a8b8 d1d8\n",
-            ),
-            (
-                "3q4/8/8/8/8/1k6/8/K7 b - - 0 1\n",
-                "KQK black mates in 1 plies zeroing 1 line d8d1\n",
-            ),
-            ("k7/2Q5/8/8/8/8/8/4K3 b - - 0 1\n", "KQK draw hold -\n"),
-            ("8/8/8/8/8/8/1kQ5/7K b - - 0 1\n", "KQK draw hold b2c2\n"),
-            ("8/8/8/4k3/8/4K3/8/8 w - - 0 1\n", "KK draw hold e3d2\n"),
-            (
-                "k7/8/1K6/8/8/8/8/3R4 w - - 0 1\n",
-                "error probe 11 Missing KRK\n",
-            ),
-            (
-                "k7/8/1K6/8/8/8/8/3RR3 w - - 0 1\n",
-                "error probe 11 Missing KRRK\n",
-            ),
-            (
-                "4k3/8/8/8/8/8/8/4K2R w KQkq - 0 1\n",
-                "error fen 4 Castling\n",
-            ),
-            (
-                "k7/8/8/8/8/8/8/R6K w - - 0 1\n",
-                "error fen 11 WaitingInCheck\n",
-            ),
+            "k7/1Q6/1K6/8/8/8/8/8 b - - 0 1: KQK white mates in 0 plies zeroing 0 line -\n",
+            "k7/8/1K6/8/8/8/8/3Q4 w - - 0 1: KQK white mates in 1 plies zeroing 1 line d1d8\n",
+            "k7/8/1K6/8/8/8/8/3Q4 b - - 0 1: KQK white mates in 2 plies zeroing 2 line a8b8 d1d8\n",
+            "3q4/8/8/8/8/1k6/8/K7 b - - 0 1: KQK black mates in 1 plies zeroing 1 line d8d1\n",
+            "k7/2Q5/8/8/8/8/8/4K3 b - - 0 1: KQK draw hold -\n",
+            "8/8/8/8/8/8/1kQ5/7K b - - 0 1: KQK draw hold b2c2\n",
+            "8/8/8/4k3/8/4K3/8/8 w - - 0 1: KK draw hold e3d2\n",
+            "k7/8/1K6/8/8/8/8/3R4 w - - 0 1: error probe 11 Missing KRK\n",
+            "k7/8/1K6/8/8/8/8/3RR3 w - - 0 1: error probe 11 Missing KRRK\n",
+            "4k3/8/8/8/8/8/8/4K2R w KQkq - 0 1: error fen 4 Castling\n",
+            "k7/8/8/8/8/8/8/R6K w - - 0 1: error fen 11 WaitingInCheck\n",
         ],
     )
 }
@@ -78,18 +69,15 @@ fn queens(rt: HostRuntime) -> Result<(), Fail> {
 #[test]
 fn dead_positions(rt: HostRuntime) -> Result<(), Fail> {
     let library = whole_library_below(rt.alloc(), 2)?;
-    expect_answers(
+    expect_rows(
         &rt,
         rt.alloc(),
         &library,
         &[
-            ("8/8/8/4k3/8/4K3/8/8 w - - 0 1\n", "KK dead hold e3d2\n"),
-            ("k7/2Q5/8/8/8/8/8/4K3 b - - 0 1\n", "KQK draw hold -\n"),
-            ("8/8/8/8/8/8/1kQ5/7K b - - 0 1\n", "KQK draw hold b2c2\n"),
-            (
-                "k7/8/1K6/8/8/8/8/3Q4 b - - 0 1\n",
-                "KQK white mates in 2 plies zeroing 2 line a8b8 d1d8\n",
-            ),
+            "8/8/8/4k3/8/4K3/8/8 w - - 0 1: KK dead hold e3d2\n",
+            "k7/2Q5/8/8/8/8/8/4K3 b - - 0 1: KQK draw hold -\n",
+            "8/8/8/8/8/8/1kQ5/7K b - - 0 1: KQK draw hold b2c2\n",
+            "k7/8/1K6/8/8/8/8/3Q4 b - - 0 1: KQK white mates in 2 plies zeroing 2 line a8b8 d1d8\n",
         ],
     )
 }
@@ -97,16 +85,13 @@ fn dead_positions(rt: HostRuntime) -> Result<(), Fail> {
 #[test]
 fn pawns_and_knights(rt: HostRuntime) -> Result<(), Fail> {
     let library = library_below(rt.alloc(), 6)?;
-    expect_answers(
+    expect_rows(
         &rt,
         rt.alloc(),
         &library,
         &[
-            (
-                "8/5KPk/8/8/8/8/8/8 w - - 0 1\n",
-                "KPK white mates in 3 plies zeroing 1 line g7g8q h7h6 g8g6\n",
-            ),
-            ("8/8/8/3k4/8/3N4/3K4/8 w - - 0 1\n", "KNK draw hold d2c1\n"),
+            "8/5KPk/8/8/8/8/8/8 w - - 0 1: KPK white mates in 3 plies zeroing 1 line g7g8q h7h6 g8g6\n",
+            "8/8/8/3k4/8/3N4/3K4/8 w - - 0 1: KNK draw hold d2c1\n",
         ],
     )?;
     let passed = answered(rt.alloc(), &library, b"8/8/8/8/4P3/8/8/k1K5 b - e3 0 1")?;

@@ -12,7 +12,7 @@ returns-in-Beaten c = λ n last tells code same p ok index.
     let stand = with_last c.in_ok-front.front.stand last in
     let men = c.in_ok-front.ensures.some.before.men n last tells in
     let settled = index_settled c.facts.ensures p index.image c.args.class code ok index index.spells in
-    c.leastness_in_order.ensures.beaten c.in-Beaten.is stand (refl, refl) index.image _ _ code (stand_in_row c.args.class n code stand index.image same men index.spells settled)
+    c.leastness_in_order.ensures.beaten c.in-Beaten.is stand ((refl, refl), c.first_of_two-first.ensures.is) index.image _ _ code (stand_in_row c.args.class n code stand index.image same men index.spells settled)
     (list_in_row c.args.class n code stand index.image same men index.spells) (index_spelled c.facts.ensures p index.image c.args.class code ok index index.spells)
 
 -- no code is to be asked about alone, since each is an index
@@ -22,5 +22,5 @@ returns-in-Least c = record {
   apart = c.in_ok-front.ensures.some.apart;
   board = c.in_ok-front.ensures.some.board;
   room = c.in_ok-front.ensures.some.room;
-  least = λ _ last in_order. c.leastness_in_order.ensures.least c.in-Least.is (with_last c.in_ok-front.front.stand last) (refl, refl) in_order;
+  least = λ _ last in_order. c.leastness_in_order.ensures.least c.in-Least.is (with_last c.in_ok-front.front.stand last) ((refl, refl), c.first_of_two-first.ensures.is) in_order;
 }

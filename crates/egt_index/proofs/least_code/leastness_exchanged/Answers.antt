@@ -26,8 +26,8 @@ returns-in-Some-clause-beats c = λ h stand on p side passed code has s.
     let there = there before stand p side passed has in
     let across = across before stand on in
     elim (c.both.ensures.beaten h) [
-      | inl one ↦ turn_beaten c.args.class true seen c.home-first.result.0 p side passed code are.one are.brings (c.leastness_after-one.ensures.beats one seen across) there s.spells
-      | inr two ↦ turn_beaten c.args.class true seen c.in-Some.second p side passed code are.other are.other_brings (c.leastness_after.ensures.beats two seen across) there s.spells
+      | inl one ↦ turn_beaten c.args.class true seen c.home-first.result.0 p side passed code are.one are.brings (c.leastness_after-one.ensures.beats one seen (across, tt)) there s.spells
+      | inr two ↦ turn_beaten c.args.class true seen c.in-Some.second p side passed code are.other are.other_brings (c.leastness_after.ensures.beats two seen (across, tt)) there s.spells
     ]
 
 pub returns-in-Some-clause-keeps : goal.returns-in-Some-clause-keeps
@@ -40,14 +40,14 @@ returns-in-Some-clause-keeps c = λ h stand on p side passed code has s.
     let across = across before stand on in
     let least = c.both.ensures.least h in
     keeps_with c.facts.ensures c.args.class p true seen.white c.home-first.result.0 (Some c.in-Some.second) code has.admissible there.is_of there.stood.all.1 are
-    (turn_kept c.args.class true seen c.home-first.result.0 p side passed code are.one (c.leastness_after-one.ensures.keeps least.0 seen across) there s.spells)
-    (turn_kept c.args.class true seen c.in-Some.second p side passed code are.other (c.leastness_after.ensures.keeps least.1 seen across) there s.spells)
+    (turn_kept c.args.class true seen c.home-first.result.0 p side passed code are.one (c.leastness_after-one.ensures.keeps least.0 seen (across, tt)) there s.spells)
+    (turn_kept c.args.class true seen c.in-Some.second p side passed code are.other (c.leastness_after.ensures.keeps least.1 seen (across, tt)) there s.spells)
 
 pub returns-in-None-clause-beats : goal.returns-in-None-clause-beats
 returns-in-None-clause-beats c = λ h stand on p side passed code has s.
     let seen = seen_across stand in
     let are = home c.before stand on in
-    turn_beaten c.args.class true seen c.home-first.result.0 p side passed code are.one are.brings (c.leastness_after-one.ensures.beats h seen (across c.before stand on)) (there c.before stand p side passed has) s.spells
+    turn_beaten c.args.class true seen c.home-first.result.0 p side passed code are.one are.brings (c.leastness_after-one.ensures.beats h seen (across c.before stand on, tt)) (there c.before stand p side passed has) s.spells
 
 pub returns-in-None-clause-keeps : goal.returns-in-None-clause-keeps
 returns-in-None-clause-keeps c = λ h stand on p side passed code has s.
@@ -56,4 +56,4 @@ returns-in-None-clause-keeps c = λ h stand on p side passed code has s.
     subst (AreHome (has_pawns (material_of c.args.class)) true seen.white c.home-first.result.0) c.in-None.is (home c.before stand on) in
     let there = there c.before stand p side passed has in
     keeps_with c.facts.ensures c.args.class p true seen.white c.home-first.result.0 None code has.admissible there.is_of there.stood.all.1 are
-    (turn_kept c.args.class true seen c.home-first.result.0 p side passed code are.one (c.leastness_after-one.ensures.keeps h seen (across c.before stand on)) there s.spells) tt
+    (turn_kept c.args.class true seen c.home-first.result.0 p side passed code are.one (c.leastness_after-one.ensures.keeps h seen (across c.before stand on, tt)) there s.spells) tt

@@ -6,8 +6,8 @@ use Rattle.egt_index.proofs.Swapping.{keeps_in_order, least_in_order}
 use Rattle.egt_index.proofs.least_code.leastness_straight.Goals.{After-still_home}
 use Rattle.egt_index.proofs.least_code.leastness_straight.Goals as goal
 
-pub leastness_after-requires : goal.leastness_after-requires
-leastness_after-requires c = subst (λ (o : Option ℕ). IfSome o (λ t. t < 16)) c.in-Some.is c.still_home.ensures.below
+pub leastness_after-requires-clause-turn : goal.leastness_after-requires-clause-turn
+leastness_after-requires-clause-turn c = subst (λ (o : Option ℕ). IfSome o (λ t. t < 16)) c.in-Some.is c.still_home.ensures.below
 
 -- the turns that leave the king at home
 home : (c : After-still_home) (stand : Stand) (p : Setup) (side : Side) (passed : Bool) (code : ℕ) → HasKingsOn c.args.white c.args.black stand → HasStand c.args.class false stand side passed p → SpellsAt c.args.class code stand p
@@ -24,17 +24,17 @@ kept_still c stand p side passed code in_order has s =
     keeps_in_order c.facts.ensures c.args.class code p has.admissible (least_in_order c.args.class code stand p has.admissible has.stood.all in_order has.stood.are has.is_of s)
 
 pub returns-in-Some-clause-beats : goal.returns-in-Some-clause-beats
-returns-in-Some-clause-beats c = λ h stand on p side passed code has s.
-    let home : AreHome (has_pawns (material_of c.args.class)) false stand.white 0 (Some c.in-Some.turn) = subst (AreHome (has_pawns (material_of c.args.class)) false stand.white 0) c.in-Some.is (home c.before.before stand p side passed code on has s) in
-    turn_beaten c.args.class false stand c.in-Some.turn p side passed code home.other home.other_brings (c.leastness_after.ensures.beats h stand on) has s.spells
+returns-in-Some-clause-beats c = λ h stand front p side passed code has s.
+    let home : AreHome (has_pawns (material_of c.args.class)) false stand.white 0 (Some c.in-Some.turn) = subst (AreHome (has_pawns (material_of c.args.class)) false stand.white 0) c.in-Some.is (home c.before.before stand p side passed code front.0 has s) in
+    turn_beaten c.args.class false stand c.in-Some.turn p side passed code home.other home.other_brings (c.leastness_after.ensures.beats h stand front) has s.spells
 
 pub returns-in-Some-clause-keeps : goal.returns-in-Some-clause-keeps
-returns-in-Some-clause-keeps c = λ h stand on in_order p side passed code has s.
-    let home : AreHome (has_pawns (material_of c.args.class)) false stand.white 0 (Some c.in-Some.turn) = subst (AreHome (has_pawns (material_of c.args.class)) false stand.white 0) c.in-Some.is (home c.before.before stand p side passed code on has s) in
+returns-in-Some-clause-keeps c = λ h stand front in_order p side passed code has s.
+    let home : AreHome (has_pawns (material_of c.args.class)) false stand.white 0 (Some c.in-Some.turn) = subst (AreHome (has_pawns (material_of c.args.class)) false stand.white 0) c.in-Some.is (home c.before.before stand p side passed code front.0 has s) in
     keeps_with c.facts.ensures c.args.class p false stand.white 0 (Some c.in-Some.turn) code has.admissible has.is_of has.stood.all.1 home (kept_still c.before.before stand p side passed code in_order has s)
-    (turn_kept c.args.class false stand c.in-Some.turn p side passed code home.other (c.leastness_after.ensures.keeps h stand on) has s.spells)
+    (turn_kept c.args.class false stand c.in-Some.turn p side passed code home.other (c.leastness_after.ensures.keeps h stand front) has s.spells)
 
 pub returns-in-None-clause-keeps : goal.returns-in-None-clause-keeps
-returns-in-None-clause-keeps c = λ h stand on in_order p side passed code has s.
-    keeps_with c.facts.ensures c.args.class p false stand.white 0 None code has.admissible has.is_of has.stood.all.1 (subst (AreHome (has_pawns (material_of c.args.class)) false stand.white 0) c.in-None.is (home c.before stand p side passed code on has s))
+returns-in-None-clause-keeps c = λ h stand front in_order p side passed code has s.
+    keeps_with c.facts.ensures c.args.class p false stand.white 0 None code has.admissible has.is_of has.stood.all.1 (subst (AreHome (has_pawns (material_of c.args.class)) false stand.white 0) c.in-None.is (home c.before stand p side passed code front.0 has s))
     (kept_still c.before stand p side passed code in_order has s) tt
