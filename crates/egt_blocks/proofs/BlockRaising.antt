@@ -8,6 +8,7 @@ use Rattle.egt_blocks.specs.Prelude.{IsTurnWith, has_pawns, king_base, men_bases
 use Rattle.egt_blocks.specs.Prelude.{IsSomeTurnedCodeWith, swapped, turned_by, ShelfMen, Stand, at, IsRaised, Column}
 use Rattle.egt_blocks.specs.Prelude.{IsBesideKing, stand_on, with_king, AreKingCodes, IsCodeAfter, IsHomeCode}
 use Rattle.egt_blocks.specs.Prelude.{IsRaisedHome, men_across, settled_at, AreKept, IsReadWith, BlockKey}
+use Rattle.egt_board.proofs.Parts.{heads}
 
 -- all squares are of the set of all
 pub all_squares : (s : ℕ) → s < 64 → bit_at 18446744073709551615 s ≡ 1
@@ -75,9 +76,6 @@ unfolding stays
 turned_in flips n s n_in s_in = ltb-true _ _ (passes_below (stays flips n) 64 s (passes_below (λ n. all_below (stays flips n) 64) 8 n (all_stay flips) n_in) s_in)
 
 -- ---- the turns that bring the white king home
-
-heads : {A : Type 0} {a b : A} {x y : List A} → a ∷ x ≡ b ∷ y → a ≡ b
-heads e = cc
 
 -- the white king of a code's men is at home
 king_at_home : (passed : Bool) (c t code : ℕ) (stand : Stand) (side : Side) → IsCodeAfter passed c t code stand side → (d : ℕ) × (d < king_base (has_pawns (material_of c))) × (king_square (has_pawns (material_of c)) d ≡ turned_square (t % 8) (eqb (t / 8) 1) stand.white)

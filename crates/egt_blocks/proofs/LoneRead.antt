@@ -1,9 +1,10 @@
 -- What one man beside the kings is worth, by the codes of turns.
-use Rattle.egt_blocks.specs.Prelude.{◌≡◌, ℕ, ◌<◌, ◌&&◌, Bool, true, false, not, eqb, length, List, ◌∷◌, refl, sym, ap}
-use Rattle.egt_blocks.specs.Prelude.{◌∙◌, inl, inr, subst, false≢true, Man, Side, all_below, passes_below}
-use Rattle.egt_blocks.specs.Prelude.{has_equal_sides, material_of, materials, IsLoneMan, lone_stand, men_beside}
-use Rattle.egt_blocks.specs.Prelude.{IsSomeTurnedCode, Stand, IsCodeAfter, IsHomeCode, IsRaisedHome, IsRead}
+use Rattle.egt_blocks.specs.Prelude.{◌≡◌, ℕ, ◌<◌, ◌&&◌, Bool, true, false, not, eqb, length, refl, sym, ap, ◌∙◌, inl}
+use Rattle.egt_blocks.specs.Prelude.{inr, subst, false≢true, Man, Side, all_below, passes_below, has_equal_sides}
+use Rattle.egt_blocks.specs.Prelude.{material_of, materials, IsLoneMan, lone_stand, men_beside, IsSomeTurnedCode}
+use Rattle.egt_blocks.specs.Prelude.{Stand, IsCodeAfter, IsHomeCode, IsRaisedHome, IsRead}
 use Rattle.egt_blocks.proofs.BlockRaising.{raised_alike}
+use Rattle.egt_board.proofs.Parts.{tails}
 
 -- one man beside the kings is of one side
 differs : ℕ → Bool
@@ -12,9 +13,6 @@ differs c = not (eqb (length (men_beside (material_of c))) 1 && has_equal_sides 
 all_differ : all_below differs 36 ≡ true
 unfolding all_below differs has_equal_sides material_of materials
 all_differ = refl
-
-tails : {a b : Man} {x y : List Man} → a ∷ x ≡ b ∷ y → x ≡ y
-tails e = cc
 
 pub not_equal_sides : (c : ℕ) (man : Man) → c < 36 → IsLoneMan c man → has_equal_sides c ≡ true → ⊥
 unfolding differs

@@ -1,16 +1,17 @@
 -- Blocks of scores after a capture in passing.
-use Rattle.egt_blocks.specs.Prelude.{◌≡◌, ℕ, ◌+◌, ◌/◌, ◌%◌, ◌<◌, ◌||◌, Bool, true, false, not, ltb, eqb, List, [], ◌∷◌}
+use Rattle.egt_blocks.specs.Prelude.{◌||◌, ◌≡◌, ℕ, ◌+◌, ◌/◌, ◌%◌, ◌<◌, Bool, true, false, not, ltb, eqb, List, []}
 use Rattle.egt_blocks.specs.Prelude.{if◌then◌else◌, length, get_or, get_or-set_other, arith, refl, sym, ap, ◌∙◌, inl}
 use Rattle.egt_blocks.specs.Prelude.{inr, subst, slice_index, list_any, cases_eq, cases_lt, false≢true, le-ltb, lt-ltb}
 use Rattle.egt_blocks.specs.Prelude.{get_or-set_at, set, length-set, Reaches, Reaches-on_board, other_side, MayStand}
 use Rattle.egt_blocks.specs.Prelude.{ahead, pawn_of, rank_of, turned_man, turned_square, P, Man, Side, all_below}
-use Rattle.egt_blocks.specs.Prelude.{passes_below, material_of, materials, symmetries, IsLoneMan, lone_stand, has_pawns}
-use Rattle.egt_blocks.specs.Prelude.{men_beside, IsListed, TellsMen, list_of, IsSomeTurnedCode, ShelfMen, Stand, at}
-use Rattle.egt_blocks.specs.Prelude.{IsRaised, is_pawn, ArePassingCodes, IsAtPassed, IsPastPawns, IsPastKings, left_of}
-use Rattle.egt_blocks.specs.Prelude.{stand_left, IsRead}
+use Rattle.egt_blocks.specs.Prelude.{passes_below, material_of, materials, symmetries, IsLoneMan, lone_stand}
+use Rattle.egt_blocks.specs.Prelude.{has_pawns, men_beside, IsListed, TellsMen, list_of, IsSomeTurnedCode, ShelfMen}
+use Rattle.egt_blocks.specs.Prelude.{Stand, at, IsRaised, is_pawn, ArePassingCodes, IsAtPassed, IsPastPawns}
+use Rattle.egt_blocks.specs.Prelude.{IsPastKings, left_of, stand_left, IsRead}
 use Rattle.egt_blocks.proofs.BlockRaising.{raised_alike, raised_by_none}
 use Rattle.egt_blocks.proofs.LoneRead.{some_home}
 use Rattle.egt_blocks.proofs.QuietRaising.{raised_through}
+use Rattle.egt_board.proofs.Parts.{tails}
 
 -- ---- no code has a pawn on the first rank or the last
 
@@ -57,13 +58,10 @@ all_show : all_below shows_pawns 36 ≡ true
 unfolding all_below shows_pawns material_of materials
 all_show = refl
 
-two_tails : {a b a' b' : Man} {x y : List Man} → a ∷ a' ∷ x ≡ b ∷ b' ∷ y → x ≡ y
-two_tails e = cc
-
 lone_pawn : (c : ℕ) (man : Man) → c < 36 → IsLoneMan c man → man.kind ≡ P → has_pawns (material_of c) ≡ true
 unfolding shows_pawns
 lone_pawn c man c_in is pawn =
-    let any : list_any (λ (m : Man). is_pawn m.kind) (men_beside (material_of c)) ≡ true = ap (list_any (λ (m : Man). is_pawn m.kind)) (sym (two_tails is.are)) ∙ ap (λ k. is_pawn k || false) pawn in
+    let any : list_any (λ (m : Man). is_pawn m.kind) (men_beside (material_of c)) ≡ true = ap (list_any (λ (m : Man). is_pawn m.kind)) (sym (tails (tails is.are))) ∙ ap (λ k. is_pawn k || false) pawn in
     sym (ap (λ b. not b || has_pawns (material_of c)) any) ∙ passes_below shows_pawns 36 c all_show c_in
 
 turned_kind : (flips : Bool) (man : Man) → (turned_man flips man).kind ≡ man.kind

@@ -8,6 +8,7 @@ use Rattle.egt_blocks.specs.Prelude.{number_in, stand_with, base_by, base_of, ha
 use Rattle.egt_blocks.specs.Prelude.{SpellsMen, TellsMen, list_of, ShelfMen, code_high, code_low, code_plain}
 use Rattle.egt_blocks.specs.Prelude.{of_targets, a_pawn_each, one_pawn_each, men_on, AreShelvesOf}
 use Rattle.egt_blocks.proofs.ShelfRead.{bit_few, bit_of, half_is, places_is, side_few}
+use Rattle.egt_board.proofs.Parts.{heads, tails}
 
 -- ---- digits of men but the white king
 
@@ -38,12 +39,6 @@ square_kind pawns Black Q digit other = omega arith
 square_kind pawns Black R digit other = omega arith
 square_kind pawns Black B digit other = omega arith
 square_kind pawns Black N digit other = omega arith
-
-heads : {A : Type 0} {a b : A} {x y : List A} → a ∷ x ≡ b ∷ y → a ≡ b
-heads e = cc
-
-tails : {A : Type 0} {a b : A} {x y : List A} → a ∷ x ≡ b ∷ y → x ≡ y
-tails e = cc
 
 squares : {a b : Man × ℕ} → a ≡ b → a.1 ≡ b.1
 squares e = ap (λ (k : Man × ℕ). k.1) e

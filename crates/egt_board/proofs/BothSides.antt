@@ -1,19 +1,9 @@
 -- The men of the one side are those that are not the other's.
-use Rattle.egt_board.specs.Prelude.{◌≡◌, ◌↔◌, ◌⊎◌, ℕ, ◌-◌, Some, None, Option, min, arith, refl, sym, ap, ◌∙◌, inl, inr}
-use Rattle.egt_board.specs.Prelude.{bit_at, cases_eq, bit_at-lt, Side, White, Black, Man, other_side, Placement, Stands}
-use Rattle.egt_board.specs.Prelude.{IsFree, IsHeld, one_man}
+use Rattle.egt_board.specs.Prelude.{◌≡◌, ◌↔◌, ◌⊎◌, ℕ, ◌-◌, Some, None, Option, min, arith, refl, sym, ap, ◌∙◌, inl}
+use Rattle.egt_board.specs.Prelude.{inr, bit_at, cases_eq, bit_at-lt, Side, Man, other_side, Placement, Stands, IsFree}
+use Rattle.egt_board.specs.Prelude.{IsHeld, one_man}
 use Rattle.std.specs.FinMap as map
-
--- a man is of the one side or of the other, and not of both
-side_or_other : (a b : Side) → (a ≡ b) ⊎ (a ≡ other_side b)
-side_or_other White White = inl refl
-side_or_other White Black = inr refl
-side_or_other Black White = inr refl
-side_or_other Black Black = inl refl
-
-not_both_sides : (b : Side) → b ≡ other_side b → ⊥
-not_both_sides White e = absurd (cc)
-not_both_sides Black e = absurd (cc)
+use Rattle.egt_board.proofs.Sides.{side_cases, sides_differ}
 
 stands_there : (men : Placement) (t : ℕ) → IsFree men t ⊎ ((man : Man) × Stands men t man)
 stands_there men t = of_option (map.get men t) refl
@@ -29,7 +19,7 @@ other_held men side all own enemy t free held is = (there, back)
     there : bit_at enemy t ≡ 1 → IsHeld men t (other_side side)
     there has = elim (stands_there men t) [
       | inl none ↦ let zero = free.1 none in absurd (omega (arith, has, is, zero))
-      | inr some ↦ elim (side_or_other some.0.side side) [
+      | inr some ↦ elim (side_cases some.0.side side) [
         | inl mine ↦ let one = held.1 (record { man = some.0; stands = some.1; theirs = mine }) in absurd (omega (arith, has, is, one))
         | inr theirs ↦ record { man = some.0; stands = some.1; theirs = theirs }
       ]
@@ -41,7 +31,7 @@ other_held men side all own enemy t free held is = (there, back)
       | inr some ↦ elim (cases_eq (bit_at own t) 1) [
         | inl one ↦
             let mine = held.0 one in
-            absurd (not_both_sides side (sym mine.theirs ∙ ap (λ (m : Man). m.side) (one_man men t _ _ mine.stands h.stands) ∙ h.theirs))
+            absurd (sides_differ side (sym mine.theirs ∙ ap (λ (m : Man). m.side) (one_man men t _ _ mine.stands h.stands) ∙ h.theirs))
         | inr other ↦ omega (arith, is, some, other, bit_at-lt all t, bit_at-lt own t)
       ]
     ]

@@ -1,42 +1,23 @@
 -- The men of a placement, gathered from the set of their squares.
-use Rattle.egt_board.specs.Prelude.{◌≡◌, ◌≢◌, ℕ, zero, suc, ◌+◌, ◌<◌, ◌≤◌, ◌↔◌, List, [], ◌∷◌, ◌++◌, ◌⊎◌, ◌&&◌, map}
-use Rattle.egt_board.specs.Prelude.{length, take, drop, get_or, Option, Some, None, Bool, true, false, cond, ltb, eqb}
-use Rattle.egt_board.specs.Prelude.{add-one, arith, refl, sym, ap, ◌∙◌, inl, inr, subst, T, bit_at, is_some, nat_cmp}
-use Rattle.egt_board.specs.Prelude.{is_lt, Less, Equal, Greater, below_all, cases_eq, cases_lt, cases_order, false≢true}
-use Rattle.egt_board.specs.Prelude.{ltb-true, take_more, take_all, drop_all, map-append, length-append, length-drop}
-use Rattle.egt_board.specs.Prelude.{drop-cons, Man, Placement, Stands, IsFree, man_entry}
+use Rattle.egt_board.specs.Prelude.{◌≡◌, ◌≢◌, ℕ, zero, suc, ◌+◌, ◌<◌, ◌≤◌, ◌↔◌, List, [], ◌∷◌, ◌++◌, ◌⊎◌, map, length}
+use Rattle.egt_board.specs.Prelude.{take, drop, get_or, Option, Some, None, true, add-one, arith, refl, sym, ap, ◌∙◌}
+use Rattle.egt_board.specs.Prelude.{inl, inr, subst, T, bit_at, is_some, nat_cmp, below_all, cases_eq, cases_lt}
+use Rattle.egt_board.specs.Prelude.{cases_order, false≢true, take_more, take_all, drop_all, map-append, length-append}
+use Rattle.egt_board.specs.Prelude.{length-drop, drop-cons, Man, Placement, Stands, IsFree, man_entry}
+use Rattle.egt_board.specs.Prelude.{first_half, second_half}
 use Rattle.std.specs.FinMap as placement
 use Rattle.egt_board.proofs.Bits.{not_both}
-use Rattle.egt_board.proofs.Placed.{find-here, find-later}
+use Rattle.egt_board.proofs.Placed.{find-here, find-later, Sorted, lt_of_less}
 
 abbrev pub IsKey : ℕ → List (ℕ × Man) → Type 0
 IsKey t es = is_some (placement.find nat_cmp t es) ≡ true
-
-abbrev Sorted : List (ℕ × Man) → Type 0
-Sorted es = T (placement.is_sorted nat_cmp es)
-
-left_of : (a b : Bool) → T (a && b) → T a
-left_of true b h = tt
-left_of false b h = absurd h
-
-right_of : (a b : Bool) → T (a && b) → T b
-right_of true b h = h
-right_of false b h = absurd h
-
-lt_of_less : (a b : ℕ) → T (is_lt (nat_cmp a b)) → a < b
-lt_of_less a b = go (ltb a b) (eqb a b) refl
-  where
-    go : (l e : Bool) → ltb a b ≡ l → T (is_lt (cond l Less (cond e Equal Greater))) → a < b
-    go true e is h = ltb-true a b is
-    go false true is h = absurd h
-    go false false is h = absurd h
 
 -- below the first key there is none
 key_above : (es : List (ℕ × Man)) (k t : ℕ) → T (below_all nat_cmp k es) → IsKey t es → k < t
 key_above [] k t below key = absurd (false≢true key)
 key_above (e ∷ es) k t below key = elim (cases_eq t e.0) [
-  | inl same ↦ let lt = lt_of_less k e.0 (left_of _ _ below) in omega arith
-  | inr other ↦ key_above es k t (right_of _ _ below) (sym (ap is_some (find-later t e.0 e.1 es other)) ∙ key)
+  | inl same ↦ let lt = lt_of_less k e.0 (first_half _ _ below) in omega arith
+  | inr other ↦ key_above es k t (second_half _ _ below) (sym (ap is_some (find-later t e.0 e.1 es other)) ∙ key)
 ]
 
 -- the least key of a list in order stands first
@@ -46,7 +27,7 @@ head_least (e ∷ es) s sorted key least = elim (cases_order s e.0) [
   | inl same ↦ (e.1, es, ap (λ k. (k, e.1) ∷ es) (sym same))
   | inr apart ↦ elim apart [
     | inl less ↦
-        let above = key_above es e.0 s (left_of _ _ sorted) (sym (ap is_some (find-later s e.0 e.1 es (λ same. omega arith))) ∙ key) in
+        let above = key_above es e.0 s (first_half _ _ sorted) (sym (ap is_some (find-later s e.0 e.1 es (λ same. omega arith))) ∙ key) in
         absurd (omega arith)
     | inr more ↦ absurd (least e.0 more (ap is_some (find-here e.0 e.0 e.1 es refl)))
   ]
@@ -55,7 +36,7 @@ head_least (e ∷ es) s sorted key least = elim (cases_order s e.0) [
 sorted_drop : (n : ℕ) (es : List (ℕ × Man)) → Sorted es → Sorted (drop n es)
 sorted_drop zero es h = h
 sorted_drop (suc n) [] h = h
-sorted_drop (suc n) (e ∷ es) h = sorted_drop n es (right_of _ _ h)
+sorted_drop (suc n) (e ∷ es) h = sorted_drop n es (second_half _ _ h)
 
 -- the men on the squares before are listed, and the set has the squares of the others
 pub record Gathered (men : Placement) (items : List (Man × ℕ)) (left : ℕ) : Type 0 where
@@ -126,8 +107,8 @@ find_at [] i s man d sorted i_in e = absurd (omega arith)
 find_at (x ∷ es) zero s man d sorted i_in e =
     find-here s x.0 x.1 es (sym (ap (λ (p : ℕ × Man). p.0) e)) ∙ ap Some (ap (λ (p : ℕ × Man). p.1) e)
 find_at (x ∷ es) (suc i) s man d sorted i_in e =
-    let rest : placement.find nat_cmp s es ≡ Some man = find_at es i s man d (right_of _ _ sorted) (omega arith) e in
-    let above : x.0 < s = key_above es x.0 s (left_of _ _ sorted) (ap is_some rest) in
+    let rest : placement.find nat_cmp s es ≡ Some man = find_at es i s man d (second_half _ _ sorted) (omega arith) e in
+    let above : x.0 < s = key_above es x.0 s (first_half _ _ sorted) (ap is_some rest) in
     find-later s x.0 x.1 es (λ same. omega arith) ∙ rest
 
 pub Gathered-more : (men : Placement) (items : List (Man × ℕ)) (left left' s : ℕ) (man : Man) → Gathered men items left → bit_at left s ≡ 1 → ((t : ℕ) → t < s → bit_at left t ≡ 0)
@@ -169,7 +150,7 @@ Gathered-more men items left left' s man g one least gone others stands = record
     longer = length-append items ((man, s) ∷ [])
 
     below : T (below_all nat_cmp s next.rest)
-    below = left_of _ _ (subst Sorted next.rest_is (sorted_drop n es sorted))
+    below = first_half _ _ (subst Sorted next.rest_is (sorted_drop n es sorted))
 
 pub Gathered-all : (men : Placement) (items : List (Man × ℕ)) (left : ℕ) → Gathered men items left → ((t : ℕ) → bit_at left t ≡ 0) → items ≡ map man_entry (placement.entries men)
 Gathered-all men items left g none = g.listed ∙ ap (map man_entry) (elim (cases_lt n (length es)) [

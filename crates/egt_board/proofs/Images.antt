@@ -1,17 +1,19 @@
 -- What the images of a position keep, and the way back from each.
 use Rattle.egt_board.specs.Prelude.{◌≡◌, ℕ, zero, suc, ◌<◌, ◌↔◌, ◌⊎◌, ◌/◌, ◌%◌, ◌==◌, Bool, true, false, Option, Some}
 use Rattle.egt_board.specs.Prelude.{None, arith, refl, sym, ap, ◌∙◌, subst, inl, inr, option_map, eqb-true, Mirror}
-use Rattle.egt_board.specs.Prelude.{Files, Ranks, Diagonal, Colours, Side, White, Black, Man, other_side, Placement}
-use Rattle.egt_board.specs.Prelude.{HasNoPawn, Setup, IsAdmissible, FitsTarget, IsSettled, IsMirrored, square_by}
-use Rattle.egt_board.specs.Prelude.{side_by, man_by, Allows, square_by-within, square_by-twice, ShowsMen, OnBoard}
-use Rattle.egt_board.specs.Prelude.{man_by-twice, no_pawn_by, target_between, square_if, square_of, IsKeepingSides}
-use Rattle.egt_board.specs.Prelude.{KeepsPlay, IsCarried, IsImage, IsTurnOf, Comes, AreImages, Reflects, count_of}
-use Rattle.egt_board.specs.Prelude.{SameMen, ExchangedMen, men_by, setup_by, setup_if}
+use Rattle.egt_board.specs.Prelude.{Files, Ranks, Diagonal, Colours, Side, Man, other_side, Placement, HasNoPawn}
+use Rattle.egt_board.specs.Prelude.{Setup, IsAdmissible, FitsTarget, IsSettled, IsMirrored, square_by, side_by, man_by}
+use Rattle.egt_board.specs.Prelude.{Allows, square_by-within, square_by-twice, ShowsMen, OnBoard, man_by-twice}
+use Rattle.egt_board.specs.Prelude.{no_pawn_by, target_between, square_if, square_of, IsKeepingSides, KeepsPlay}
+use Rattle.egt_board.specs.Prelude.{IsCarried, IsImage, IsTurnOf, Comes, AreImages, Reflects, count_of, SameMen}
+use Rattle.egt_board.specs.Prelude.{ExchangedMen, men_by, setup_by, setup_if}
 use Rattle.std.specs.FinMap as map
 use Rattle.egt_board.proofs.Turning.{admissible_by}
 use Rattle.egt_board.proofs.Settling.{ready_by}
-use Rattle.egt_board.proofs.Reflected.{men_by-shows, men_by-on_board, men_by-few, same_on_board, setup_by-is, setup_by-only, setup_by-back}
+use Rattle.egt_board.proofs.Reflected.{men_by-shows, men_by-on_board, men_by-few, same_on_board, setup_by-is}
+use Rattle.egt_board.proofs.Reflected.{setup_by-only, setup_by-back}
 use Rattle.egt_board.proofs.Tallies.{count_by}
+use Rattle.egt_board.proofs.Sides.{side_twice}
 
 -- one step, and one after another
 pub images_by_turn : (p q : Setup) → IsTurnOf p q → AreImages p q
@@ -50,10 +52,6 @@ Kept-same p ok = record {
   mirrors = (0, refl);
 }
 
-other_twice : (side : Side) → other_side (other_side side) ≡ side
-other_twice White = refl
-other_twice Black = refl
-
 pub Kept-on : (p q r : Setup) → Kept p q → Kept q r → Kept p r
 Kept-on p q r first second = record {
   admissible = second.admissible;
@@ -70,7 +68,7 @@ Kept-on p q r first second = record {
     both (inr h) (inl k) = inr (record { men = λ man. k.men (man_by Colours man) ∙ h.men man; side = k.side ∙ h.side })
     both (inr h) (inr k) = inl (record {
       men = λ man. sym (ap (count_of r.men) (man_by-twice Colours man)) ∙ k.men (man_by Colours man) ∙ h.men man;
-      side = k.side ∙ ap other_side h.side ∙ other_twice p.side;
+      side = k.side ∙ ap other_side h.side ∙ side_twice p.side;
     })
 
 -- a mirror that keeps sides is a symmetry

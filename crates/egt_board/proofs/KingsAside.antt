@@ -7,7 +7,9 @@ use Rattle.egt_board.specs.Prelude.{AreKept, side_number, Placement, Stands, is_
 use Rattle.egt_board.specs.Prelude.{HasKings}
 use Rattle.std.specs.FinMap as map
 use Rattle.egt_board.proofs.Finding.{AnyHolds, holds_found, found_holds}
-use Rattle.egt_board.proofs.Slots.{shown, listed-shown, less_by}
+use Rattle.egt_board.proofs.Parts.{of_four}
+use Rattle.egt_board.proofs.Slots.{shown, listed-shown}
+use Rattle.egt_board.proofs.Placed.{lt_of_less}
 
 -- the square of the one slot's man is the lesser, if there are both
 abbrev Before : Slot → Slot → Type 0
@@ -30,7 +32,7 @@ ahead_none (suc n) = (tt, ahead_none n)
 ahead_some : (n : ℕ) (e : ℕ × Man) (es : List (ℕ × Man)) → T (below_all nat_cmp e.0 es) → Ahead (Some e) (padded n es)
 ahead_some zero e es below = tt
 ahead_some (suc n) e [] below = (tt, ahead_some n e [] below)
-ahead_some (suc n) e (f ∷ es) below = (less_by e.0 f.0 (first_half _ _ below), ahead_some n e es (second_half _ _ below))
+ahead_some (suc n) e (f ∷ es) below = (lt_of_less e.0 f.0 (first_half _ _ below), ahead_some n e es (second_half _ _ below))
 
 in_row : (n : ℕ) (es : List (ℕ × Man)) → InOrder es → AreInRow (padded n es)
 in_row zero es sorted = tt
@@ -108,7 +110,7 @@ record IsOnKing (x : Slot) (white black : ℕ) : Type 0 where
   is : x ≡ Some held
   on : (held.0 ≡ white) ⊎ (held.0 ≡ black)
 
-king_is : (man : Man) → man.kind ≡ K → (man ≡ king_of White) ⊎ (man ≡ king_of Black)
+pub king_is : (man : Man) → man.kind ≡ K → (man ≡ king_of White) ⊎ (man ≡ king_of Black)
 king_is man e = of_side man.side refl
   where
     of : Side → Kind → Man
@@ -213,107 +215,40 @@ aside a b c d men kings kept view = of_tests (holds_king a) (holds_king b) (hold
     c_d = it.row.2.2.1
 
     of_tests : (p q r s : Bool) → holds_king a ≡ p → holds_king b ≡ q → holds_king c ≡ r → holds_king d ≡ s → AreBeside men (entry_of (cond p (cond q c b) a)) (entry_of (cond s (cond r b c) d))
-    of_tests false false true true ha hb hc hd = both_beside men a b (λ t man stands beside. elim (it.found t man stands) [
-      | inl e ↦ inl e
-      | inr h ↦ elim h [
-        | inl e ↦ inr e
-        | inr h ↦ elim h [
-          | inl e ↦ absurd (beside (king_held c t man hc e))
-          | inr h ↦ elim h [ inl e ↦ absurd (beside (king_held d t man hd e)) | inr h ↦ absurd h ]
-        ]
-      ]
-    ]) in_a in_b ha hb ab a_b
-    of_tests false true false true ha hb hc hd = both_beside men a c (λ t man stands beside. elim (it.found t man stands) [
-      | inl e ↦ inl e
-      | inr h ↦ elim h [
-        | inl e ↦ absurd (beside (king_held b t man hb e))
-        | inr h ↦ elim h [
-          | inl e ↦ inr e
-          | inr h ↦ elim h [ inl e ↦ absurd (beside (king_held d t man hd e)) | inr h ↦ absurd h ]
-        ]
-      ]
-    ]) in_a in_c ha hc ac (λ e. b_c (a_b e))
-    of_tests false true true false ha hb hc hd = both_beside men a d (λ t man stands beside. elim (it.found t man stands) [
-      | inl e ↦ inl e
-      | inr h ↦ elim h [
-        | inl e ↦ absurd (beside (king_held b t man hb e))
-        | inr h ↦ elim h [
-          | inl e ↦ absurd (beside (king_held c t man hc e))
-          | inr h ↦ elim h [ inl e ↦ inr e | inr h ↦ absurd h ]
-        ]
-      ]
-    ]) in_a in_d ha hd ad (λ e. c_d (b_c (a_b e)))
-    of_tests true false false true ha hb hc hd = both_beside men b c (λ t man stands beside. elim (it.found t man stands) [
-      | inl e ↦ absurd (beside (king_held a t man ha e))
-      | inr h ↦ elim h [
-        | inl e ↦ inl e
-        | inr h ↦ elim h [
-          | inl e ↦ inr e
-          | inr h ↦ elim h [ inl e ↦ absurd (beside (king_held d t man hd e)) | inr h ↦ absurd h ]
-        ]
-      ]
-    ]) in_b in_c hb hc bc b_c
-    of_tests true false true false ha hb hc hd = both_beside men b d (λ t man stands beside. elim (it.found t man stands) [
-      | inl e ↦ absurd (beside (king_held a t man ha e))
-      | inr h ↦ elim h [
-        | inl e ↦ inl e
-        | inr h ↦ elim h [
-          | inl e ↦ absurd (beside (king_held c t man hc e))
-          | inr h ↦ elim h [ inl e ↦ inr e | inr h ↦ absurd h ]
-        ]
-      ]
-    ]) in_b in_d hb hd bd (λ e. c_d (b_c e))
-    of_tests true true false false ha hb hc hd = both_beside men c d (λ t man stands beside. elim (it.found t man stands) [
-      | inl e ↦ absurd (beside (king_held a t man ha e))
-      | inr h ↦ elim h [
-        | inl e ↦ absurd (beside (king_held b t man hb e))
-        | inr h ↦ elim h [
-          | inl e ↦ inl e
-          | inr h ↦ elim h [ inl e ↦ inr e | inr h ↦ absurd h ]
-        ]
-      ]
-    ]) in_c in_d hc hd cd c_d
+    of_tests false false true true ha hb hc hd = both_beside men a b (λ t man stands beside.
+        of_four (it.found t man stands) (λ e. inl e) (λ e. inr e) (λ e. absurd (beside (king_held c t man hc e)))
+        (λ e. absurd (beside (king_held d t man hd e)))) in_a in_b ha hb ab a_b
+    of_tests false true false true ha hb hc hd = both_beside men a c (λ t man stands beside.
+        of_four (it.found t man stands) (λ e. inl e) (λ e. absurd (beside (king_held b t man hb e))) (λ e. inr e)
+        (λ e. absurd (beside (king_held d t man hd e)))) in_a in_c ha hc ac (λ e. b_c (a_b e))
+    of_tests false true true false ha hb hc hd = both_beside men a d (λ t man stands beside.
+        of_four (it.found t man stands) (λ e. inl e) (λ e. absurd (beside (king_held b t man hb e)))
+        (λ e. absurd (beside (king_held c t man hc e)))
+        (λ e. inr e)) in_a in_d ha hd ad (λ e. c_d (b_c (a_b e)))
+    of_tests true false false true ha hb hc hd = both_beside men b c (λ t man stands beside.
+        of_four (it.found t man stands) (λ e. absurd (beside (king_held a t man ha e))) (λ e. inl e) (λ e. inr e)
+        (λ e. absurd (beside (king_held d t man hd e)))) in_b in_c hb hc bc b_c
+    of_tests true false true false ha hb hc hd = both_beside men b d (λ t man stands beside.
+        of_four (it.found t man stands) (λ e. absurd (beside (king_held a t man ha e))) (λ e. inl e)
+        (λ e. absurd (beside (king_held c t man hc e)))
+        (λ e. inr e)) in_b in_d hb hd bd (λ e. c_d (b_c e))
+    of_tests true true false false ha hb hc hd = both_beside men c d (λ t man stands beside.
+        of_four (it.found t man stands) (λ e. absurd (beside (king_held a t man ha e)))
+        (λ e. absurd (beside (king_held b t man hb e))) (λ e. inl e)
+        (λ e. inr e)) in_c in_d hc hd cd c_d
     of_tests true true true s ha hb hc hd = absurd (three_kings men kings a b c in_a in_b in_c ha hb hc ab ac bc)
     of_tests true true false true ha hb hc hd = absurd (three_kings men kings a b d in_a in_b in_d ha hb hd ab ad bd)
     of_tests true false true true ha hb hc hd = absurd (three_kings men kings a c d in_a in_c in_d ha hc hd ac ad cd)
     of_tests false true true true ha hb hc hd = absurd (three_kings men kings b c d in_b in_c in_d hb hc hd bc bd cd)
-    of_tests p false false false ha hb hc hd = absurd (one_slot men kings a b c d a it (λ t side h. elim h [
-      | inl e ↦ e
-      | inr h ↦ elim h [
-        | inl e ↦ absurd (no_king b t side hb e)
-        | inr h ↦ elim h [
-          | inl e ↦ absurd (no_king c t side hc e)
-          | inr h ↦ elim h [ inl e ↦ absurd (no_king d t side hd e) | inr h ↦ absurd h ]
-        ]
-      ]
-    ]))
-    of_tests false true false false ha hb hc hd = absurd (one_slot men kings a b c d b it (λ t side h. elim h [
-      | inl e ↦ absurd (no_king a t side ha e)
-      | inr h ↦ elim h [
-        | inl e ↦ e
-        | inr h ↦ elim h [
-          | inl e ↦ absurd (no_king c t side hc e)
-          | inr h ↦ elim h [ inl e ↦ absurd (no_king d t side hd e) | inr h ↦ absurd h ]
-        ]
-      ]
-    ]))
-    of_tests false false true false ha hb hc hd = absurd (one_slot men kings a b c d c it (λ t side h. elim h [
-      | inl e ↦ absurd (no_king a t side ha e)
-      | inr h ↦ elim h [
-        | inl e ↦ absurd (no_king b t side hb e)
-        | inr h ↦ elim h [
-          | inl e ↦ e
-          | inr h ↦ elim h [ inl e ↦ absurd (no_king d t side hd e) | inr h ↦ absurd h ]
-        ]
-      ]
-    ]))
-    of_tests false false false true ha hb hc hd = absurd (one_slot men kings a b c d d it (λ t side h. elim h [
-      | inl e ↦ absurd (no_king a t side ha e)
-      | inr h ↦ elim h [
-        | inl e ↦ absurd (no_king b t side hb e)
-        | inr h ↦ elim h [
-          | inl e ↦ absurd (no_king c t side hc e)
-          | inr h ↦ elim h [ inl e ↦ e | inr h ↦ absurd h ]
-        ]
-      ]
-    ]))
+    of_tests p false false false ha hb hc hd = absurd (one_slot men kings a b c d a it (λ t side h.
+        of_four h (λ e. e) (λ e. absurd (no_king b t side hb e)) (λ e. absurd (no_king c t side hc e))
+        (λ e. absurd (no_king d t side hd e))))
+    of_tests false true false false ha hb hc hd = absurd (one_slot men kings a b c d b it (λ t side h.
+        of_four h (λ e. absurd (no_king a t side ha e)) (λ e. e) (λ e. absurd (no_king c t side hc e))
+        (λ e. absurd (no_king d t side hd e))))
+    of_tests false false true false ha hb hc hd = absurd (one_slot men kings a b c d c it (λ t side h.
+        of_four h (λ e. absurd (no_king a t side ha e)) (λ e. absurd (no_king b t side hb e)) (λ e. e)
+        (λ e. absurd (no_king d t side hd e))))
+    of_tests false false false true ha hb hc hd = absurd (one_slot men kings a b c d d it (λ t side h.
+        of_four h (λ e. absurd (no_king a t side ha e)) (λ e. absurd (no_king b t side hb e))
+        (λ e. absurd (no_king c t side hc e)) (λ e. e)))

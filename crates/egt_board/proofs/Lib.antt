@@ -1,5 +1,6 @@
 pub mod Bits
 pub mod Sides
+pub mod Parts
 pub mod Facing
 pub mod Geometry
 pub mod Rides

@@ -1,25 +1,22 @@
 -- How many of each man stand on a board.
-use Rattle.egt_board.specs.Prelude.{◌≡◌, ◌≢◌, ℕ, zero, suc, ◌+◌, ◌*◌, ◌<◌, ◌⊎◌, ◌&&◌, List, [], ◌∷◌, map, Option, Some}
-use Rattle.egt_board.specs.Prelude.{None, Bool, true, false, cond, ltb, eqb, arith, add-zero, refl, ap, ◌∙◌, inl, inr}
-use Rattle.egt_board.specs.Prelude.{T, count_by, nat_cmp, is_lt, Less, Equal, Greater, below_all, cases_eq, ltb-true}
-use Rattle.egt_board.specs.Prelude.{sum_by-cons, eqb_tells, Side, White, Black, Kind, Q, R, B, N, P, K, Man, Placement}
-use Rattle.egt_board.specs.Prelude.{Stands, tied, untied, get-insert_same, get-insert_other, get-remove_same}
+use Rattle.egt_board.specs.Prelude.{◌≡◌, ◌≢◌, ℕ, zero, suc, ◌+◌, ◌*◌, ◌<◌, ◌⊎◌, List, [], ◌∷◌, map, Option, Some, None}
+use Rattle.egt_board.specs.Prelude.{cond, arith, add-zero, refl, ap, ◌∙◌, inl, inr, T, count_by, nat_cmp, below_all}
+use Rattle.egt_board.specs.Prelude.{cases_eq, sum_by-cons, eqb_tells, Side, White, Black, Kind, Q, R, B, N, P, K, Man}
+use Rattle.egt_board.specs.Prelude.{Placement, Stands, get-insert_same, get-insert_other, get-remove_same}
 use Rattle.egt_board.specs.Prelude.{get-remove_other, king_of, IsKingOn, total, kind_number, side_number, man_number}
 use Rattle.egt_board.specs.Prelude.{stands_here, count_of, is_man}
+use Rattle.egt_board.specs.Prelude.{first_half, second_half}
 use Rattle.std.specs.FinMap as placement
-
-same_below : (f g : ℕ → ℕ) (n : ℕ) → ((t : ℕ) → t < n → f t ≡ g t) → total f n ≡ total g n
-same_below f g zero same = refl
-same_below f g (suc n) same =
-    let rest : total f n ≡ total g n = same_below f g n (λ t t_in. same t (omega arith)) in
-    let last : f n ≡ g n = same n (omega arith) in omega arith
+use Rattle.egt_board.proofs.Placed.{find-here, find-later, Sorted, lt_of_less}
+use Rattle.egt_board.proofs.Sides.{kind_few}
+use Rattle.egt_board.proofs.Sizes.{total-same}
 
 -- totals of numbers that differ at one square alone
 but_one : (f g : ℕ → ℕ) (n k : ℕ) → k < n → ((t : ℕ) → t ≢ k → f t ≡ g t) → total f n + g k ≡ total g n + f k
 but_one f g zero k k_in same = absurd (omega arith)
 but_one f g (suc n) k k_in same = elim (cases_eq k n) [
   | inl e ↦
-      let rest : total f n ≡ total g n = same_below f g n (λ t t_in. same t (λ t_is. omega arith)) in
+      let rest : total f n ≡ total g n = total-same f g n (λ t t_in. same t (λ t_is. omega arith)) in
       let f_k : f k ≡ f n = ap f e in
       let g_k : g k ≡ g n = ap g e in omega arith
   | inr other ↦
@@ -46,45 +43,20 @@ count-remove men s man s_in =
     ∙ ap (λ o. total (λ t. stands_here man (placement.get men t)) 64 + stands_here man o) (get-remove_same men s s refl)
     ∙ add-zero _
 
-abbrev Sorted : List (ℕ × Man) → Type 0
-Sorted es = T (placement.is_sorted nat_cmp es)
-
-left_of : (a b : Bool) → T (a && b) → T a
-left_of true b h = tt
-left_of false b h = absurd h
-
-right_of : (a b : Bool) → T (a && b) → T b
-right_of true b h = h
-right_of false b h = absurd h
-
-lt_of_less : (a b : ℕ) → T (is_lt (nat_cmp a b)) → a < b
-lt_of_less a b = go (ltb a b) (eqb a b) refl
-  where
-    go : (l e : Bool) → ltb a b ≡ l → T (is_lt (cond l Less (cond e Equal Greater))) → a < b
-    go true e is h = ltb-true a b is
-    go false true is h = absurd h
-    go false false is h = absurd h
-
-find-here : (q k : ℕ) (man : Man) (es : List (ℕ × Man)) → q ≡ k → placement.find nat_cmp q ((k, man) ∷ es) ≡ Some man
-find-here q k man es e = ap (λ b. cond b (Some man) (placement.find nat_cmp q es)) (tied q k e)
-
-find-later : (q k : ℕ) (man : Man) (es : List (ℕ × Man)) → q ≢ k → placement.find nat_cmp q ((k, man) ∷ es) ≡ placement.find nat_cmp q es
-find-later q k man es other = ap (λ b. cond b (Some man) (placement.find nat_cmp q es)) (untied q k other)
-
 -- below the first key there is none
 find-below : (k : ℕ) (es : List (ℕ × Man)) → T (below_all nat_cmp k es) → placement.find nat_cmp k es ≡ None
 find-below k [] below = refl
 find-below k (e ∷ es) below =
-    let lt = lt_of_less k e.0 (left_of _ _ below) in
-    find-later k e.0 e.1 es (λ same. omega arith) ∙ find-below k es (right_of _ _ below)
+    let lt = lt_of_less k e.0 (first_half _ _ below) in
+    find-later k e.0 e.1 es (λ same. omega arith) ∙ find-below k es (second_half _ _ below)
 
 -- the men of a list in order of square are those that its squares show
 count_listed : (es : List (ℕ × Man)) (man : Man) (n : ℕ) → Sorted es → ((s : ℕ) (other : Man) → placement.find nat_cmp s es ≡ Some other → s < n) → total (λ s. stands_here man (placement.find nat_cmp s es)) n ≡ count_by (is_man man) (map (λ e. e.1) es)
 count_listed [] man n sorted below = none_at_all n
 count_listed (e ∷ es) man n sorted below =
-    let none : placement.find nat_cmp e.0 es ≡ None = find-below e.0 es (left_of _ _ sorted) in
+    let none : placement.find nat_cmp e.0 es ≡ None = find-below e.0 es (first_half _ _ sorted) in
     let rest : total (λ s. stands_here man (placement.find nat_cmp s es)) n ≡ count_by (is_man man) (map (λ e. e.1) es) =
-    count_listed es man n (right_of _ _ sorted) (λ s other found. later s other found (cases_eq s e.0)) in
+    count_listed es man n (second_half _ _ sorted) (λ s other found. later s other found (cases_eq s e.0)) in
     let one : total (λ s. stands_here man (placement.find nat_cmp s (e ∷ es))) n + stands_here man (placement.find nat_cmp e.0 es)
     ≡ total (λ s. stands_here man (placement.find nat_cmp s es)) n + stands_here man (placement.find nat_cmp e.0 (e ∷ es)) =
     but_one _ _ n e.0 (below e.0 e.1 (find-here e.0 e.0 e.1 es refl)) (λ t apart. ap (stands_here man) (find-later t e.0 e.1 es apart)) in
@@ -101,18 +73,10 @@ count_listed (e ∷ es) man n sorted below =
 pub men_counted : (men : Placement) → ((s : ℕ) (man : Man) → Stands men s man → s < 64) → (man : Man) → count_of men man ≡ count_by (is_man man) (placement.values men)
 unfolding count_of
 men_counted men on_board man =
-    same_below _ _ 64 (λ s _. ap (stands_here man) (placement.get-entries men s))
+    total-same _ _ 64 (λ s _. ap (stands_here man) (placement.get-entries men s))
     ∙ count_listed (placement.entries men) man 64 (placement.entries_sorted men) (λ s other found. on_board s other (placement.get-entries men s ∙ found))
 
 -- men of one number are one man
-kind_few : (kind : Kind) → kind_number kind < 6
-kind_few Q = omega arith
-kind_few R = omega arith
-kind_few B = omega arith
-kind_few N = omega arith
-kind_few P = omega arith
-kind_few K = omega arith
-
 is_king : (kind : Kind) → kind_number kind ≡ 5 → kind ≡ K
 is_king Q e = absurd (omega arith)
 is_king R e = absurd (omega arith)

@@ -1,5 +1,6 @@
 -- Entries of a placement, found by their squares.
-use Rattle.egt_board.specs.Prelude.{◌≡◌, ◌≢◌, ℕ, List, ◌∷◌, Some, cond, ap, nat_cmp, Man, tied, untied}
+use Rattle.egt_board.specs.Prelude.{◌≡◌, ◌≢◌, ◌<◌, ℕ, List, ◌∷◌, Some, Bool, true, false, cond, refl, ap, ltb, eqb}
+use Rattle.egt_board.specs.Prelude.{ltb-true, T, nat_cmp, is_lt, Less, Equal, Greater, Man, tied, untied}
 use Rattle.std.specs.FinMap as map
 
 pub find-here : (q k : ℕ) (man : Man) (es : List (ℕ × Man)) → q ≡ k → map.find nat_cmp q ((k, man) ∷ es) ≡ Some man
@@ -7,3 +8,15 @@ find-here q k man es e = ap (λ b. cond b (Some man) (map.find nat_cmp q es)) (t
 
 pub find-later : (q k : ℕ) (man : Man) (es : List (ℕ × Man)) → q ≢ k → map.find nat_cmp q ((k, man) ∷ es) ≡ map.find nat_cmp q es
 find-later q k man es other = ap (λ b. cond b (Some man) (map.find nat_cmp q es)) (untied q k other)
+
+-- entries in order of their squares
+abbrev pub Sorted : List (ℕ × Man) → Type 0
+Sorted es = T (map.is_sorted nat_cmp es)
+
+pub lt_of_less : (a b : ℕ) → T (is_lt (nat_cmp a b)) → a < b
+lt_of_less a b = go (ltb a b) (eqb a b) refl
+  where
+    go : (l e : Bool) → ltb a b ≡ l → T (is_lt (cond l Less (cond e Equal Greater))) → a < b
+    go true e is h = ltb-true a b is
+    go false true is h = absurd h
+    go false false is h = absurd h

@@ -1,5 +1,6 @@
--- The two sides.
-use Rattle.egt_board.specs.Prelude.{◌≡◌, ◌⊎◌, refl, inl, inr, Side, White, Black, other_side}
+-- The two sides, and the kinds of men.
+use Rattle.egt_board.specs.Prelude.{◌≡◌, ◌⊎◌, ◌<◌, arith, refl, inl, inr, Side, White, Black}
+use Rattle.egt_board.specs.Prelude.{other_side, Kind, Q, R, B, N, P, K, kind_number}
 
 pub side_twice : (side : Side) → other_side (other_side side) ≡ side
 side_twice White = refl
@@ -14,3 +15,11 @@ side_cases Black Black = inl refl
 pub sides_differ : (side : Side) → side ≡ other_side side → ⊥
 sides_differ White e = cc
 sides_differ Black e = cc
+
+pub kind_few : (kind : Kind) → kind_number kind < 6
+kind_few Q = omega arith
+kind_few R = omega arith
+kind_few B = omega arith
+kind_few N = omega arith
+kind_few P = omega arith
+kind_few K = omega arith

@@ -6,6 +6,7 @@ use Rattle.egt_board.specs.Prelude.{bit_at-lt, Side, White, Black, Kind, Q, R, B
 use Rattle.egt_board.specs.Prelude.{list_all, eqb_tells, Way, Up, Down, Still, Further, Away, file_of, rank_of, total}
 use Rattle.egt_board.specs.Prelude.{size_of, most_reached, Rides, OneOf, Reaches, farthest, steps_of, straight_steps}
 use Rattle.egt_board.specs.Prelude.{diagonal_steps, knight_steps, pawn_steps, Advances}
+use Rattle.egt_board.proofs.Parts.{of_four}
 
 pub total-le : (f g : ℕ → ℕ) (n : ℕ) → ((t : ℕ) → t < n → f t ≤ g t) → total f n ≤ total g n
 total-le f g zero le = omega arith
@@ -137,29 +138,19 @@ aligned_of s t line =
 
 straight_line : (F : ℕ → Type 0) (most s t : ℕ) → OneOf (Rides F most s t) straight_steps → Line s t
 unfolding Line
-straight_line F most s t some = elim some [
-  | inl r ↦ let h = r.away.along in inr (inl (omega arith))
-  | inr some ↦ elim some [
-    | inl r ↦ let h = r.away.along in inr (inl (omega arith))
-    | inr some ↦ elim some [
-      | inl r ↦ let h = r.away.across in inl (omega arith)
-      | inr some ↦ elim some [ inl r ↦ let h = r.away.across in inl (omega arith) | inr none ↦ absurd none ]
-    ]
-  ]
-]
+straight_line F most s t some = of_four some
+    (λ r. let h = r.away.along in inr (inl (omega arith)))
+    (λ r. let h = r.away.along in inr (inl (omega arith)))
+    (λ r. let h = r.away.across in inl (omega arith))
+    (λ r. let h = r.away.across in inl (omega arith))
 
 diagonal_line : (F : ℕ → Type 0) (most s t : ℕ) → OneOf (Rides F most s t) diagonal_steps → Line s t
 unfolding Line
-diagonal_line F most s t some = elim some [
-  | inl r ↦ let h = r.away.along in let g = r.away.across in inr (inr (inr (omega arith)))
-  | inr some ↦ elim some [
-    | inl r ↦ let h = r.away.along in let g = r.away.across in inr (inr (inl (omega arith)))
-    | inr some ↦ elim some [
-      | inl r ↦ let h = r.away.along in let g = r.away.across in inr (inr (inl (omega arith)))
-      | inr some ↦ elim some [ inl r ↦ let h = r.away.along in let g = r.away.across in inr (inr (inr (omega arith))) | inr none ↦ absurd none ]
-    ]
-  ]
-]
+diagonal_line F most s t some = of_four some
+    (λ r. let h = r.away.along in let g = r.away.across in inr (inr (inr (omega arith))))
+    (λ r. let h = r.away.along in let g = r.away.across in inr (inr (inl (omega arith))))
+    (λ r. let h = r.away.along in let g = r.away.across in inr (inr (inl (omega arith))))
+    (λ r. let h = r.away.along in let g = r.away.across in inr (inr (inr (omega arith))))
 
 OneOf-append : (Holds : Step → Type 0) (ds es : List Step) → OneOf Holds (ds ++ es) → OneOf Holds ds ⊎ OneOf Holds es
 OneOf-append Holds [] es some = inr some
@@ -170,28 +161,18 @@ OneOf-append Holds (d ∷ ds) es some = elim some [
 
 -- a step that goes somewhere
 straight_apart : (F : ℕ → Type 0) (most s t : ℕ) → OneOf (Rides F most s t) straight_steps → s ≢ t
-straight_apart F most s t some = λ same. elim some [
-  | inl r ↦ let h = r.away.across in let k = r.moves in omega arith
-  | inr some ↦ elim some [
-    | inl r ↦ let h = r.away.across in let k = r.moves in omega arith
-    | inr some ↦ elim some [
-      | inl r ↦ let h = r.away.along in let k = r.moves in omega arith
-      | inr some ↦ elim some [ inl r ↦ let h = r.away.along in let k = r.moves in omega arith | inr none ↦ absurd none ]
-    ]
-  ]
-]
+straight_apart F most s t some = λ same. of_four some
+    (λ r. let h = r.away.across in let k = r.moves in omega arith)
+    (λ r. let h = r.away.across in let k = r.moves in omega arith)
+    (λ r. let h = r.away.along in let k = r.moves in omega arith)
+    (λ r. let h = r.away.along in let k = r.moves in omega arith)
 
 diagonal_apart : (F : ℕ → Type 0) (most s t : ℕ) → OneOf (Rides F most s t) diagonal_steps → s ≢ t
-diagonal_apart F most s t some = λ same. elim some [
-  | inl r ↦ let h = r.away.across in let k = r.moves in omega arith
-  | inr some ↦ elim some [
-    | inl r ↦ let h = r.away.across in let k = r.moves in omega arith
-    | inr some ↦ elim some [
-      | inl r ↦ let h = r.away.across in let k = r.moves in omega arith
-      | inr some ↦ elim some [ inl r ↦ let h = r.away.across in let k = r.moves in omega arith | inr none ↦ absurd none ]
-    ]
-  ]
-]
+diagonal_apart F most s t some = λ same. of_four some
+    (λ r. let h = r.away.across in let k = r.moves in omega arith)
+    (λ r. let h = r.away.across in let k = r.moves in omega arith)
+    (λ r. let h = r.away.across in let k = r.moves in omega arith)
+    (λ r. let h = r.away.across in let k = r.moves in omega arith)
 
 small_step : ℕ → Step → Bool
 small_step n d = leb d.wide n && leb d.high n

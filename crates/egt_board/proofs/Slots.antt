@@ -8,7 +8,7 @@ use Rattle.egt_board.specs.Prelude.{eq-eqb, false≢true, eqb_tells, Man, Placem
 use Rattle.egt_board.specs.Prelude.{corners, Inside, slots_of, Slot, listed, padded, placed, InOrder, AreOnBoard}
 use Rattle.egt_board.specs.Prelude.{AreKept, man_on, place, lesser, greater, first_half, second_half}
 use Rattle.std.specs.FinMap as map
-use Rattle.egt_board.proofs.Placed.{find-here, find-later}
+use Rattle.egt_board.proofs.Placed.{find-here, find-later, lt_of_less}
 
 -- these slots show these men, with as many of them empty as there are fewer men than slots
 pub record AreShown (xs : List Slot) (men : Placement) : Type 0 where
@@ -344,17 +344,6 @@ opened_none zero k man k_in = refl
 opened_none (suc n) k man k_in =
     ap (λ b. cond b None None ∷ opened (Some (k, man)) b None (padded n [])) (le-ltb 64 k (omega arith)) ∙ ap (λ xs. None ∷ xs) (opened_none n k man k_in)
 
-pub less_by : (a b : ℕ) → T (is_lt (nat_cmp a b)) → a < b
-less_by a b h = elim (ltb a b) as (λ l. ltb a b ≡ l → a < b) [
-  | true ↦ λ e. ltb-true a b e
-  | false ↦ λ e. absurd (not_less (ltb a b) (eqb a b) e h)
-] refl
-  where
-    not_less : (l m : Bool) → l ≡ false → T (is_lt (cond l Less (cond m Equal Greater))) → ⊥
-    not_less true m e h = absurd (false≢true (sym e))
-    not_less false true e h = h
-    not_less false false e h = h
-
 opened_behind : (n k : ℕ) (man : Man) (p : ℕ × Man) (es : List (ℕ × Man)) → InOrder (p ∷ es) → k < 64 → k < p.0 → length es < n
     → opened (Some (k, man)) false (Some p) (padded n es) ≡ padded n (p ∷ es)
 unfolding opened
@@ -362,7 +351,7 @@ opened_behind zero k man p es sorted k_in less room = absurd (omega arith)
 opened_behind (suc n) k man p [] sorted k_in less room =
     ap (λ b. cond b None (Some p) ∷ opened (Some (k, man)) b None (padded n [])) (le-ltb 64 k (omega arith)) ∙ ap (λ xs. Some p ∷ xs) (opened_none n k man k_in)
 opened_behind (suc n) k man p (e ∷ es) sorted k_in less room =
-    let next : p.0 < e.0 = less_by p.0 e.0 (first_half _ _ (first_half _ _ sorted)) in
+    let next : p.0 < e.0 = lt_of_less p.0 e.0 (first_half _ _ (first_half _ _ sorted)) in
     ap (λ b. cond b (Some e) (Some p) ∷ opened (Some (k, man)) b (Some e) (padded n es)) (le-ltb e.0 k (omega arith))
     ∙ ap (λ xs. Some p ∷ xs) (opened_behind n k man e es (second_half _ _ sorted) k_in (omega arith) (omega arith))
 
@@ -438,7 +427,7 @@ padded_rise zero (e ∷ es) sorted on_board = tt
 padded_rise (suc zero) (e ∷ es) sorted on_board = tt
 padded_rise (suc (suc n)) (e ∷ []) sorted on_board = (let lt = on_board.0 in omega arith, none_rise (suc n))
 padded_rise (suc (suc n)) (e ∷ f ∷ es) sorted on_board =
-    let next : e.0 < f.0 = less_by e.0 f.0 (first_half _ _ (first_half _ _ sorted)) in
+    let next : e.0 < f.0 = lt_of_less e.0 f.0 (first_half _ _ (first_half _ _ sorted)) in
     (omega arith, padded_rise (suc n) (f ∷ es) (second_half _ _ sorted) on_board.1)
 
 slots_rise : (a b c d : Slot) (men : Placement) → AreShown (a ∷ b ∷ c ∷ d ∷ []) men → (place a ≤ place b) × (place b ≤ place c) × (place c ≤ place d)

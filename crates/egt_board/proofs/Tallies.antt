@@ -1,11 +1,12 @@
 -- How many of each man stand on the board of a setup in a mirror.
-use Rattle.egt_board.specs.Prelude.{◌≡◌, ℕ, ◌+◌, ◌*◌, ◌<◌, Bool, cond, eqb, arith, Option, Some, None, refl, sym, ap}
-use Rattle.egt_board.specs.Prelude.{◌∙◌, inl, inr, option_map, eq-eqb, eqb_tells, Mirror, Files, Ranks, Diagonal}
-use Rattle.egt_board.specs.Prelude.{Colours, Side, White, Black, Kind, Q, R, B, N, P, K, Man, other_side, Placement}
-use Rattle.egt_board.specs.Prelude.{total, square_by, man_by, kind_number, side_number, stands_here, count_of, men_by}
+use Rattle.egt_board.specs.Prelude.{◌≡◌, ℕ, ◌+◌, ◌*◌, Bool, cond, eqb, arith, Option, Some, None, refl, sym, ap, ◌∙◌}
+use Rattle.egt_board.specs.Prelude.{inl, inr, option_map, eq-eqb, eqb_tells, Mirror, Files, Ranks, Diagonal, Colours}
+use Rattle.egt_board.specs.Prelude.{Side, White, Black, Kind, Man, other_side, Placement, total, square_by, man_by}
+use Rattle.egt_board.specs.Prelude.{kind_number, side_number, stands_here, count_of, men_by}
 use Rattle.std.specs.FinMap as map
 use Rattle.egt_board.proofs.Sizes.{total-same}
 use Rattle.egt_board.proofs.Reflected.{men_by-shows}
+use Rattle.egt_board.proofs.Sides.{kind_few}
 
 -- a total over the board may be taken in a mirror
 total_by : (m : Mirror) (f : ℕ → ℕ) → total (λ s. f (square_by m s)) 64 ≡ total f 64
@@ -27,14 +28,6 @@ same_test a b c d f g = ap one (elim (eqb_tells a b) [
   where
     one : Bool → ℕ
     one test = cond test 1 0
-
-kind_few : (kind : Kind) → kind_number kind < 6
-kind_few Q = omega arith
-kind_few R = omega arith
-kind_few B = omega arith
-kind_few N = omega arith
-kind_few P = omega arith
-kind_few K = omega arith
 
 -- men of the other sides are the same where the men are
 numbers_exchanged : (s t : Side) (k l : Kind) → one_where_same (6 * side_number (other_side s) + kind_number k) (6 * side_number (other_side t) + kind_number l) ≡ one_where_same (6 * side_number s + kind_number k) (6 * side_number t + kind_number l)

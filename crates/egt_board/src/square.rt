@@ -69,3 +69,18 @@ impl Square {
         self.number / 8
     }
 }
+
+/// What a macro makes of each square's number and of each of these numbers: 64 values for each of them, in order.
+#[macro_export]
+macro_rules! of_squares {
+    ($of:ident; $($by:literal)*) => {[$(
+        $of!(0 $by), $of!(1 $by), $of!(2 $by), $of!(3 $by), $of!(4 $by), $of!(5 $by), $of!(6 $by), $of!(7 $by),
+        $of!(8 $by), $of!(9 $by), $of!(10 $by), $of!(11 $by), $of!(12 $by), $of!(13 $by), $of!(14 $by), $of!(15 $by),
+        $of!(16 $by), $of!(17 $by), $of!(18 $by), $of!(19 $by), $of!(20 $by), $of!(21 $by), $of!(22 $by), $of!(23 $by),
+        $of!(24 $by), $of!(25 $by), $of!(26 $by), $of!(27 $by), $of!(28 $by), $of!(29 $by), $of!(30 $by), $of!(31 $by),
+        $of!(32 $by), $of!(33 $by), $of!(34 $by), $of!(35 $by), $of!(36 $by), $of!(37 $by), $of!(38 $by), $of!(39 $by),
+        $of!(40 $by), $of!(41 $by), $of!(42 $by), $of!(43 $by), $of!(44 $by), $of!(45 $by), $of!(46 $by), $of!(47 $by),
+        $of!(48 $by), $of!(49 $by), $of!(50 $by), $of!(51 $by), $of!(52 $by), $of!(53 $by), $of!(54 $by), $of!(55 $by),
+        $of!(56 $by), $of!(57 $by), $of!(58 $by), $of!(59 $by), $of!(60 $by), $of!(61 $by), $of!(62 $by), $of!(63 $by),
+    )*]};
+}

@@ -88,3 +88,15 @@ impl Position {
         self.mirrored(Mirror::Colours)
     }
 }
+
+/// The number of the square that a symmetry makes of the square; from 8 on those with colours exchanged.
+#[macro_export]
+macro_rules! turned_number {
+    ($square:literal $turn:literal) => {
+        if $turn / 4 % 2 == 1 {
+            ($square % 8 * 8 + $square / 8) ^ ($turn % 2 * 56) ^ ($turn / 2 % 2 * 7)
+        } else {
+            $square ^ ($turn % 2 * 7) ^ ($turn / 2 % 2 * 56)
+        } ^ ($turn / 8 * 56)
+    };
+}

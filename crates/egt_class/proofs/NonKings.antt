@@ -69,7 +69,7 @@ king_told K e = refl
 pub other_told : (kind : Kind) → is_king kind ≡ false → kind ≢ K
 other_told kind e is = false≢true (sym e ∙ ap is_king is)
 
-kind_few : (kind : Kind) → kind ≢ K → kind_number kind < 5
+pub kind_few : (kind : Kind) → kind ≢ K → kind_number kind < 5
 kind_few Q other = omega arith
 kind_few R other = omega arith
 kind_few B other = omega arith

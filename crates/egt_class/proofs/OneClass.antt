@@ -3,6 +3,8 @@ use Rattle.egt_class.specs.Prelude.{◌≡◌, ℕ, ◌<◌, ◌⊎◌, ◌↔�
 use Rattle.egt_class.specs.Prelude.{inl, inr, Side, White, Black, Kind, Man, other_side, Placement, Setup, SettlesTo}
 use Rattle.egt_class.specs.Prelude.{count_of, SameMen, ExchangedMen, men_in, has_equal_sides, IsOf}
 use Rattle.egt_class.proofs.ClassTests.{one_class, equal_sides}
+use Rattle.egt_board.proofs.SettledForms.{settles_men}
+use Rattle.egt_board.proofs.Sides.{side_twice}
 
 pub same_class : (p : Setup) (c d : ℕ) (flipped turned : Bool) → c < 36 → d < 36 → IsOf c flipped p → IsOf d turned p → (c ≡ d) × ((flipped ≡ turned) ⊎ (has_equal_sides c ≡ true))
 unfolding men_in
@@ -22,13 +24,9 @@ either_flip p c flipped turned c_in equal is = record { men = λ man. is.men man
 pub by_men : (p q : Setup) (c : ℕ) (flipped : Bool) → ((man : Man) → count_of q.men man ≡ count_of p.men man) → IsOf c flipped p → IsOf c flipped q
 by_men p q c flipped same is = record { men = λ man. same man ∙ is.men man }
 
-settled_men : (p q : Setup) → SettlesTo p q → q.men ≡ p.men
-settled_men p q (inl h) = ap (λ (r : Setup). r.men) h.1
-settled_men p q (inr h) = ap (λ (r : Setup). r.men) h.1
-
 pub settled_class : (p q : Setup) (c : ℕ) (flipped : Bool) → SettlesTo p q → IsOf c flipped p ↔ IsOf c flipped q
 settled_class p q c flipped settles =
-    let same : q.men ≡ p.men = settled_men p q settles in
+    let same : q.men ≡ p.men = settles_men p q settles in
     (by_men p q c flipped (λ man. ap (λ (men : Placement). count_of men man) same), by_men q p c flipped (λ man. ap (λ (men : Placement). count_of men man) (sym same)))
 
 -- with colours exchanged the other flip is taken
@@ -38,10 +36,6 @@ exchanged_side true Black = refl
 exchanged_side false White = refl
 exchanged_side false Black = refl
 
-exchanged_twice : (side : Side) → other_side (other_side side) ≡ side
-exchanged_twice White = refl
-exchanged_twice Black = refl
-
 pub image_class : (p q : Setup) (c : ℕ) (flipped : Bool) → SameMen p q ⊎ ExchangedMen p q → IsOf c flipped p → (IsOf c flipped q × (q.side ≡ p.side)) ⊎ (IsOf c (not flipped) q × (q.side ≡ other_side p.side))
 image_class p q c flipped (inl same) is = inl (by_men p q c flipped same.men is, same.side)
 image_class p q c flipped (inr exchanged) is = inr (record { men = λ man. by_side man.side man.kind }, exchanged.side)
@@ -49,7 +43,7 @@ image_class p q c flipped (inr exchanged) is = inr (record { men = λ man. by_si
     by_side : (side : Side) (kind : Kind) → let man : Man = record { side = side; kind = kind } in count_of q.men man ≡ men_in c (if not flipped then other_side side else side) kind
     by_side side kind =
         let man = λ (s : Side). let made : Man = record { side = s; kind = kind } in made in
-        ap (λ s. count_of q.men (man s)) (sym (exchanged_twice side))
+        ap (λ s. count_of q.men (man s)) (sym (side_twice side))
         ∙ exchanged.men (man (other_side side))
         ∙ is.men (man (other_side side))
         ∙ ap (λ s. men_in c s kind) (exchanged_side flipped side)

@@ -7,6 +7,7 @@ use Rattle.egt_class.specs.Prelude.{count_of, Setup, all_below, passes_below, ma
 use Rattle.egt_class.specs.Prelude.{has_equal_sides, IsOf, men_beside, agree_at, man_of, slot_of, kind_slot, first_slot}
 use Rattle.egt_class.specs.Prelude.{class_at, flip_at, AreNonKings}
 use Rattle.egt_class.proofs.Agreeing.{all_agree}
+use Rattle.egt_class.proofs.NonKings.{kind_few}
 
 -- how many of this man the class has, in the one colours or the other
 abbrev pub counted : ℕ → Bool → Man → ℕ
@@ -65,14 +66,6 @@ same_test a b c d f g = ap (λ test. cond test 1 0) (elim (eqb_tells a b) [
   | inl h ↦ h.0 ∙ sym (eq-eqb c d (f h.1))
   | inr h ↦ elim (eqb_tells c d) [ inl k ↦ absurd (h.1 (g k.1)) | inr k ↦ h.0 ∙ sym k.0 ]
 ])
-
-kind_few : (kind : Kind) → kind ≢ K → kind_number kind < 5
-kind_few Q other = omega arith
-kind_few R other = omega arith
-kind_few B other = omega arith
-kind_few N other = omega arith
-kind_few P other = omega arith
-kind_few K other = absurd (other refl)
 
 slot_is : (first : ℕ) (kind : Kind) → kind ≢ K → kind_slot first kind ≡ first + kind_number kind
 slot_is first Q other = omega arith

@@ -19,6 +19,7 @@ use Rattle.egt_index.proofs.Found.{code_made}
 use Rattle.egt_index.proofs.Listing.{AreApart, first_back, remove_first, get_here, listed}
 use Rattle.egt_index.proofs.Standing.{turned_back}
 use Rattle.egt_index.proofs.Turned.{counted_of}
+use Rattle.egt_board.proofs.Parts.{tails}
 
 -- the symmetry that undoes another
 unfoldable pub inverse : ℕ → ℕ
@@ -251,9 +252,6 @@ goes_from pawns high number men list apart sorted tells = record {
   is = tells.number_is;
 }
 
-tails : (man : Man) (a b : List Man) → man ∷ a ≡ man ∷ b → a ≡ b
-tails man a b e = cc
-
 same_target : (f : ℕ → ℕ) (o : Option ℕ) → target_digit (option_map f o) ≡ target_digit o
 same_target f None = refl
 same_target f (Some t) = refl
@@ -287,5 +285,5 @@ code_stood c p t after high number code i below is tells coded = record {
     goes : Goes (has_pawns m) high (placement.remove i.image.men after.white) (king_of Black ∷ men_beside m) number
     goes =
         subst (λ men. Goes (has_pawns m) high men (king_of Black ∷ men_beside m) number) (sym (ap (λ men. placement.remove men after.white) all.0 ∙ remove_first (king_of White, after.white) (rest_of after) all.1.0))
-        (subst (λ l. Goes (has_pawns m) high (men_of (rest_of after)) l number) (tails (king_of White) _ _ i.stood.are)
+        (subst (λ l. Goes (has_pawns m) high (men_of (rest_of after)) l number) (tails i.stood.are)
         (goes_from (has_pawns m) high number (men_among (rest_of after)) (rest_of after) all.1.1 (sorted_rest i.image after i.admissible i.stood.all i.in_order) tells))

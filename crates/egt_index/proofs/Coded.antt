@@ -98,6 +98,13 @@ number_append [] (d ∷ ds) cs es high are = absurd are
 number_append (b ∷ bs) [] cs es high are = absurd are
 number_append (b ∷ bs) (d ∷ ds) cs es high are = number_append bs ds cs es (high * b + d) are.1
 
+-- the digits behind those of the men, and their bases
+abbrev pub last_by : Material → Setup → List ℕ
+last_by m p = side_number p.side ∷ target_digits m p.target
+
+abbrev pub ends_by : Material → List ℕ
+ends_by m = 2 ∷ cond (has_target m) (2 ∷ []) []
+
 -- digits that are picked make the least code
 pub picks_code : (c : ℕ) (p : Setup) (digits : List ℕ) → IsAdmissible p → AreCounted p.men (men_in_order (material_of c)) → HasTargetDigit (material_of c) p.target
     → AreDigits (men_bases (material_of c)) digits → Picks (has_pawns (material_of c)) p.men (men_in_order (material_of c)) digits
@@ -120,19 +127,13 @@ picks_code c p digits admissible counted target are picks =
     m : Material
     m = material_of c
 
-    last : List ℕ
-    last = side_number p.side ∷ target_digits m p.target
-
-    ends : List ℕ
-    ends = 2 ∷ cond (has_target m) (2 ∷ []) []
-
-    are_ends : AreDigits ends last
+    are_ends : AreDigits (ends_by m) (last_by m p)
     are_ends = last_digits (has_target m) p.side p.target
 
-    least : (other : ℕ) (s : SpellsBy m other p) → (digits ≡ s.digits) ⊎ ((high : ℕ) → number_from high (men_bases m) digits < number_from high (men_bases m) s.digits) → number_of (bases m) (digits ++ last) ≤ other
-    least other s (inl same) = let is = ap (λ ds. number_of (bases m) (ds ++ last)) same ∙ sym s.number in omega arith
+    least : (other : ℕ) (s : SpellsBy m other p) → (digits ≡ s.digits) ⊎ ((high : ℕ) → number_from high (men_bases m) digits < number_from high (men_bases m) s.digits) → number_of (bases m) (digits ++ last_by m p) ≤ other
+    least other s (inl same) = let is = ap (λ ds. number_of (bases m) (ds ++ last_by m p)) same ∙ sym s.number in omega arith
     least other s (inr less) =
-        let here = number_append (men_bases m) digits ends last 0 are in
-        let there = number_append (men_bases m) s.digits ends last 0 s.are_digits in
-        let lt = number_from-lt ends last last (number_from 0 (men_bases m) digits) (number_from 0 (men_bases m) s.digits) are_ends are_ends (less 0) in
+        let here = number_append (men_bases m) digits (ends_by m) (last_by m p) 0 are in
+        let there = number_append (men_bases m) s.digits (ends_by m) (last_by m p) 0 s.are_digits in
+        let lt = number_from-lt (ends_by m) (last_by m p) (last_by m p) (number_from 0 (men_bases m) digits) (number_from 0 (men_bases m) s.digits) are_ends are_ends (less 0) in
         let is = s.number in omega arith

@@ -4,6 +4,7 @@ use Rattle.egt_index.specs.Prelude.{arith, refl, sym, ap, ◌∙◌, subst, Side
 use Rattle.egt_index.specs.Prelude.{Material, material_of, AreDigits, product, size_of, bases, men_bases, has_target}
 use Rattle.egt_index.specs.Prelude.{Spells, SpellsBy, men_at, target_digit, target_digits}
 use Rattle.egt_index.proofs.MixedDigits.{number_of-below, number_from-same}
+use Rattle.egt_board.proofs.Parts.{heads, tails}
 
 pub AreDigits-append : (bases digits others more : List ℕ) → AreDigits bases digits → AreDigits others more → AreDigits (bases ++ others) (digits ++ more)
 AreDigits-append [] [] others more here behind = behind
@@ -22,12 +23,6 @@ parts_same (b ∷ bs) (d ∷ ds) (e ∷ es) x y here there same =
     let rest = parts_same bs ds es x y here.1 there.1 (tails same) in
     (conses (heads same) rest.0, rest.1)
   where
-    tails : d ∷ (ds ++ x) ≡ e ∷ (es ++ y) → ds ++ x ≡ es ++ y
-    tails h = cc
-
-    heads : d ∷ (ds ++ x) ≡ e ∷ (es ++ y) → d ≡ e
-    heads h = cc
-
     conses : d ≡ e → ds ≡ es → d ∷ ds ≡ e ∷ es
     conses h k = cc
 

@@ -1,12 +1,14 @@
 -- Men counted on the squares of a placement, and taken off one by one.
-use Rattle.egt_index.specs.Prelude.{◌≡◌, ◌≢◌, ℕ, zero, suc, ◌+◌, ◌<◌, ◌≤◌, ◌⊎◌, cond, List, [], ◌∷◌, Option, Some, None}
-use Rattle.egt_index.specs.Prelude.{arith, refl, sym, ap, ◌∙◌, inl, inr, subst, slice_index_or, cases_eq, eq-eqb}
-use Rattle.egt_index.specs.Prelude.{eqb_tells, sum_by-cons, Side, White, Black, Kind, Q, R, B, N, P, K, Man}
-use Rattle.egt_index.specs.Prelude.{kind_number, side_number, man_number, stands_here, count_of, Placement, Stands}
-use Rattle.egt_index.specs.Prelude.{same_men, get-remove_same, get-remove_other, total, is_man, tally, AreCounted}
-use Rattle.egt_index.specs.Prelude.{Least, men_of}
+use Rattle.egt_index.specs.Prelude.{◌≡◌, ◌≢◌, ℕ, zero, suc, ◌+◌, ◌<◌, ◌≤◌, ◌⊎◌, cond, List, [], ◌∷◌, Option, Some}
+use Rattle.egt_index.specs.Prelude.{None, arith, refl, sym, ap, ◌∙◌, inl, inr, subst, slice_index_or, cases_eq, eq-eqb}
+use Rattle.egt_index.specs.Prelude.{eqb_tells, sum_by-cons, Side, Kind, Q, R, B, N, P, K, Man, kind_number}
+use Rattle.egt_index.specs.Prelude.{side_number, man_number, stands_here, count_of, Placement, Stands, same_men}
+use Rattle.egt_index.specs.Prelude.{get-remove_same, get-remove_other, total, is_man, tally, AreCounted, Least, men_of}
 use Rattle.std.specs.FinMap as placement
 use Rattle.egt_index.proofs.Listing.{get_none}
+use Rattle.egt_board.proofs.Sides.{kind_few}
+use Rattle.egt_index.proofs.Coding.{side_told}
+use Rattle.egt_board.proofs.Sizes.{total-same}
 
 kind_at : ℕ → Kind
 kind_at n = slice_index_or (Q ∷ R ∷ B ∷ N ∷ P ∷ K ∷ []) n Q
@@ -20,25 +22,11 @@ kind_back N = refl
 kind_back P = refl
 kind_back K = refl
 
-kind_below : (kind : Kind) → kind_number kind < 6
-kind_below Q = omega arith
-kind_below R = omega arith
-kind_below B = omega arith
-kind_below N = omega arith
-kind_below P = omega arith
-kind_below K = omega arith
-
-side_told : (a b : Side) → side_number a ≡ side_number b → a ≡ b
-side_told White White e = refl
-side_told Black Black e = refl
-side_told White Black e = absurd (omega arith)
-side_told Black White e = absurd (omega arith)
-
 -- men of one number are the same
 pub man_told : (man other : Man) → man_number man ≡ man_number other → man ≡ other
 man_told man other same =
-    let below = kind_below man.kind in
-    let below' = kind_below other.kind in
+    let below = kind_few man.kind in
+    let below' = kind_few other.kind in
     let kinds : kind_number man.kind ≡ kind_number other.kind = omega arith in
     let sides : side_number man.side ≡ side_number other.side = omega arith in
     same_man man other (side_told man.side other.side sides) (sym (kind_back man.kind) ∙ ap kind_at kinds ∙ kind_back other.kind)
@@ -96,15 +84,11 @@ total_some f (suc n) s s_in = elim (cases_eq s n) [
   | inr other ↦ let rest = total_some f n s (omega arith) in omega arith
 ]
 
-total_same : (f g : ℕ → ℕ) (n : ℕ) → ((t : ℕ) → t < n → f t ≡ g t) → total f n ≡ total g n
-total_same f g zero same = refl
-total_same f g (suc n) same = let rest = total_same f g n (λ t t_in. same t (omega arith)) in let last = same n (omega arith) in omega arith
-
 total_but_one : (f g : ℕ → ℕ) (n s k : ℕ) → s < n → g s + k ≡ f s → ((t : ℕ) → t ≢ s → g t ≡ f t) → total g n + k ≡ total f n
 total_but_one f g zero s k s_in here others = absurd (omega arith)
 total_but_one f g (suc n) s k s_in here others = elim (cases_eq s n) [
   | inl e ↦
-      let rest : total g n ≡ total f n = total_same g f n (λ t t_in. others t (λ same. omega arith)) in
+      let rest : total g n ≡ total f n = total-same g f n (λ t t_in. others t (λ same. omega arith)) in
       let there : g n + k ≡ f n = subst (λ j. g j + k ≡ f j) e here in omega arith
   | inr other ↦
       let rest : total g n + k ≡ total f n = total_but_one f g n s k (omega arith) here others in

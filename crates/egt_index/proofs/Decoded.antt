@@ -11,6 +11,7 @@ use Rattle.egt_index.proofs.Coding.{last_digits, side_told}
 use Rattle.egt_index.proofs.Coded.{number_append}
 use Rattle.egt_index.proofs.Listing.{listed}
 use Rattle.egt_index.proofs.OnePosition.{a_pawn_each, one_pawn_each, one_square, same_setup}
+use Rattle.egt_board.proofs.Parts.{heads, tails}
 
 pub flag : Bool → ℕ
 flag passed = cond passed 1 0
@@ -104,12 +105,6 @@ parts_told m code high side passed p ends s =
     let both = number_from-same (2 ∷ cond (has_target m) (2 ∷ []) []) (side_number p.side ∷ target_digits m p.target) (side_number side ∷ cond (has_target m) (flag passed ∷ []) []) (number_of (men_bases m) s.digits) high
     (last_digits (has_target m) p.side p.target) (ends_fit (has_target m) side passed) (sym (code_of_parts m s.digits p.side (target_digit p.target) s.are_digits) ∙ sym s.number ∙ ends.number_is) in
     record { men_number = both.0; same_side = side_told p.side side (heads both.1); same_target = tails both.1 }
-  where
-    heads : {a b : ℕ} {x y : List ℕ} → a ∷ x ≡ b ∷ y → a ≡ b
-    heads e = cc
-
-    tails : {a b : ℕ} {x y : List ℕ} → a ∷ x ≡ b ∷ y → x ≡ y
-    tails e = cc
 
 pub no_men : (m : Material) (code high : ℕ) (side : Side) (passed : Bool) (p : Setup) → Ends m code high side passed → SpellsNoMen m high → SpellsBy m code p → ⊥
 no_men m code high side passed p ends none s = none s.digits s.are_digits (sym (parts_told m code high side passed p ends s).men_number)
@@ -147,9 +142,6 @@ spelled_setup c code high side passed list target p ends spells told s = (subst 
 
     men_is : p.men ≡ men_of list
     men_is = s.men ∙ ap men_of (sym list_is)
-
-    heads : {a b : ℕ} {x y : List ℕ} → a ∷ x ≡ b ∷ y → a ≡ b
-    heads e = cc
 
     one : has_target m ≡ true → (side : Side) (a b : ℕ) → IsListed list (pawn_of side) a → IsListed list (pawn_of side) b → a ≡ b
     one has side a b here there =

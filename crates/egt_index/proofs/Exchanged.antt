@@ -1,13 +1,13 @@
 -- The men of a class whose sides have the same, with colours exchanged.
-use Rattle.egt_index.specs.Prelude.{◌≡◌, ℕ, ◌<◌, ◌||◌, not, Bool, true, false, eqb, List, [], ◌∷◌, ◌++◌, Some, None}
-use Rattle.egt_index.specs.Prelude.{refl, sym, ap, ◌∙◌, subst, option_to_list, false≢true, eqb-true, Side, White, Black}
-use Rattle.egt_index.specs.Prelude.{Man, Colours, king_of, man_number, man_by, side_by, Placement, turned_man}
-use Rattle.egt_index.specs.Prelude.{all_below, passes_below, material_of, materials, has_equal_sides, men_beside}
-use Rattle.egt_index.specs.Prelude.{men_in_order, Entry, men_among, list_of, AllStand, IsFilled, Stood, on_square_of}
-use Rattle.egt_index.specs.Prelude.{Stand}
+use Rattle.egt_index.specs.Prelude.{◌≡◌, ℕ, ◌<◌, not, Bool, true, false, eqb, List, [], ◌∷◌, ◌++◌, Some, None, refl}
+use Rattle.egt_index.specs.Prelude.{sym, ap, ◌∙◌, subst, option_to_list, false≢true, eqb-true, Side, White, Black, Man}
+use Rattle.egt_index.specs.Prelude.{Colours, king_of, man_number, man_by, side_by, Placement, turned_man, all_below}
+use Rattle.egt_index.specs.Prelude.{passes_below, material_of, materials, has_equal_sides, men_beside, men_in_order}
+use Rattle.egt_index.specs.Prelude.{◌||◌, Entry, men_among, list_of, AllStand, IsFilled, Stood, on_square_of, Stand}
 use Rattle.egt_index.proofs.Counted.{man_told}
 use Rattle.egt_index.proofs.Standing.{turned_back}
 use Rattle.egt_index.proofs.Tested.{implied}
+use Rattle.egt_board.proofs.Parts.{heads, tails}
 
 -- no man, or a man and the same of the other side
 is_pair : List Man → Bool
@@ -70,10 +70,7 @@ men_exchanged (Some e) (Some d) = refl
 
 -- the men beside the kings of those
 pair_stood : (c : ℕ) (flips : Bool) (men : Placement) (stand : Stand) → c < 36 → has_equal_sides c ≡ true → Stood c flips men (list_of stand) → is_pair (men_among (option_to_list stand.next ++ option_to_list stand.last)) ≡ true
-pair_stood c flips men stand c_in equal stood = ap is_pair (tails stood.are) ∙ pair_there c c_in equal
-  where
-    tails : {a b : Man} {x y : List Man} → a ∷ b ∷ x ≡ a ∷ b ∷ y → x ≡ y
-    tails e = cc
+pair_stood c flips men stand c_in equal stood = ap is_pair (tails (tails stood.are)) ∙ pair_there c c_in equal
 
 pub stood_exchanged : (c : ℕ) (flips : Bool) (men : Placement) (stand other : Stand) → c < 36 → has_equal_sides c ≡ true → other.white ≡ stand.black → other.black ≡ stand.white
     → other.next ≡ on_square_of stand.next stand.last → other.last ≡ on_square_of stand.last stand.next → Stood c flips men (list_of stand) → Stood c (not flips) men (list_of other)
@@ -104,9 +101,6 @@ pair_apart None (Some d) pair same = absurd (false≢true pair)
 pair_apart (Some e) None pair same = absurd (false≢true pair)
 pair_apart (Some e) (Some d) pair same = absurd (not_itself e.0 (man_told (man_by Colours e.0) d.0 (eqb-true _ _ pair) ∙ sym (heads same)))
   where
-    heads : {a b : Man} {x y : List Man} → a ∷ x ≡ b ∷ y → a ≡ b
-    heads e = cc
-
     not_itself : (man : Man) → man_by Colours man ≡ man → ⊥
     not_itself man e = of_side man.side (ap (λ (m : Man). m.side) e)
       where
@@ -116,7 +110,4 @@ pair_apart (Some e) (Some d) pair same = absurd (not_itself e.0 (man_told (man_b
 
 pub one_order : (c : ℕ) (stand : Stand) → c < 36 → has_equal_sides c ≡ true → men_among (list_of stand) ≡ men_in_order (material_of c)
     → men_among (option_to_list (on_square_of stand.next stand.last)) ≡ men_among (option_to_list (on_square_of stand.last stand.next)) → on_square_of stand.last stand.next ≡ on_square_of stand.next stand.last
-one_order c stand c_in equal are same = pair_apart stand.next stand.last (ap is_pair (tails are) ∙ pair_there c c_in equal) same
-  where
-    tails : {a b d e : Man} {x y : List Man} → a ∷ b ∷ x ≡ d ∷ e ∷ y → x ≡ y
-    tails e = cc
+one_order c stand c_in equal are same = pair_apart stand.next stand.last (ap is_pair (tails (tails are)) ∙ pair_there c c_in equal) same

@@ -1,11 +1,11 @@
 -- The code that a position's digits make.
-use Rattle.egt_index.specs.Prelude.{◌≡◌, ℕ, ◌+◌, ◌*◌, ◌<◌, false, cond, List, [], ◌∷◌, ◌++◌, map, arith, sym, ap, ◌∙◌}
-use Rattle.egt_index.specs.Prelude.{subst, White, Black, king_of, side_number, Setup, IsAdmissible, IsKingOn, IsSettled}
+use Rattle.egt_index.specs.Prelude.{◌≡◌, ℕ, ◌+◌, ◌*◌, ◌<◌, false, cond, [], ◌∷◌, ◌++◌, map, arith, sym, ap, ◌∙◌, subst}
+use Rattle.egt_index.specs.Prelude.{White, Black, king_of, side_number, Setup, IsAdmissible, IsKingOn, IsSettled}
 use Rattle.egt_index.specs.Prelude.{Material, material_of, IsOf, number_from, number_of, king_base, base_of, bases}
 use Rattle.egt_index.specs.Prelude.{men_bases, men_beside, has_pawns, has_target, king_square, target_digits, Goes}
 use Rattle.egt_index.specs.Prelude.{IsLeastCode}
 use Rattle.std.specs.FinMap as placement
-use Rattle.egt_index.proofs.Coded.{digits_more, number_append, picks_code}
+use Rattle.egt_index.proofs.Coded.{digits_more, ends_by, last_by, number_append, picks_code}
 use Rattle.egt_index.proofs.Turned.{counted_of, target_has_digit}
 use Rattle.egt_index.proofs.Best.{least_king}
 
@@ -23,18 +23,12 @@ code_made c p s high number code ok settled is_of king below is goes coded =
     m : Material
     m = material_of c
 
-    last : List ℕ
-    last = side_number p.side ∷ target_digits m p.target
-
-    ends : List ℕ
-    ends = 2 ∷ cond (has_target m) (2 ∷ []) []
-
     none_before : 0 * king_base (has_pawns m) + high ≡ high
     none_before = omega arith
 
-    same : number_of (bases m) ((high ∷ goes.digits) ++ last) ≡ code
+    same : number_of (bases m) ((high ∷ goes.digits) ++ last_by m p) ≡ code
     same =
-        number_append (men_bases m) (high ∷ goes.digits) ends last 0 (below, goes.are)
-        ∙ ap (λ h. number_from (number_from h (map (base_of (has_pawns m)) (king_of Black ∷ men_beside m)) goes.digits) ends last) none_before
-        ∙ ap (λ n. number_from n ends last) (sym goes.is)
+        number_append (men_bases m) (high ∷ goes.digits) (ends_by m) (last_by m p) 0 (below, goes.are)
+        ∙ ap (λ h. number_from (number_from h (map (base_of (has_pawns m)) (king_of Black ∷ men_beside m)) goes.digits) (ends_by m) (last_by m p)) none_before
+        ∙ ap (λ n. number_from n (ends_by m) (last_by m p)) (sym goes.is)
         ∙ sym coded

@@ -6,8 +6,8 @@ use Rattle.egt_index.specs.Prelude.{king_base, has_pawns, men_beside, Splits, Te
 use Rattle.egt_index.specs.Prelude.{before_last, with_entry, with_last, Stand}
 use Rattle.std.specs.FinMap as map
 use Rattle.egt_index.proofs.Boarding.{apart_before, entry_free, entry_put, off_all, one_at_most, two_at_most}
-use Rattle.egt_index.proofs.Listing.{few_listed}
 use Rattle.egt_index.proofs.Splitting.{all_told, spells_men, spells_no_men}
+use Rattle.egt_board.proofs.Lists.{len-men_of}
 
 -- the last of one or two men, or of none
 pub last_beside : (first second : Option Man) (men : List Man) → option_to_list first ++ option_to_list second ≡ men → (first ≡ None → second ≡ None) → last_of men ≡ second
@@ -56,7 +56,7 @@ list_before stand none =
 -- no more than three men
 pub few_before : (stand : Stand) → stand.last ≡ None → map.len (men_of (list_of stand)) < 4
 few_before stand none =
-    let few = few_listed (before_last stand) in
+    let few = len-men_of (before_last stand) in
     let one = one_at_most stand.next in
     subst (λ (list : List (Man × ℕ)). map.len (men_of list) < 4) (sym (list_before stand none)) (omega arith)
 
@@ -100,4 +100,4 @@ free_before stand last none apart =
     subst (λ (list : List (Man × ℕ)). IfSome last (λ e. IsFree (men_of list) e.1)) (sym (list_before stand none)) (entry_free (before_last stand) last apart)
 
 pub few_with : (stand : Stand) → map.len (men_of (list_of stand)) ≤ 4
-few_with stand = let few = few_listed (list_of stand) in let two = two_at_most stand.next stand.last in omega arith
+few_with stand = let few = len-men_of (list_of stand) in let two = two_at_most stand.next stand.last in omega arith

@@ -1,12 +1,13 @@
 -- Numbers of positions and the codes that they stand for.
 use Rattle.egt_index.specs.Prelude.{◌≡◌, ℕ, ◌+◌, ◌-◌, ◌*◌, ◌/◌, ◌%◌, ◌<◌, ◌≤◌, ◌==◌, nat_lt, Bool, true, false, cond}
 use Rattle.egt_index.specs.Prelude.{[], ◌∷◌, Option, Some, None, arith, refl, sym, ap, ◌∙◌, inl, inr, subst, cases_lt}
-use Rattle.egt_index.specs.Prelude.{eqb-true, false≢true, lt-ltb, nat_tests, mul-le-mul_right, side_number, Kind, Q, R}
-use Rattle.egt_index.specs.Prelude.{B, N, P, K, Man, Side, White, Black, all_below, passes_below, Material, material_of}
-use Rattle.egt_index.specs.Prelude.{materials, number_from, product, digits_at, kind_digits, last_of, IsShelfBehind}
-use Rattle.egt_index.specs.Prelude.{number_in, bases, has_target, men_beside, size_of, Ends}
+use Rattle.egt_index.specs.Prelude.{eqb-true, false≢true, lt-ltb, nat_tests, mul-le-mul_right, side_number, Man, Side}
+use Rattle.egt_index.specs.Prelude.{White, Black, all_below, passes_below, Material, material_of, materials}
+use Rattle.egt_index.specs.Prelude.{number_from, product, digits_at, kind_digits, last_of, IsShelfBehind, number_in}
+use Rattle.egt_index.specs.Prelude.{bases, has_target, men_beside, size_of, Ends}
 use Rattle.egt_index.specs.Numbers.{code_of, half_of, number_of, places}
 use Rattle.egt_index.proofs.OnePosition.{one_pawn_each}
+use Rattle.egt_index.proofs.Placing.{some_digits}
 
 pub of_targets : {A : Type 0} (c : ℕ) → (has_target (material_of c) ≡ false → A) → (has_target (material_of c) ≡ true → A) → A
 of_targets {A = A} c none some = of (has_target (material_of c)) refl
@@ -146,15 +147,7 @@ places_of_none c none = ap digits_at none
 
 pub digits_some : (o : Option Man) → 0 < digits_at o
 digits_some None = omega arith
-digits_some (Some man) = of man.kind
-  where
-    of : (kind : Kind) → 0 < kind_digits kind
-    of Q = omega arith
-    of R = omega arith
-    of B = omega arith
-    of N = omega arith
-    of P = omega arith
-    of K = omega arith
+digits_some (Some man) = some_digits man.kind
 
 pub places_some : (c : ℕ) → 0 < places c
 unfolding places

@@ -1,9 +1,9 @@
 -- Placements given by a list of men.
-use Rattle.egt_index.specs.Prelude.{◌≡◌, ◌≢◌, ℕ, zero, suc, ◌+◌, ◌<◌, ◌≤◌, true, false, List, [], ◌∷◌, ◌++◌, length}
-use Rattle.egt_index.specs.Prelude.{map, cond, Some, None, arith, sym, ap, ◌∙◌, inl, inr, subst, slice_index, nat_cmp}
-use Rattle.egt_index.specs.Prelude.{nat_cmp_total, cases_eq, map-append, Man, Placement, Stands, IsFree, same_men, tied}
-use Rattle.egt_index.specs.Prelude.{untied, get-remove_same, get-remove_other, get-insert_same, get-insert_other}
-use Rattle.egt_index.specs.Prelude.{men_of, entry_of, squares_of, IsListed}
+use Rattle.egt_index.specs.Prelude.{◌≡◌, ◌≢◌, ℕ, zero, suc, ◌+◌, ◌<◌, List, [], ◌∷◌, ◌++◌, length, map, cond, Some}
+use Rattle.egt_index.specs.Prelude.{None, arith, sym, ap, ◌∙◌, inl, inr, subst, slice_index, nat_cmp, nat_cmp_total}
+use Rattle.egt_index.specs.Prelude.{cases_eq, map-append, Man, Placement, Stands, IsFree, same_men, tied, untied}
+use Rattle.egt_index.specs.Prelude.{get-remove_same, get-remove_other, get-insert_same, get-insert_other, men_of}
+use Rattle.egt_index.specs.Prelude.{entry_of, squares_of, IsListed}
 use Rattle.std.specs.FinMap as placement
 
 -- no two men on one square: none of those behind stands where one does
@@ -98,17 +98,3 @@ put_first e list = same_men _ _ (λ q. elim (cases_eq q e.1) [
   | inl same ↦ get_here e list q same ∙ sym (get-insert_same (men_of list) e.1 e.0 q same)
   | inr other ↦ get_later e list q other ∙ sym (get-insert_other (men_of list) e.1 e.0 q other)
 ])
-
--- no more men than are listed
-pub few_listed : (list : List (Man × ℕ)) → placement.len (men_of list) ≤ length list
-few_listed [] = let none = ap placement.len (none_listed) ∙ placement.len-empty nat_cmp Man in omega arith
-  where
-    none_listed : men_of [] ≡ placement.empty
-    none_listed = same_men _ _ (λ q. get_none q ∙ sym (placement.get-empty nat_cmp q))
-few_listed (e ∷ list) =
-    let is = ap placement.len (put_first e list) ∙ placement.len-insert nat_cmp_total (men_of list) e.1 e.0 in
-    let rest = few_listed list in
-    elim (placement.contains_key (men_of list) e.1) as (λ b. placement.len (men_of (e ∷ list)) ≡ cond b (placement.len (men_of list)) (placement.len (men_of list) + 1) → placement.len (men_of (e ∷ list)) ≤ suc (length list)) [
-      | true ↦ λ is. omega arith
-      | false ↦ λ is. omega arith
-    ] is

@@ -1,17 +1,18 @@
 -- The codes of a class with one man beside the kings.
-use Rattle.egt_index.specs.Prelude.{◌≡◌, ℕ, ◌+◌, ◌-◌, ◌*◌, ◌<◌, ◌≤◌, ◌&&◌, Bool, true, false, cond, List, [], ◌∷◌, ◌++◌}
-use Rattle.egt_index.specs.Prelude.{map, None, arith, refl, sym, ap, ◌∙◌, subst, side_number, Kind, Q, R, B, N, P, K}
-use Rattle.egt_index.specs.Prelude.{Man, Side, White, Black, Material, material_of, king_square, number_from, number_of}
-use Rattle.egt_index.specs.Prelude.{product, IsLoneMan, IsLoneRow, lone_stand, kind_digits, kind_less, bases, has_pawn}
-use Rattle.egt_index.specs.Prelude.{has_pawns, has_target, king_base, man_of, men_bases, men_beside, size_of, SpellsMen}
-use Rattle.egt_index.specs.Prelude.{Tells, TellsMen, list_of, rest_of, Stand}
+use Rattle.egt_index.specs.Prelude.{◌≡◌, ℕ, ◌+◌, ◌-◌, ◌*◌, ◌<◌, ◌≤◌, ◌&&◌, Bool, true, false, cond, List, [], ◌∷◌}
+use Rattle.egt_index.specs.Prelude.{◌++◌, map, None, arith, refl, sym, ap, ◌∙◌, subst, side_number, Kind, Man, Side}
+use Rattle.egt_index.specs.Prelude.{White, Black, Material, material_of, king_square, number_from, number_of, product}
+use Rattle.egt_index.specs.Prelude.{IsLoneMan, IsLoneRow, lone_stand, kind_digits, kind_less, bases, has_pawn}
+use Rattle.egt_index.specs.Prelude.{has_pawns, has_target, king_base, man_of, men_bases, men_beside, size_of}
+use Rattle.egt_index.specs.Prelude.{SpellsMen, Tells, TellsMen, list_of, rest_of, Stand}
 use Rattle.egt_index.proofs.Coding.{AreDigits-append, last_digits}
 use Rattle.egt_index.proofs.Decoded.{code_of_parts}
 use Rattle.egt_index.proofs.MixedDigits.{number_of-below}
 use Rattle.egt_index.proofs.Opposed.{may_stand}
-use Rattle.egt_index.proofs.Placing.{within}
+use Rattle.egt_index.proofs.Placing.{some_digits, twice_within, within}
 use Rattle.egt_index.proofs.MenNumber.{number_on, number_told}
 use Rattle.egt_index.proofs.Splitting.{spells_men}
+use Rattle.egt_board.proofs.Parts.{tails}
 
 -- ---- one man beside the kings
 
@@ -26,9 +27,6 @@ alone_sides (k ∷ ks) [] man are = of (has_pawn (k ∷ ks))
 alone_sides (k ∷ []) (w ∷ ws) man are = absurd (cc)
 alone_sides (k ∷ l ∷ ks) (w ∷ ws) man are = absurd (cc)
 
-tails : {a b : Man} {x y : List Man} → a ∷ x ≡ b ∷ y → x ≡ y
-tails e = cc
-
 pub alone_beside : (c : ℕ) (man : Man) → IsLoneMan c man → man ∷ [] ≡ men_beside (material_of c)
 alone_beside c man is = tails (tails is.are)
 
@@ -36,22 +34,6 @@ pub no_target : (c : ℕ) (man : Man) → IsLoneMan c man → has_target (materi
 no_target c man is = alone_sides (material_of c).strong (material_of c).weak man (sym (alone_beside c man is))
 
 -- ---- codes
-
-twice_within : (kind : Kind) → kind_digits kind + 2 * kind_less kind ≤ 64
-twice_within Q = omega arith
-twice_within R = omega arith
-twice_within B = omega arith
-twice_within N = omega arith
-twice_within P = omega arith
-twice_within K = omega arith
-
-some : (kind : Kind) → 0 < kind_digits kind
-some Q = omega arith
-some R = omega arith
-some B = omega arith
-some N = omega arith
-some P = omega arith
-some K = omega arith
 
 -- a code that tells men is below the class's size
 pub told_below : (c code : ℕ) (stand : Stand) (side : Side) → TellsMen false c code stand side → code < size_of c
@@ -111,7 +93,7 @@ module _ (c king white black : ℕ) (man : Man) (is : IsLoneMan c man) (king_in 
   lone_told = record {
     targets = no_target c man is;
     within =
-        let any = some man.kind in
+        let any = some_digits man.kind in
         let last = told_below c _ _ Black (told Black (kind_digits man.kind - 1) (omega (arith, any))) in
         omega (arith, any, last);
     tells = λ side digit below. told side digit below;

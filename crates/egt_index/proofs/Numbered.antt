@@ -13,10 +13,11 @@ use Rattle.egt_index.proofs.Decoded.{list_spelled}
 use Rattle.egt_index.proofs.Exists.{index_settled, index_spelled}
 use Rattle.egt_index.proofs.Halves.{ends_behind, places_of_last}
 use Rattle.egt_index.proofs.Passing.{last_pawn}
-use Rattle.egt_index.proofs.Placing.{not_both, tells}
+use Rattle.egt_index.proofs.Placing.{tells}
 use Rattle.egt_index.proofs.RowMen.{row_number}
 use Rattle.egt_index.proofs.ToldMen.{stands_told, told_stands}
 use Rattle.egt_index.proofs.Swapping.{beaten_behind}
+use Rattle.egt_board.proofs.Bits.{not_both}
 
 no_bits : {P : ℕ → Type 0} (word : ℕ) → word ≡ 0 → ((k : ℕ) → P k → ⊥) → (k : ℕ) → (bit_at word k ≡ 1) ↔ P k
 no_bits word none not k = (λ one. not_both (bit_at 0 k) (bit_at-zero k) (sym (ap (λ w. bit_at w k) none) ∙ one), λ there. absurd (not k there))

@@ -15,9 +15,10 @@ use Rattle.egt_index.proofs.Fronts.{all_apart, apart_all, board_with, free_befor
 use Rattle.egt_index.proofs.After.{all_apart as stood_apart}
 use Rattle.egt_index.proofs.Listing.{listed}
 use Rattle.egt_index.proofs.OnePosition.{one_pawn_each}
-use Rattle.egt_index.proofs.Placing.{not_both, tells}
+use Rattle.egt_index.proofs.Placing.{tells}
 use Rattle.egt_index.proofs.Setups.{AreKings, kings_spelled, pawns_spelled, setup_spelled, stand_spelled}
 use Rattle.egt_index.proofs.ToldMen.{stands_told, told_stands}
+use Rattle.egt_board.proofs.Bits.{not_both}
 
 -- the last man of a class with targets
 pub last_pawn : (c : ℕ) → has_target (material_of c) ≡ true → last_of (men_beside (material_of c)) ≡ Some (pawn_of Black)

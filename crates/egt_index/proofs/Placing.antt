@@ -16,9 +16,7 @@ use Rattle.egt_index.proofs.Fronts.{all_apart, board_with, few_with, free_before
 use Rattle.egt_index.proofs.After.{all_apart as stood_apart}
 use Rattle.egt_index.proofs.Setups.{AreKings, kings_spelled, off_of, pawns_spelled, setup_spelled, stand_spelled}
 use Rattle.egt_index.proofs.Splitting.{tells_one}
-
-pub not_both : {A : Type 0} (n : ℕ) → n ≡ 0 → n ≡ 1 → A
-not_both n none one = absurd (omega arith)
+use Rattle.egt_board.proofs.Bits.{not_both}
 
 -- the digits of a man and his squares
 pub within : (kind : Kind) → kind_digits kind + kind_less kind ≤ 64
@@ -28,6 +26,22 @@ within B = omega arith
 within N = omega arith
 within P = omega arith
 within K = omega arith
+
+pub twice_within : (kind : Kind) → kind_digits kind + 2 * kind_less kind ≤ 64
+twice_within Q = omega arith
+twice_within R = omega arith
+twice_within B = omega arith
+twice_within N = omega arith
+twice_within P = omega arith
+twice_within K = omega arith
+
+pub some_digits : (kind : Kind) → 0 < kind_digits kind
+some_digits Q = omega arith
+some_digits R = omega arith
+some_digits B = omega arith
+some_digits N = omega arith
+some_digits P = omega arith
+some_digits K = omega arith
 
 -- of a pawn the bits from the second rank on
 shifted : (n k : ℕ) → bit_at (n / 256) k ≡ bit_at n (k + 8)

@@ -13,6 +13,7 @@ use Rattle.egt_index.proofs.Coded.{few_men, placed_few}
 use Rattle.egt_index.proofs.Decoded.{decoded_spells}
 use Rattle.egt_index.proofs.Listing.{AreApart, apart_of, fits_of, get_here, get_later, get_none, listed}
 use Rattle.egt_index.proofs.Tested.{not_both}
+use Rattle.egt_board.proofs.Parts.{tails}
 
 -- squares of their own, and squares on which nothing else stands
 pub free_of : (list : List (Man × ℕ)) (q : ℕ) → IsOff list q → IsFree (men_of list) q
@@ -120,11 +121,8 @@ kings_spelled c high stand c_in men apart = record {
     others : List (Man × ℕ)
     others = option_to_list stand.next ++ option_to_list stand.last
 
-    tails : {a b : Man} {x y : List Man} → a ∷ b ∷ x ≡ a ∷ b ∷ y → x ≡ y
-    tails e = cc
-
     none : are_no_kings (men_among others) ≡ true
-    none = ap are_no_kings (tails (men_spelled c high (list_of stand) men)) ∙ passes_below (λ c. are_no_kings (men_beside (material_of c))) 36 c all_no_kings c_in
+    none = ap are_no_kings (tails (tails (men_spelled c high (list_of stand) men))) ∙ passes_below (λ c. are_no_kings (men_beside (material_of c))) 36 c all_no_kings c_in
 
     of_white : (t : ℕ) → IsListed (list_of stand) (king_of White) t → t ≡ stand.white
     of_white t (inl h) = sym h.1

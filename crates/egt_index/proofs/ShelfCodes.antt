@@ -1,27 +1,19 @@
 -- The men of a shelf's codes.
 use Rattle.egt_index.specs.Prelude.{◌≡◌, ◌≢◌, ◌↔◌, ℕ, ◌+◌, ◌-◌, ◌*◌, ◌%◌, ◌<◌, ◌≤◌, Bool, true, false, cond, inl, inr}
 use Rattle.egt_index.specs.Prelude.{List, [], ◌∷◌, ◌++◌, Option, Some, None, IfSome, arith, refl, sym, ap, ◌∙◌, subst}
-use Rattle.egt_index.specs.Prelude.{option_to_list, cases_lt, king_of, MayStand, Kind, Q, R, B, N, P, K, Man, Side}
-use Rattle.egt_index.specs.Prelude.{White, Black, material_of, king_square, number_from, IsBefore, kind_digits}
-use Rattle.egt_index.specs.Prelude.{kind_less, code_of, half_of, places, last_of, AreMenOf, IsShelf, IsShelfBehind}
-use Rattle.egt_index.specs.Prelude.{IsShelfOf, number_in, stand_with, has_pawns, has_target, king_base, men_beside}
-use Rattle.egt_index.specs.Prelude.{men_in_order, SpellsMen, Tells, TellsMen, Entry, list_of, rest_of, with_last}
-use Rattle.egt_index.specs.Prelude.{ShelfMen, Stand}
+use Rattle.egt_index.specs.Prelude.{option_to_list, cases_lt, king_of, MayStand, Man, Side, White, Black, material_of}
+use Rattle.egt_index.specs.Prelude.{king_square, number_from, IsBefore, kind_digits, kind_less, code_of, half_of}
+use Rattle.egt_index.specs.Prelude.{places, last_of, AreMenOf, IsShelf, IsShelfBehind, IsShelfOf, number_in}
+use Rattle.egt_index.specs.Prelude.{stand_with, has_pawns, has_target, king_base, men_beside, men_in_order, SpellsMen}
+use Rattle.egt_index.specs.Prelude.{Tells, TellsMen, Entry, list_of, rest_of, with_last, ShelfMen, Stand}
 use Rattle.egt_index.proofs.Halves.{code_high, code_low, places_of_last}
 use Rattle.egt_index.proofs.Numbered.{ends}
 use Rattle.egt_index.proofs.Opposed.{may_stand}
-use Rattle.egt_index.proofs.Placing.{tells, within}
+use Rattle.egt_index.proofs.Placing.{some_digits, tells, twice_within, within}
 use Rattle.egt_index.proofs.MenNumber.{number_on, number_told}
 use Rattle.egt_index.proofs.Setups.{men_spelled}
 use Rattle.egt_index.proofs.Splitting.{spells_men}
-
-pub twice_within : (kind : Kind) → kind_digits kind + 2 * kind_less kind ≤ 64
-twice_within Q = omega arith
-twice_within R = omega arith
-twice_within B = omega arith
-twice_within N = omega arith
-twice_within P = omega arith
-twice_within K = omega arith
+use Rattle.egt_board.proofs.Parts.{heads, tails}
 
 module _ (passed : Bool) (c shelf high : ℕ) (men : ShelfMen) (c_in : c < 36) (last : last_of (men_beside (material_of c)) ≡ Some men.last) (other : men.last ≢ king_of White) (at : IsShelfBehind passed c shelf high) where
   -- a number's code tells the men where the digits of the men do
@@ -47,28 +39,14 @@ module _ (passed : Bool) (c shelf high : ℕ) (men : ShelfMen) (c_in : c < 36) (
             ∙ ap (λ (s : ℕ). record { white = men.white; black = s; next = stand.next; last = Some (men.last, digit + kind_less men.last.kind) }) black
             ∙ ap (λ (e : Entry). record { white = men.white; black = men.black; next = e; last = Some (men.last, digit + kind_less men.last.kind) }) next
 
-    some : (man : Man) → 0 < kind_digits man.kind
-    some man = of man.kind
-      where
-        of : (kind : Kind) → 0 < kind_digits kind
-        of Q = omega arith
-        of R = omega arith
-        of B = omega arith
-        of N = omega arith
-        of P = omega arith
-        of K = omega arith
-
     all_men : king_of White ∷ king_of Black ∷ men.one ∷ men.last ∷ [] ≡ men_in_order (material_of c)
-    all_men = men_spelled c (high * kind_digits men.last.kind + 0) (list_of (stand_with men (0 + kind_less men.last.kind))) (spelled 0 (some men.last))
-
-    rest : {a b : Man} {x y : List Man} → a ∷ x ≡ b ∷ y → x ≡ y
-    rest e = cc
+    all_men = men_spelled c (high * kind_digits men.last.kind + 0) (list_of (stand_with men (0 + kind_less men.last.kind))) (spelled 0 (some_digits men.last.kind))
 
     pub shelf_before : IsShelf c shelf men
     shelf_before = record {
       men_of = record {
         are = all_men;
-        one_beside = one_other (rest (rest all_men));
+        one_beside = one_other (tails (tails all_men));
         last_beside = other;
       };
       len = places_of_last c men.last last;
@@ -79,9 +57,6 @@ module _ (passed : Bool) (c shelf high : ℕ) (men : ShelfMen) (c_in : c < 36) (
   -- those of these squares
   module _ (is_of : AreMenOf c men) (king digit : ℕ) (king_in : king < king_base (has_pawns (material_of c))) (king_is : king_square (has_pawns (material_of c)) king ≡ men.white) (black_in : men.black < 64) (on_in : men.on < 64)
       (may : MayStand men.one men.on) (digit_is : digit ≡ men.on - kind_less men.one.kind) (high_is : high ≡ (king * 64 + men.black) * kind_digits men.one.kind + digit) where
-    tails : {a b : Man} {x y : List Man} → a ∷ x ≡ b ∷ y → x ≡ y
-    tails e = cc
-
     pub spelled_on : (d : ℕ) → d < kind_digits men.last.kind → SpellsMen (material_of c) (high * kind_digits men.last.kind + d) (list_of (stand_with men (d + kind_less men.last.kind)))
     spelled_on d below =
         subst (λ n. SpellsMen (material_of c) n (list_of stand)) number
@@ -116,9 +91,6 @@ module _ (passed : Bool) (c shelf high : ℕ) (men : ShelfMen) (c_in : c < 36) (
 -- the class's last man is theirs
 pub last_told : (c : ℕ) (men : ShelfMen) → AreMenOf c men → last_of (men_beside (material_of c)) ≡ Some men.last
 last_told c men is_of = sym (ap last_of (tails (tails is_of.are)))
-  where
-    tails : {a b : Man} {x y : List Man} → a ∷ x ≡ b ∷ y → x ≡ y
-    tails e = cc
 
 -- of the men beside the kings the first is none
 pub first_beside : (x y : Option Man) (one last : Man) (men : List Man) → option_to_list x ++ option_to_list y ≡ men → IfSome x (λ man. man ≢ king_of White) → (x ≡ None → y ≡ None) → one ∷ last ∷ [] ≡ men → one ≢ king_of White
@@ -128,24 +100,13 @@ first_beside None y one last men are not none is = absurd (of y (none refl) are)
     of None e are = let h : [] ≡ one ∷ last ∷ [] = are ∙ sym is in cc
     of (Some man) e are = cc
 first_beside (Some man) y one last men are not none is = λ same. not (heads (are ∙ sym is) ∙ same)
-  where
-    heads : {a b : Man} {x y : List Man} → a ∷ x ≡ b ∷ y → a ≡ b
-    heads e = cc
 
 -- the positions of the upper shelves have a target, and no others
 pub halves : (c shelf : ℕ) (men : ShelfMen) (is : IsShelf c shelf men) → has_target (material_of c) ≡ true → (is.passed ≡ true) ↔ (half_of c ≤ shelf * (2 * places c))
 halves c shelf men is has = (there, back)
   where
-    some : (kind : Kind) → 0 < kind_digits kind
-    some Q = omega arith
-    some R = omega arith
-    some B = omega arith
-    some N = omega arith
-    some P = omega arith
-    some K = omega arith
-
     tells : TellsMen is.passed c (code_of c (number_in c shelf White 0)) (stand_with men (0 + kind_less men.last.kind)) White
-    tells = is.tells White 0 (some men.last.kind)
+    tells = is.tells White 0 (some_digits men.last.kind)
 
     same : number_in c shelf White 0 ≡ shelf * (2 * places c)
     same = omega arith

@@ -8,8 +8,8 @@ use Rattle.egt_index.specs.Prelude.{stand_with, base_of, has_pawns, has_target, 
 use Rattle.egt_index.specs.Prelude.{SpellsMen, Entry, list_of, ShelfMen, Stand}
 use Rattle.egt_index.proofs.Halves.{digits_some, half_plain, half_twice, of_targets, places_of_last, places_some}
 use Rattle.egt_index.proofs.Opposed.{may_stand}
-use Rattle.egt_index.proofs.Placing.{digit_on, tells, within}
-use Rattle.egt_index.proofs.ShelfCodes.{last_told, spelled_on, twice_within}
+use Rattle.egt_index.proofs.Placing.{digit_on, tells, twice_within, within}
+use Rattle.egt_index.proofs.ShelfCodes.{last_told, spelled_on}
 
 -- past the last shelf there is none
 pub none_within : (c shelf : ℕ) → size_of c ≤ shelf * (2 * places c) → IsWithin c shelf → ⊥

@@ -9,6 +9,7 @@ use Rattle.egt_index.specs.Prelude.{Entry, Stood, Holds, IsOn, IsAmong, IsFirst,
 use Rattle.std.specs.FinMap as placement
 use Rattle.egt_index.proofs.Counted.{man_told, count_cons, counted_rest, first_is_there}
 use Rattle.egt_index.proofs.Tallied.{tests_alike, in_class}
+use Rattle.egt_board.proofs.KingsAside.{king_is}
 
 pub turned_back : (flips : Bool) (man : Man) → turned_man flips (turned_man flips man) ≡ man
 turned_back false man = refl
@@ -53,16 +54,6 @@ king_kind : (flips : Bool) (side : Side) → (turned_man flips (king_of side)).k
 king_kind true side = refl
 king_kind false side = refl
 
-king_told : (man : Man) → man.kind ≡ K → (man ≡ king_of White) ⊎ (man ≡ king_of Black)
-king_told man e = of_side man.side refl
-  where
-    of : Side → Kind → Man
-    of side kind = record { side = side; kind = kind }
-
-    of_side : (side : Side) → man.side ≡ side → (man ≡ king_of White) ⊎ (man ≡ king_of Black)
-    of_side White is = inl (ap (λ z. of z man.kind) is ∙ ap (of White) e)
-    of_side Black is = inr (ap (λ z. of z man.kind) is ∙ ap (of Black) e)
-
 pub kings_on : (flips : Bool) (p : Setup) (side other : Side) (w b : ℕ) → IsAdmissible p → side ≡ cond flips Black White → other ≡ other_side side → IsKingOn p.men side w → IsKingOn p.men other b → KingsOn flips p.men w b
 kings_on flips p side other w b ok side_is other_is white black = record {
   white_in = ok.on_board w _ white.stands;
@@ -70,7 +61,7 @@ kings_on flips p side other w b ok side_is other_is white black = record {
   apart = apart;
   white = white_there;
   black = black_there;
-  only = λ s man king stands. elim (king_told man king) [
+  only = λ s man king stands. elim (king_is man king) [
     | inl e ↦ of_side White flips s side_is (stands ∙ ap Some e)
     | inr e ↦ of_side Black flips s side_is (stands ∙ ap Some e)
   ];

@@ -1,13 +1,13 @@
 -- The digits of equal men in order make the least code of a position, and in the other order one that is not.
-use Rattle.egt_index.specs.Prelude.{◌≡◌, ℕ, ◌<◌, Bool, false, cond, List, [], ◌∷◌, ◌++◌, map, Option, Some, None, arith}
+use Rattle.egt_index.specs.Prelude.{◌≡◌, ℕ, ◌<◌, Bool, false, List, [], ◌∷◌, ◌++◌, map, Option, Some, None, arith}
 use Rattle.egt_index.specs.Prelude.{refl, sym, ap, ◌∙◌, inr, subst, option_map, option_to_list, White, Black, Man}
-use Rattle.egt_index.specs.Prelude.{king_of, side_number, men_of, Setup, IsAdmissible, Material, material_of, IsOf}
-use Rattle.egt_index.specs.Prelude.{SpellsAt, Beats, Keeps, AreBehind, Spells, square_of, placed, men_at, target_digits}
-use Rattle.egt_index.specs.Prelude.{number_from, number_of, AreDigits, Facts, IsLeastCode, Picks, AreCounted, base_of}
-use Rattle.egt_index.specs.Prelude.{bases, men_bases, men_in_order, has_pawns, has_target, Entry, list_of, rest_of}
-use Rattle.egt_index.specs.Prelude.{men_among, AllStand, IsInOrder, IsTurn, Stand}
+use Rattle.egt_index.specs.Prelude.{king_of, men_of, Setup, IsAdmissible, Material, material_of, IsOf, SpellsAt, Beats}
+use Rattle.egt_index.specs.Prelude.{Keeps, AreBehind, Spells, square_of, placed, men_at, number_from, number_of}
+use Rattle.egt_index.specs.Prelude.{AreDigits, Facts, IsLeastCode, Picks, AreCounted, base_of, bases, men_bases}
+use Rattle.egt_index.specs.Prelude.{men_in_order, has_pawns, has_target, Entry, list_of, rest_of, men_among, AllStand}
+use Rattle.egt_index.specs.Prelude.{IsInOrder, IsTurn, Stand}
 use Rattle.egt_index.proofs.After.{AreSorted, all_there, listed_there, ordered, picks_sorted, sorted_rest}
-use Rattle.egt_index.proofs.Coded.{few_men, number_append, picks_code, placed_few}
+use Rattle.egt_index.proofs.Coded.{ends_by, last_by, few_men, number_append, picks_code, placed_few}
 use Rattle.egt_index.proofs.Coding.{last_digits}
 use Rattle.egt_index.proofs.Listing.{AreApart, fits_of}
 use Rattle.egt_index.proofs.MixedDigits.{number_from-lt}
@@ -98,12 +98,6 @@ beaten_behind c code stand p ok all behind are is_of s = of_entries stand.next s
     m : Material
     m = material_of c
 
-    last : List ℕ
-    last = side_number p.side ∷ target_digits m p.target
-
-    ends : List ℕ
-    ends = 2 ∷ cond (has_target m) (2 ∷ []) []
-
     of_two : (x y : Man × ℕ) → stand.next ≡ Some x → stand.last ≡ Some y → x.0 ≡ y.0 → y.1 < x.1 → Beats c p 0 code
     of_two x y next_is last_is same lt =
         let list_is : list_of stand ≡ (king_of White, stand.white) ∷ (king_of Black, stand.black) ∷ x ∷ y ∷ [] =
@@ -116,7 +110,7 @@ beaten_behind c code stand p ok all behind are is_of s = of_entries stand.next s
         record {
           image = p;
           turned = stays p ok;
-          other = number_of (bases m) (it.others ++ last);
+          other = number_of (bases m) (it.others ++ last_by m p);
           spells = record {
             admissible = ok;
             digits = it.others;
@@ -127,10 +121,10 @@ beaten_behind c code stand p ok all behind are is_of s = of_entries stand.next s
             number = refl;
           };
           less =
-              let here = number_append (men_bases m) s.spells.digits ends last 0 s.spells.are_digits in
-              let behind = number_append (men_bases m) it.others ends last 0 it.are in
+              let here = number_append (men_bases m) s.spells.digits (ends_by m) (last_by m p) 0 s.spells.are_digits in
+              let behind = number_append (men_bases m) it.others (ends_by m) (last_by m p) 0 it.are in
               let fits = last_digits (has_target m) p.side p.target in
-              let lt = number_from-lt ends last last _ _ fits fits it.less in
+              let lt = number_from-lt (ends_by m) (last_by m p) (last_by m p) _ _ fits fits it.less in
               let is = s.spells.number in omega arith;
         }
       where

@@ -1,8 +1,9 @@
 -- The men of a class in order are those that its sides have.
-use Rattle.egt_index.specs.Prelude.{◌≡◌, ℕ, ◌+◌, ◌*◌, ◌<◌, false, cond, eqb, List, [], ◌∷◌, ◌++◌, map, count_by, arith}
+use Rattle.egt_index.specs.Prelude.{◌≡◌, ℕ, ◌+◌, ◌*◌, false, cond, eqb, List, [], ◌∷◌, ◌++◌, map, count_by, arith}
 use Rattle.egt_index.specs.Prelude.{refl, sym, ap, ◌∙◌, inl, inr, eq-eqb, eqb_tells, sum_by-cons, sum_by-append, Side}
-use Rattle.egt_index.specs.Prelude.{White, Black, Kind, Q, R, B, N, P, K, Man, kind_number, side_number, Material}
-use Rattle.egt_index.specs.Prelude.{material_of, is_kind, kinds_of, men_in, men_in_order, man_of, is_man, tally}
+use Rattle.egt_index.specs.Prelude.{White, Black, Kind, K, Man, kind_number, side_number, Material, material_of}
+use Rattle.egt_index.specs.Prelude.{is_kind, kinds_of, men_in, men_in_order, man_of, is_man, tally}
+use Rattle.egt_board.proofs.Sides.{kind_few}
 
 -- equal tests of what is equal alike
 pub tests_alike : (a b x y : ℕ) → (a ≡ b → x ≡ y) → (x ≡ y → a ≡ b) → eqb a b ≡ eqb x y
@@ -14,21 +15,13 @@ tests_alike a b x y there back = elim (eqb_tells a b) [
   ]
 ]
 
-one_less : (k : Kind) → kind_number k < 6
-one_less Q = omega arith
-one_less R = omega arith
-one_less B = omega arith
-one_less N = omega arith
-one_less P = omega arith
-one_less K = omega arith
-
 same_side : (side : Side) (k other : Kind) → is_man (man_of side k) (man_of side other) ≡ is_kind k other
 same_side side k other =
     tests_alike (6 * side_number side + kind_number k) (6 * side_number side + kind_number other) (kind_number k) (kind_number other) (λ e. omega arith) (λ e. omega arith)
 
 apart_of : (side other : Side) (k l : Kind) → (side_number side ≡ side_number other → ⊥) → is_man (man_of side k) (man_of other l) ≡ false
 apart_of side other k l differ = elim (eqb_tells (6 * side_number side + kind_number k) (6 * side_number other + kind_number l)) [
-  | inl h ↦ absurd (differ (let below = one_less k in let below' = one_less l in let same = h.1 in omega arith))
+  | inl h ↦ absurd (differ (let below = kind_few k in let below' = kind_few l in let same = h.1 in omega arith))
   | inr h ↦ h.0
 ]
 

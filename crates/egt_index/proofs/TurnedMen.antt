@@ -26,6 +26,7 @@ use Rattle.egt_index.proofs.Picking.{same_digit}
 use Rattle.egt_index.proofs.Setups.{all_apart, apart_all, are_no_kings, men_spelled, no_king_listed, no_kings_beside, placed_may}
 use Rattle.egt_index.proofs.ToldMen.{stands_told, told_stands, untargeted_stands}
 use Rattle.egt_index.proofs.Turned.{counted_of, differ, turned_class}
+use Rattle.egt_board.proofs.Parts.{heads, tails}
 
 -- ---- the turn that undoes another in the same colours
 
@@ -168,12 +169,6 @@ module _ (facts : Facts) (passed : Bool) (c n code : ℕ) (flips : Bool) (stand 
 -- entries are equal where both parts are
 same_entry : (e d : Man × ℕ) → e.0 ≡ d.0 → e.1 ≡ d.1 → e ≡ d
 same_entry e d man square = λ i. (man i, square i)
-
-heads : {A : Type 0} {a b : A} {x y : List A} → a ∷ x ≡ b ∷ y → a ≡ b
-heads e = cc
-
-tails : {A : Type 0} {a b : A} {x y : List A} → a ∷ x ≡ b ∷ y → x ≡ y
-tails e = cc
 
 -- what is listed in the one list is listed in the other
 AreListedIn : (one other : List (Man × ℕ)) → Type 0

@@ -6,94 +6,51 @@ ghost use Rattle.egt_index.specs.Prelude.{has_target};
 use egt_board::{Kind, Man, Side};
 use egt_class::Class;
 
-const WHITE_QUEEN: Man = Man {
-    side: Side::White,
-    kind: Kind::Q,
-};
-
-const WHITE_ROOK: Man = Man {
-    side: Side::White,
-    kind: Kind::R,
-};
-
-const WHITE_BISHOP: Man = Man {
-    side: Side::White,
-    kind: Kind::B,
-};
-
-const WHITE_KNIGHT: Man = Man {
-    side: Side::White,
-    kind: Kind::N,
-};
-
-const WHITE_PAWN: Man = Man {
-    side: Side::White,
-    kind: Kind::P,
-};
-
-const BLACK_QUEEN: Man = Man {
-    side: Side::Black,
-    kind: Kind::Q,
-};
-
-const BLACK_ROOK: Man = Man {
-    side: Side::Black,
-    kind: Kind::R,
-};
-
-const BLACK_BISHOP: Man = Man {
-    side: Side::Black,
-    kind: Kind::B,
-};
-
-const BLACK_KNIGHT: Man = Man {
-    side: Side::Black,
-    kind: Kind::N,
-};
-
-const BLACK_PAWN: Man = Man {
-    side: Side::Black,
-    kind: Kind::P,
-};
+/// A man beside the kings.
+macro_rules! man {
+    ($side:ident $kind:ident) => {
+        Some(Man { side: Side::$side, kind: Kind::$kind })
+    };
+}
 
 /// The men beside the kings, in order of the classes' numbers.
 static NON_KINGS: [(Option<Man>, Option<Man>); 36] = [
     (None, None),
-    (Some(WHITE_QUEEN), None),
-    (Some(WHITE_ROOK), None),
-    (Some(WHITE_BISHOP), None),
-    (Some(WHITE_KNIGHT), None),
-    (Some(WHITE_PAWN), None),
-    (Some(WHITE_QUEEN), Some(WHITE_QUEEN)),
-    (Some(WHITE_QUEEN), Some(WHITE_ROOK)),
-    (Some(WHITE_QUEEN), Some(WHITE_BISHOP)),
-    (Some(WHITE_QUEEN), Some(WHITE_KNIGHT)),
-    (Some(WHITE_ROOK), Some(WHITE_ROOK)),
-    (Some(WHITE_ROOK), Some(WHITE_BISHOP)),
-    (Some(WHITE_ROOK), Some(WHITE_KNIGHT)),
-    (Some(WHITE_BISHOP), Some(WHITE_BISHOP)),
-    (Some(WHITE_BISHOP), Some(WHITE_KNIGHT)),
-    (Some(WHITE_KNIGHT), Some(WHITE_KNIGHT)),
-    (Some(WHITE_QUEEN), Some(BLACK_QUEEN)),
-    (Some(WHITE_QUEEN), Some(BLACK_ROOK)),
-    (Some(WHITE_QUEEN), Some(BLACK_BISHOP)),
-    (Some(WHITE_QUEEN), Some(BLACK_KNIGHT)),
-    (Some(WHITE_ROOK), Some(BLACK_ROOK)),
-    (Some(WHITE_ROOK), Some(BLACK_BISHOP)),
-    (Some(WHITE_ROOK), Some(BLACK_KNIGHT)),
-    (Some(WHITE_BISHOP), Some(BLACK_BISHOP)),
-    (Some(WHITE_BISHOP), Some(BLACK_KNIGHT)),
-    (Some(WHITE_KNIGHT), Some(BLACK_KNIGHT)),
-    (Some(WHITE_QUEEN), Some(WHITE_PAWN)),
-    (Some(WHITE_ROOK), Some(WHITE_PAWN)),
-    (Some(WHITE_BISHOP), Some(WHITE_PAWN)),
-    (Some(WHITE_KNIGHT), Some(WHITE_PAWN)),
-    (Some(WHITE_QUEEN), Some(BLACK_PAWN)),
-    (Some(WHITE_ROOK), Some(BLACK_PAWN)),
-    (Some(WHITE_BISHOP), Some(BLACK_PAWN)),
-    (Some(WHITE_KNIGHT), Some(BLACK_PAWN)),
-    (Some(WHITE_PAWN), Some(WHITE_PAWN)),
-    (Some(WHITE_PAWN), Some(BLACK_PAWN)),
+    (man!(White Q), None),
+    (man!(White R), None),
+    (man!(White B), None),
+    (man!(White N), None),
+    (man!(White P), None),
+    (man!(White Q), man!(White Q)),
+    (man!(White Q), man!(White R)),
+    (man!(White Q), man!(White B)),
+    (man!(White Q), man!(White N)),
+    (man!(White R), man!(White R)),
+    (man!(White R), man!(White B)),
+    (man!(White R), man!(White N)),
+    (man!(White B), man!(White B)),
+    (man!(White B), man!(White N)),
+    (man!(White N), man!(White N)),
+    (man!(White Q), man!(Black Q)),
+    (man!(White Q), man!(Black R)),
+    (man!(White Q), man!(Black B)),
+    (man!(White Q), man!(Black N)),
+    (man!(White R), man!(Black R)),
+    (man!(White R), man!(Black B)),
+    (man!(White R), man!(Black N)),
+    (man!(White B), man!(Black B)),
+    (man!(White B), man!(Black N)),
+    (man!(White N), man!(Black N)),
+    (man!(White Q), man!(White P)),
+    (man!(White R), man!(White P)),
+    (man!(White B), man!(White P)),
+    (man!(White N), man!(White P)),
+    (man!(White Q), man!(Black P)),
+    (man!(White R), man!(Black P)),
+    (man!(White B), man!(Black P)),
+    (man!(White N), man!(Black P)),
+    (man!(White P), man!(White P)),
+    (man!(White P), man!(Black P)),
 ];
 
 /// Whether both sides have the same men, in order of the classes' numbers.

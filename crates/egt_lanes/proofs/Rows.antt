@@ -1,12 +1,12 @@
 -- What the operations on rows come to at one lane. A mask's lane is 255 or 0.
-use Rattle.egt_lanes.specs.Prelude.{inl, inr, ◌==◌, if◌then◌else◌, subst, ◌≡◌, ◌≢◌, ℕ, zero, suc, ◌+◌, ◌≤◌, ◌<◌, ◌-◌}
+use Rattle.egt_lanes.specs.Prelude.{T, inl, inr, ◌==◌, if◌then◌else◌, subst, ◌≡◌, ◌≢◌, ℕ, zero, suc, ◌+◌, ◌≤◌, ◌<◌, ◌-◌}
 use Rattle.egt_lanes.specs.Prelude.{◌/◌, ◌%◌, ◌^◌, Bool, true, false, not, cond, eqb, ltb, leb, max, List, [], ◌∷◌, map}
 use Rattle.egt_lanes.specs.Prelude.{length, get_or, replicate, bit_and, refl, sym, ap, ◌∙◌, arith, Fits, w8, ltb-true}
 use Rattle.egt_lanes.specs.Prelude.{ltb-false, eqb-true, length-map, and_mask, length-replicate, length-zip2}
 use Rattle.egt_lanes.specs.Prelude.{mask_l-mod, bit_mask_l, cases_eq, eqb-false, bit_at, byte_score, zeroing_score}
 use Rattle.egt_lanes.specs.Prelude.{due_score, reach_score, reach_due_score}
 use lib.Lanes.{zip2, sel_l, mask_l, top, Each1}
-use Rattle.egt_lanes.proofs.Tests.{agreed}
+use Rattle.egt_lanes.proofs.Tests.{agreed, passes_below}
 
 abbrev pub below : ℕ → ℕ → ℕ
 below a b = cond (ltb a b) 255 0
@@ -47,6 +47,16 @@ greater_at (x ∷ xs) [] i p q = absurd (omega arith)
 greater_at (x ∷ xs) (y ∷ ys) zero p q = greater_of x y
 greater_at (x ∷ xs) (y ∷ ys) (suc i) p q = greater_at xs ys i (omega arith) (omega arith)
 
+-- what is computed lane by lane, and of each byte is what is told
+pub by_lanes : (f : ℕ → List ℕ → List ℕ) (g h : ℕ → ℕ) → ((n x : ℕ) (xs : List ℕ) → f (suc n) (x ∷ xs) ≡ g x ∷ f n xs)
+    → T (passes_below (λ x. eqb (g x) (h x)) 256)
+    → (xs : List ℕ) (i : ℕ) → i < length xs → Each1 (Fits w8) xs → get_or (f (length xs) xs) i 0 ≡ h (get_or xs i 0)
+by_lanes f g h step all [] i p fits = absurd (omega arith)
+by_lanes f g h step all (x ∷ xs) zero p fits =
+    ap (λ r. get_or r 0 0) (step (length xs) x xs) ∙ agreed g h 256 all x fits.0.fits
+by_lanes f g h step all (x ∷ xs) (suc i) p fits =
+    ap (λ r. get_or r (suc i) 0) (step (length xs) x xs) ∙ by_lanes f g h step all xs i (omega arith) fits.1
+
 -- ---- scores
 
 -- of n lanes
@@ -63,37 +73,21 @@ byte_scored x =
     chosen (same x 1) 128
     (chosen (same (bit_and x 1) 1) (less 0 (halved x 1)) (less (chosen (below (halved x 1) 1) 1 (halved x 1)) 1))
 
-byte_scored_is : (x : ℕ) → x < 256 → byte_scored x ≡ byte_score x
-unfolding byte_scored
-byte_scored_is x x_in = agreed byte_scored byte_score 256 tt x x_in
-
 pub byte_scores_at : (xs : List ℕ) (i : ℕ) → i < length xs → Each1 (Fits w8) xs → get_or (byte_scores (length xs) xs) i 0 ≡ byte_score (get_or xs i 0)
 unfolding byte_scored
-byte_scores_at [] i p fits = absurd (omega arith)
-byte_scores_at (x ∷ xs) zero p fits = byte_scored_is x fits.0.fits
-byte_scores_at (x ∷ xs) (suc i) p fits = byte_scores_at xs i (omega arith) fits.1
+byte_scores_at = by_lanes byte_scores byte_scored byte_score (λ n x xs. refl) tt
 
 abbrev pub zeroed : ℕ → List ℕ → List ℕ
 zeroed n xs = select (zip2 same xs (replicate n 128)) (replicate n 128) (select (zip2 below (replicate n 128) xs) (replicate n 255) (replicate n 0))
 
-zeroed_is : (x : ℕ) → x < 256 → chosen (same x 128) 128 (chosen (below 128 x) 255 0) ≡ zeroing_score x
-zeroed_is x x_in = agreed (λ x. chosen (same x 128) 128 (chosen (below 128 x) 255 0)) zeroing_score 256 tt x x_in
-
 pub zeroed_at : (xs : List ℕ) (i : ℕ) → i < length xs → Each1 (Fits w8) xs → get_or (zeroed (length xs) xs) i 0 ≡ zeroing_score (get_or xs i 0)
-zeroed_at [] i p fits = absurd (omega arith)
-zeroed_at (x ∷ xs) zero p fits = zeroed_is x fits.0.fits
-zeroed_at (x ∷ xs) (suc i) p fits = zeroed_at xs i (omega arith) fits.1
+zeroed_at = by_lanes zeroed (λ x. chosen (same x 128) 128 (chosen (below 128 x) 255 0)) zeroing_score (λ n x xs. refl) tt
 
 abbrev pub due : ℕ → List ℕ → List ℕ
 due n xs = select (zip2 at_most (replicate n 128) xs) (zip2 less (replicate n 0) xs) (zip2 less (replicate n 254) xs)
 
-due_is : (x : ℕ) → x < 256 → chosen (at_most 128 x) (less 0 x) (less 254 x) ≡ due_score x
-due_is x x_in = agreed (λ x. chosen (at_most 128 x) (less 0 x) (less 254 x)) due_score 256 tt x x_in
-
 pub due_at : (xs : List ℕ) (i : ℕ) → i < length xs → Each1 (Fits w8) xs → get_or (due (length xs) xs) i 0 ≡ due_score (get_or xs i 0)
-due_at [] i p fits = absurd (omega arith)
-due_at (x ∷ xs) zero p fits = due_is x fits.0.fits
-due_at (x ∷ xs) (suc i) p fits = due_at xs i (omega arith) fits.1
+due_at = by_lanes due (λ x. chosen (at_most 128 x) (less 0 x) (less 254 x)) due_score (λ n x xs. refl) tt
 
 abbrev pub reach_scores : ℕ → List ℕ → List ℕ
 reach_scores n xs =
@@ -103,15 +97,9 @@ reach_scores n xs =
 reach_scored : ℕ → ℕ
 reach_scored x = chosen (same x 1) 128 (less 0 (less (chosen (below x 1) 1 x) 1))
 
-reach_scored_is : (x : ℕ) → x < 256 → reach_scored x ≡ reach_score x
-unfolding reach_scored
-reach_scored_is x x_in = agreed reach_scored reach_score 256 tt x x_in
-
 pub reach_scores_at : (xs : List ℕ) (i : ℕ) → i < length xs → Each1 (Fits w8) xs → get_or (reach_scores (length xs) xs) i 0 ≡ reach_score (get_or xs i 0)
 unfolding reach_scored
-reach_scores_at [] i p fits = absurd (omega arith)
-reach_scores_at (x ∷ xs) zero p fits = reach_scored_is x fits.0.fits
-reach_scores_at (x ∷ xs) (suc i) p fits = reach_scores_at xs i (omega arith) fits.1
+reach_scores_at = by_lanes reach_scores reach_scored reach_score (λ n x xs. refl) tt
 
 -- by the scores less one
 abbrev pub reach_due_by : ℕ → List ℕ → List ℕ
@@ -125,15 +113,9 @@ reach_due_of x =
     let y = less (chosen (below x 1) 1 x) 1 in
     chosen (below y 128) 128 y
 
-reach_due_is : (x : ℕ) → x < 256 → reach_due_of x ≡ reach_due_score x
-unfolding reach_due_of
-reach_due_is x x_in = agreed reach_due_of reach_due_score 256 tt x x_in
-
 pub reach_due_at : (xs : List ℕ) (i : ℕ) → i < length xs → Each1 (Fits w8) xs → get_or (reach_due (length xs) xs) i 0 ≡ reach_due_score (get_or xs i 0)
 unfolding reach_due_of
-reach_due_at [] i p fits = absurd (omega arith)
-reach_due_at (x ∷ xs) zero p fits = reach_due_is x fits.0.fits
-reach_due_at (x ∷ xs) (suc i) p fits = reach_due_at xs i (omega arith) fits.1
+reach_due_at = by_lanes reach_due reach_due_of reach_due_score (λ n x xs. refl) tt
 
 -- ---- a choice by equal lanes
 

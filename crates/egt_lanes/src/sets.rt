@@ -3,7 +3,7 @@ ghost use Rattle.egt_lanes.specs.Prelude.{◌≡◌, ◌≢◌, ℕ, ◌<◌, �
 ghost use Rattle.egt_lanes.specs.Prelude.{rank_of};
 
 use crate::row::Row;
-use egt_board::{Square, SquareSet};
+use egt_board::{Square, SquareSet, of_squares, turned_number};
 use std::simd::prelude::*;
 
 /// The rank of each square.
@@ -20,11 +20,7 @@ const FILE_BITS: [u8; 64] = [
 ];
 
 /// Each square.
-const SQUARES: [u8; 64] = [
-    0, 1, 2, 3, 4, 5, 6, 7, 8, 9, 10, 11, 12, 13, 14, 15, 16, 17, 18, 19, 20, 21, 22, 23, 24, 25,
-    26, 27, 28, 29, 30, 31, 32, 33, 34, 35, 36, 37, 38, 39, 40, 41, 42, 43, 44, 45, 46, 47, 48, 49,
-    50, 51, 52, 53, 54, 55, 56, 57, 58, 59, 60, 61, 62, 63,
-];
+const SQUARES: [u8; 64] = of_squares!(turned_number; 0);
 
 /// The set, a byte for each square: that of its rank.
 #[inline(always)]

@@ -6,63 +6,45 @@ ghost use Rattle.egt_board.specs.AttackLines.{step as the_step};
 
 use crate::row::{Row, greater};
 use crate::sets::{kept, rank_squares};
-use egt_board::{Kind, Man, Side, SquareSet, Step, Way};
+use egt_board::{Kind, Man, Side, SquareSet, Step, Way, of_squares};
+
+/// The square on the same rank whose number is greater by so much; 64 where there is none.
+macro_rules! further_on_rank {
+    ($square:literal $by:literal) => {
+        if (8 + $square + $by) / 8 == 1 + $square / 8 { ($square + $by) as usize } else { 64 }
+    };
+}
+
+/// The square whose number is greater by so much; 64 where there is none.
+macro_rules! further_on_file {
+    ($square:literal $by:literal) => {
+        if 0 <= $square + $by && $square + $by < 64 { ($square + $by) as usize } else { 64 }
+    };
+}
 
 /// Of each square the one one file further right; 64 where there is none.
-const RIGHT: [usize; 64] = [
-    1, 2, 3, 4, 5, 6, 7, 64, 9, 10, 11, 12, 13, 14, 15, 64, 17, 18, 19, 20, 21, 22, 23, 64, 25, 26,
-    27, 28, 29, 30, 31, 64, 33, 34, 35, 36, 37, 38, 39, 64, 41, 42, 43, 44, 45, 46, 47, 64, 49, 50,
-    51, 52, 53, 54, 55, 64, 57, 58, 59, 60, 61, 62, 63, 64,
-];
+const RIGHT: [usize; 64] = of_squares!(further_on_rank; 1);
 
 /// Of each square the one two files further right; 64 where there is none.
-const TWO_RIGHT: [usize; 64] = [
-    2, 3, 4, 5, 6, 7, 64, 64, 10, 11, 12, 13, 14, 15, 64, 64, 18, 19, 20, 21, 22, 23, 64, 64, 26,
-    27, 28, 29, 30, 31, 64, 64, 34, 35, 36, 37, 38, 39, 64, 64, 42, 43, 44, 45, 46, 47, 64, 64, 50,
-    51, 52, 53, 54, 55, 64, 64, 58, 59, 60, 61, 62, 63, 64, 64,
-];
+const TWO_RIGHT: [usize; 64] = of_squares!(further_on_rank; 2);
 
 /// Of each square the one one file further left; 64 where there is none.
-const LEFT: [usize; 64] = [
-    64, 0, 1, 2, 3, 4, 5, 6, 64, 8, 9, 10, 11, 12, 13, 14, 64, 16, 17, 18, 19, 20, 21, 22, 64, 24,
-    25, 26, 27, 28, 29, 30, 64, 32, 33, 34, 35, 36, 37, 38, 64, 40, 41, 42, 43, 44, 45, 46, 64, 48,
-    49, 50, 51, 52, 53, 54, 64, 56, 57, 58, 59, 60, 61, 62,
-];
+const LEFT: [usize; 64] = of_squares!(further_on_rank; -1);
 
 /// Of each square the one two files further left; 64 where there is none.
-const TWO_LEFT: [usize; 64] = [
-    64, 64, 0, 1, 2, 3, 4, 5, 64, 64, 8, 9, 10, 11, 12, 13, 64, 64, 16, 17, 18, 19, 20, 21, 64, 64,
-    24, 25, 26, 27, 28, 29, 64, 64, 32, 33, 34, 35, 36, 37, 64, 64, 40, 41, 42, 43, 44, 45, 64, 64,
-    48, 49, 50, 51, 52, 53, 64, 64, 56, 57, 58, 59, 60, 61,
-];
+const TWO_LEFT: [usize; 64] = of_squares!(further_on_rank; -2);
 
 /// Of each square the one one rank further up; 64 where there is none.
-const UP: [usize; 64] = [
-    8, 9, 10, 11, 12, 13, 14, 15, 16, 17, 18, 19, 20, 21, 22, 23, 24, 25, 26, 27, 28, 29, 30, 31,
-    32, 33, 34, 35, 36, 37, 38, 39, 40, 41, 42, 43, 44, 45, 46, 47, 48, 49, 50, 51, 52, 53, 54, 55,
-    56, 57, 58, 59, 60, 61, 62, 63, 64, 64, 64, 64, 64, 64, 64, 64,
-];
+const UP: [usize; 64] = of_squares!(further_on_file; 8);
 
 /// Of each square the one two ranks further up; 64 where there is none.
-const TWO_UP: [usize; 64] = [
-    16, 17, 18, 19, 20, 21, 22, 23, 24, 25, 26, 27, 28, 29, 30, 31, 32, 33, 34, 35, 36, 37, 38, 39,
-    40, 41, 42, 43, 44, 45, 46, 47, 48, 49, 50, 51, 52, 53, 54, 55, 56, 57, 58, 59, 60, 61, 62, 63,
-    64, 64, 64, 64, 64, 64, 64, 64, 64, 64, 64, 64, 64, 64, 64, 64,
-];
+const TWO_UP: [usize; 64] = of_squares!(further_on_file; 16);
 
 /// Of each square the one one rank further down; 64 where there is none.
-const DOWN: [usize; 64] = [
-    64, 64, 64, 64, 64, 64, 64, 64, 0, 1, 2, 3, 4, 5, 6, 7, 8, 9, 10, 11, 12, 13, 14, 15, 16, 17,
-    18, 19, 20, 21, 22, 23, 24, 25, 26, 27, 28, 29, 30, 31, 32, 33, 34, 35, 36, 37, 38, 39, 40, 41,
-    42, 43, 44, 45, 46, 47, 48, 49, 50, 51, 52, 53, 54, 55,
-];
+const DOWN: [usize; 64] = of_squares!(further_on_file; -8);
 
 /// Of each square the one two ranks further down; 64 where there is none.
-const TWO_DOWN: [usize; 64] = [
-    64, 64, 64, 64, 64, 64, 64, 64, 64, 64, 64, 64, 64, 64, 64, 64, 0, 1, 2, 3, 4, 5, 6, 7, 8, 9,
-    10, 11, 12, 13, 14, 15, 16, 17, 18, 19, 20, 21, 22, 23, 24, 25, 26, 27, 28, 29, 30, 31, 32, 33,
-    34, 35, 36, 37, 38, 39, 40, 41, 42, 43, 44, 45, 46, 47,
-];
+const TWO_DOWN: [usize; 64] = of_squares!(further_on_file; -16);
 
 /// At each square what stands `wide` files further on its rank; 0 where that is off the board.
 #[inline(always)]

@@ -3,28 +3,16 @@ ghost use Rattle.egt_lanes.specs.Prelude.{◌≡◌, ℕ, ◌<◌, ◌/◌, ◌%
 ghost use Rattle.egt_lanes.specs.Prelude.{turned_square};
 
 use crate::row::Row;
-use egt_board::Mirror;
+use egt_board::{Mirror, of_squares, turned_number};
 
 /// Of each square the one on the file as far from the other edge.
-const FILES: [usize; 64] = [
-    7, 6, 5, 4, 3, 2, 1, 0, 15, 14, 13, 12, 11, 10, 9, 8, 23, 22, 21, 20, 19, 18, 17, 16, 31, 30,
-    29, 28, 27, 26, 25, 24, 39, 38, 37, 36, 35, 34, 33, 32, 47, 46, 45, 44, 43, 42, 41, 40, 55, 54,
-    53, 52, 51, 50, 49, 48, 63, 62, 61, 60, 59, 58, 57, 56,
-];
+const FILES: [usize; 64] = of_squares!(turned_number; 1);
 
 /// Of each square the one on the rank as far from the other edge.
-const RANKS: [usize; 64] = [
-    56, 57, 58, 59, 60, 61, 62, 63, 48, 49, 50, 51, 52, 53, 54, 55, 40, 41, 42, 43, 44, 45, 46, 47,
-    32, 33, 34, 35, 36, 37, 38, 39, 24, 25, 26, 27, 28, 29, 30, 31, 16, 17, 18, 19, 20, 21, 22, 23,
-    8, 9, 10, 11, 12, 13, 14, 15, 0, 1, 2, 3, 4, 5, 6, 7,
-];
+const RANKS: [usize; 64] = of_squares!(turned_number; 2);
 
 /// Of each square the one with file and rank exchanged.
-const DIAGONAL: [usize; 64] = [
-    0, 8, 16, 24, 32, 40, 48, 56, 1, 9, 17, 25, 33, 41, 49, 57, 2, 10, 18, 26, 34, 42, 50, 58, 3,
-    11, 19, 27, 35, 43, 51, 59, 4, 12, 20, 28, 36, 44, 52, 60, 5, 13, 21, 29, 37, 45, 53, 61, 6,
-    14, 22, 30, 38, 46, 54, 62, 7, 15, 23, 31, 39, 47, 55, 63,
-];
+const DIAGONAL: [usize; 64] = of_squares!(turned_number; 4);
 
 /// The row in the mirror: at each square what stands at the square where that comes to lie.
 #[inline(always)]

@@ -7,9 +7,7 @@ use Rattle.egt_moves.specs.Prelude.{after, plain, IsSafeGoal, most_goals, most_c
 use Rattle.egt_moves.specs.Prelude.{promotion_place, IsInOrder, one_man}
 use Rattle.egt_moves.proofs.After.{not_king_of, may_become, check_whatever}
 use Rattle.egt_moves.proofs.Admissible.{pawn_told}
-
-not_both : {A : Type 0} (n : ℕ) → n ≡ 0 → n ≡ 1 → A
-not_both n none one = absurd (omega arith)
+use Rattle.egt_board.proofs.Bits.{not_both}
 
 -- the legal moves of a man go to its targets, promote as they must, and leave the king safe
 pub legal_of : (p : Setup) (man : Man) (m : Move) → Stands p.men m.from man → man.side ≡ p.side → Goes p man m.from m.to → FitsPromotion (promotes man m.to) m.promo → ¬ IsInCheck (men_after p man m) p.side → IsLegal p m

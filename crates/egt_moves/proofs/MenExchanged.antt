@@ -1,26 +1,20 @@
 -- What a legal move does to the counts of men.
-use Rattle.egt_moves.specs.Prelude.{◌≡◌, ◌≢◌, ℕ, ◌+◌, ◌<◌, ◌⊎◌, ◌&&◌, ◌==◌, Option, Some, None, IfSome, IsSome, true}
-use Rattle.egt_moves.specs.Prelude.{false, Bool, refl, sym, ap, ◌∙◌, inl, inr, subst, if◌then◌else◌, arith, is_some}
-use Rattle.egt_moves.specs.Prelude.{eqb-true, eq-eqb, and_parts, false≢true, Side, White, Black, Kind, Q, R, B, N, P, K}
-use Rattle.egt_moves.specs.Prelude.{Man, other_side, rank_of, Placement, Stands, get-remove_other, ahead, pawn_of}
-use Rattle.egt_moves.specs.Prelude.{last_rank, IsTarget, target_rank, king_of, Setup, IsAdmissible, count_of}
-use Rattle.egt_moves.specs.Prelude.{stands_here, sides_differ, side_twice, Move, Captures, Exchanges, is_pawn, promotes}
-use Rattle.egt_moves.specs.Prelude.{IsOfficer, FitsPromotion, arriving, is_target, takes_in_passing, men_left, Leads}
+use Rattle.egt_moves.specs.Prelude.{◌≡◌, ◌≢◌, ℕ, ◌+◌, ◌<◌, ◌&&◌, ◌==◌, Option, Some, None, IfSome, IsSome, true, false}
+use Rattle.egt_moves.specs.Prelude.{Bool, refl, sym, ap, ◌∙◌, inl, inr, subst, if◌then◌else◌, arith, is_some, eqb-true}
+use Rattle.egt_moves.specs.Prelude.{eq-eqb, and_parts, false≢true, Side, White, Black, Kind, P, K, Man, other_side}
+use Rattle.egt_moves.specs.Prelude.{rank_of, Placement, Stands, get-remove_other, ahead, pawn_of, last_rank, IsTarget}
+use Rattle.egt_moves.specs.Prelude.{target_rank, king_of, Setup, IsAdmissible, count_of, stands_here, sides_differ}
+use Rattle.egt_moves.specs.Prelude.{side_twice, Move, Captures, Exchanges, is_pawn, promotes, IsOfficer, FitsPromotion}
+use Rattle.egt_moves.specs.Prelude.{arriving, is_target, takes_in_passing, men_left, Leads}
 use Rattle.std.specs.FinMap as map
 use Rattle.egt_moves.proofs.After.{one_man, not_free, target_is, goes_on_board, goes_not_own, goes_to_attacked}
+use Rattle.egt_moves.proofs.Admissible.{pawn_told}
+use Rattle.egt_board.proofs.Sides.{side_cases}
 
 -- what a change of one square does to the counts
 pub record Changes : Type 0 where
   pub put : (men : Placement) (s : ℕ) (other man : Man) → s < 64 → count_of (map.insert men s other) man + stands_here man (map.get men s) ≡ count_of men man + stands_here man (Some other)
   pub cleared : (men : Placement) (s : ℕ) (man : Man) → s < 64 → count_of (map.remove men s) man + stands_here man (map.get men s) ≡ count_of men man
-
-pawn_told : (kind : Kind) → is_pawn kind ≡ true → kind ≡ P
-pawn_told P e = refl
-pawn_told Q e = absurd (false≢true e)
-pawn_told R e = absurd (false≢true e)
-pawn_told B e = absurd (false≢true e)
-pawn_told N e = absurd (false≢true e)
-pawn_told K e = absurd (false≢true e)
 
 target_told : (o : Option ℕ) (to : ℕ) → is_target o to ≡ true → o ≡ Some to
 target_told None to e = absurd (false≢true e)
@@ -29,12 +23,6 @@ target_told (Some t) to e = ap Some (eqb-true t to e)
 tell_passing : (p : Setup) (man : Man) (to : ℕ) → man.kind ≡ P → p.target ≡ Some to → takes_in_passing p man to ≡ true
 tell_passing p man to pawn target =
     ap (λ k. is_pawn k && is_target p.target to) pawn ∙ ap (λ o. is_target o to) target ∙ eq-eqb to to refl
-
-own_or_enemy : (s t : Side) → (s ≡ t) ⊎ (s ≡ other_side t)
-own_or_enemy White White = inl refl
-own_or_enemy White Black = inr refl
-own_or_enemy Black White = inr refl
-own_or_enemy Black Black = inl refl
 
 is_some-at : (o : Option Man) → IsSome o → (man : Man) × (o ≡ Some man)
 is_some-at None some = absurd (false≢true some)
@@ -92,7 +80,7 @@ module _ (changes : Changes) (p q : Setup) (m : Move) (ok : IsAdmissible p) (ste
 
   -- a man on the square arrived at is an enemy, and no king
   enemy : (other : Man) → Stands p.men m.to other → (other.side ≡ other_side p.side) × (other.kind ≢ K)
-  enemy other stands = elim (own_or_enemy other.side p.side) [
+  enemy other stands = elim (side_cases other.side p.side) [
     | inl own ↦ absurd (goes_not_own p step.man m.from m.to ok step.goes (record { man = other; stands = stands; theirs = own }))
     | inr theirs ↦ (
       theirs,

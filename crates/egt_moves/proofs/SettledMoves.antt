@@ -20,7 +20,7 @@ takes_beside F Black from to (inl r) e = let a = r.moves in let b = r.within in 
 takes_beside F Black from to (inr (inl r)) e = let a = r.moves in let b = r.within in let h = r.away.along in let g = r.away.across in (omega arith, inl (omega arith))
 takes_beside F Black from to (inr (inr none)) e = absurd none
 
-farthest_two : (side : Side) (s : ℕ) → farthest_advance side s ≤ 2
+pub farthest_two : (side : Side) (s : ℕ) → farthest_advance side s ≤ 2
 farthest_two side s = by_test (rank_of s == home_rank side)
   where
     by_test : (b : Bool) → (if b then 2 else 1) ≤ 2
@@ -28,7 +28,7 @@ farthest_two side s = by_test (rank_of s == home_rank side)
     by_test false = omega arith
 
 -- a pawn that advances to the target comes from the square of the pawn that advanced
-advances_from : (F : ℕ → Type 0) (side : Side) (from to : ℕ) → Advances F side from to → rank_of to ≡ target_rank side → from ≡ ahead (other_side side) to
+pub advances_from : (F : ℕ → Type 0) (side : Side) (from to : ℕ) → Advances F side from to → rank_of to ≡ target_rank side → from ≡ ahead (other_side side) to
 unfolding Forward
 advances_from F White from to a e =
     let f = advances_forward F White from to a in let g = a.rides.away.across in let some = a.rides.moves in let most = a.rides.within in let two = farthest_two White from in

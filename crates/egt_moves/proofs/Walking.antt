@@ -4,6 +4,7 @@ use Rattle.egt_moves.specs.Prelude.{inr, subst, bit_at, Contains, cases_eq, case
 use Rattle.egt_moves.specs.Prelude.{Has, size_of, Setup, IsAdmissible, Move, IsLegal, most_moves, HasRoom, room_for_man}
 use Rattle.egt_moves.specs.Prelude.{room_for_others, place_of, IsInOrder, goes_on_board}
 use Rattle.egt_moves.proofs.Growing.{promotion_small}
+use Rattle.egt_board.proofs.Bits.{not_both}
 
 -- the legal moves from the squares that are no longer left are listed, and there is room for the others
 pub record Walks (p : Setup) (moves : List Move) (rest : SquareSet) : Type 0 where
@@ -12,9 +13,6 @@ pub record Walks (p : Setup) (moves : List Move) (rest : SquareSet) : Type 0 whe
   pub later : (m : Move) → Contains moves m → (t : ℕ) → Has rest t → m.from < t
   pub held : (t : ℕ) → Has rest t → IsHeld p.men t p.side
   pub room : HasRoom p (length moves) rest
-
-not_both : {A : Type 0} (n : ℕ) → n ≡ 0 → n ≡ 1 → A
-not_both n none one = absurd (omega arith)
 
 pub Walks-room : (p : Setup) (moves : List Move) (rest rest' : SquareSet) (s : ℕ) (man : Man) → IsAdmissible p → Has rest s → bit_at rest'.bits s ≡ 0 → ((t : ℕ) → t ≢ s → bit_at rest'.bits t ≡ bit_at rest.bits t)
     → size_of rest' + 1 ≡ size_of rest → Stands p.men s man → Walks p moves rest → length moves + most_moves man.kind ≤ 64

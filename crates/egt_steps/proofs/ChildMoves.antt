@@ -7,6 +7,7 @@ use Rattle.egt_steps.specs.Prelude.{kind_number, side_number, man_number, stands
 use Rattle.egt_steps.specs.Prelude.{Exchanges, IsOfficer, arriving, material_of, men_in, IsOf, all_agree, OneKing}
 use Rattle.egt_steps.specs.Prelude.{covered, smaller, either, one_king_in}
 use Rattle.egt_class.specs.Children.{Change, man_of, man_taken, pawn_promoted, man_promoted, side_if, men_of, is_change, is_possible, has_man, follows_as, children_of}
+use Rattle.egt_board.proofs.Sides.{kind_few}
 
 -- a man in the class's colours, and back
 turned : Bool → Man → Man
@@ -20,14 +21,6 @@ side_twice false side = refl
 turned_twice : (f : Bool) (man : Man) → turned f (turned f man) ≡ man
 unfolding turned
 turned_twice f man = ap (λ side. man_of side man.kind) (side_twice f man.side)
-
-kind_few : (kind : Kind) → kind_number kind < 6
-kind_few Q = omega arith
-kind_few R = omega arith
-kind_few B = omega arith
-kind_few N = omega arith
-kind_few P = omega arith
-kind_few K = omega arith
 
 -- an officer is neither pawn nor king
 officer_apart : (kind : Kind) → IsOfficer kind → (kind ≢ P) × (kind ≢ K)

@@ -3,17 +3,9 @@ use Rattle.egt_steps.specs.Prelude.{◌≡◌, ◌≢◌, ℕ, ◌&&◌, ◌==�
 use Rattle.egt_steps.specs.Prelude.{refl, sym, ap, ◌∙◌, subst, inl, inr, arith, Kind, Q, R, B, N, P, K, Man, Step}
 use Rattle.egt_steps.specs.Prelude.{IsInCheck, OneOf, Reaches, Rides, farthest, steps_of, other_side, ahead, last_rank}
 use Rattle.egt_steps.specs.Prelude.{Placement, Stands, IsFree, Setup, rank_of, plain, after, is_target, men_after}
-use Rattle.egt_steps.specs.Prelude.{is_pawn, FitsPromotion, IsQuietTarget}
+use Rattle.egt_steps.specs.Prelude.{FitsPromotion, IsQuietTarget}
 use Rattle.std.specs.FinMap as map
-use Rattle.egt_steps.proofs.Still.{quiet_piece}
-
-no_pawn : (kind : Kind) → kind ≢ P → is_pawn kind ≡ false
-no_pawn Q not = refl
-no_pawn R not = refl
-no_pawn B not = refl
-no_pawn N not = refl
-no_pawn P not = absurd (not refl)
-no_pawn K not = refl
+use Rattle.egt_steps.proofs.Still.{quiet_piece, no_pawn}
 
 -- a king goes one step, so that it passes no square
 pub king_bare : (F G : ℕ → Type 0) (s t : ℕ) (ds : List Step) → OneOf (Rides F 1 s t) ds → OneOf (Rides G 1 s t) ds

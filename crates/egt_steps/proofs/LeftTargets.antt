@@ -10,25 +10,6 @@ use Rattle.egt_steps.specs.Prelude.{LeavesTarget}
 use Rattle.egt_steps.proofs.Leaping.{one_off_home}
 use Rattle.egt_steps.proofs.TwoNonKings.{AreTwo, one_two, who}
 
--- a pawn that advances to a target comes from the square of the pawn that set it
-pub behind_target : (F : ℕ → Type 0) (side : Side) (s t : ℕ) → Advances F side s t → rank_of t ≡ target_rank side → s ≡ ahead (other_side side) t
-behind_target F White s t advances rank =
-    let some = advances.rides.moves in
-    let across : t % 8 ≡ s % 8 = advances.rides.away.across in
-    let along : t / 8 ≡ s / 8 + advances.rides.count * 1 = advances.rides.away.along in
-    elim (one_off_home (rank_of s) 1 advances.rides.count advances.rides.within) [
-      | inl few ↦ omega (arith, few, some, across, along, rank)
-      | inr home ↦ let most = home.0 in let at = home.1 in absurd (omega (arith, most, at, along, rank))
-    ]
-behind_target F Black s t advances rank =
-    let some = advances.rides.moves in
-    let across : t % 8 ≡ s % 8 = advances.rides.away.across in
-    let along : s / 8 ≡ t / 8 + advances.rides.count * 1 = advances.rides.away.along in
-    elim (one_off_home (rank_of s) 6 advances.rides.count advances.rides.within) [
-      | inl few ↦ omega (arith, few, some, across, along, rank)
-      | inr home ↦ let most = home.0 in let at = home.1 in absurd (omega (arith, most, at, along, rank))
-    ]
-
 -- in an advance by two squares the pawn stands right ahead of the square that he passed
 past_half : (F : ℕ → Type 0) (side : Side) (s t : ℕ) → Advances F side s t → AreTwoRanksApart s t → ahead side ((s + t) / 2) ≡ t
 past_half F White s t advances (inl two) = let across : t % 8 ≡ s % 8 = advances.rides.away.across in omega (arith, across, two)

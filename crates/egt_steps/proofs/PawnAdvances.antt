@@ -10,10 +10,11 @@ use Rattle.egt_steps.specs.Prelude.{target_is, Facts, LeavesTarget, IsAdvance, I
 use Rattle.egt_steps.specs.Prelude.{stand_in, IsClear}
 use Rattle.std.specs.FinMap as placement
 use Rattle.egt_moves.specs.Legal as legal
-use Rattle.egt_steps.proofs.LeftTargets.{IsAfter, behind_target, settles_so, told}
+use Rattle.egt_steps.proofs.LeftTargets.{IsAfter, settles_so, told}
 use Rattle.egt_steps.proofs.Still.{not_passing}
 use Rattle.egt_steps.proofs.Takings.{arrives, empties, placed, stays}
 use Rattle.egt_steps.proofs.TwoNonKings.{AreTwo, Counting, are_after, are_in, one_two, stands_after}
+use Rattle.egt_moves.proofs.SettledMoves.{advances_from}
 
 -- a pawn goes off the square from which it advances
 off_start : (side : Side) (s t n : ℕ) → 0 < n → Away (forward side) n s t → t ≢ s
@@ -179,7 +180,7 @@ module _ (facts : Facts) (counting : Counting) (c : ℕ) (men : ShelfMen) (first
         set = target_is p t has.admissible target
 
         from_there : b ≡ ahead (other_side p.side) t
-        from_there = behind_target (IsFree p.men) side b t goes_there (set.rank ∙ ap target_rank has.side_is) ∙ ap (λ (s : Side). ahead (other_side s) t) (sym has.side_is)
+        from_there = advances_from (IsFree p.men) side b t goes_there (set.rank ∙ ap target_rank has.side_is) ∙ ap (λ (s : Side). ahead (other_side s) t) (sym has.side_is)
 
         set_there : Stands p.men b (pawn_of (other_side p.side))
         set_there = subst (λ s. Stands p.men s (pawn_of (other_side p.side))) (sym from_there) set.advanced

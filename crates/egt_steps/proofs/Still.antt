@@ -1,11 +1,12 @@
 -- A move that does not zero takes one man to a free square, and changes nothing else on the board.
 use Rattle.egt_steps.specs.Prelude.{◌≡◌, ◌≢◌, ℕ, ◌+◌, ◌/◌, if◌then◌else◌, ◌==◌, ◌&&◌, Bool, true, false, Option, Some}
-use Rattle.egt_steps.specs.Prelude.{None, refl, ap, ◌∙◌, inl, inr, ◌⊎◌, subst, ◌||◌, Side, White, Black, Kind, Q, R, B}
-use Rattle.egt_steps.specs.Prelude.{N, P, K, Man, other_side, Placement, Stands, IsFree, get-insert_same, IsHeld}
-use Rattle.egt_steps.specs.Prelude.{one_man, Setup, IsAdmissible, rank_of, ahead, last_rank, IsOf, IsMoved, Zeroes}
-use Rattle.egt_steps.specs.Prelude.{IsPawnOn, Captures, Goes, Leads, men_left, is_target, is_two_ranks, IsLegal, plain}
-use Rattle.egt_steps.specs.Prelude.{passed, is_pawn, FitsPromotion, Move, IsLegalTarget, IsQuietTarget, eqb_tells}
+use Rattle.egt_steps.specs.Prelude.{None, refl, ap, ◌∙◌, inl, inr, ◌⊎◌, subst, ◌||◌, Kind, Q, R, B, N, P, K, Man}
+use Rattle.egt_steps.specs.Prelude.{other_side, Placement, Stands, IsFree, get-insert_same, IsHeld, one_man, Setup}
+use Rattle.egt_steps.specs.Prelude.{IsAdmissible, rank_of, ahead, last_rank, IsOf, IsMoved, Zeroes, IsPawnOn, Captures}
+use Rattle.egt_steps.specs.Prelude.{Goes, Leads, men_left, is_target, is_two_ranks, IsLegal, plain, passed, is_pawn}
+use Rattle.egt_steps.specs.Prelude.{FitsPromotion, Move, IsLegalTarget, IsQuietTarget, eqb_tells}
 use Rattle.std.specs.FinMap as map
+use Rattle.egt_board.proofs.Sides.{side_cases}
 
 -- the law on moves that keep the class
 abbrev pub KeepsClass : Type 0
@@ -42,13 +43,6 @@ pub no_promotion : (b : Bool) (promo : Option Kind) → b ≡ false → FitsProm
 no_promotion true promo e fits = let not = e in cc
 no_promotion false None e fits = refl
 no_promotion false (Some kind) e fits = absurd fits
-
--- a man is of the one side or of the other
-pub one_or_other : (a b : Side) → (a ≡ b) ⊎ (a ≡ other_side b)
-one_or_other White White = inl refl
-one_or_other White Black = inr refl
-one_or_other Black White = inr refl
-one_or_other Black Black = inl refl
 
 -- no man but a pawn is promoted
 pub piece_promo : (p q : Setup) (m : Move) (leads : Leads p m q) → leads.man.kind ≢ P → m.promo ≡ None
@@ -114,7 +108,7 @@ module _ (keeps : KeepsClass) (c : ℕ) (p q : Setup) (pawn : Bool) (from t : �
 
   free_to : (o : Option Man) → map.get p.men t ≡ o → IsFree p.men t
   free_to None is = is
-  free_to (Some man) is = held man is (one_or_other man.side p.side) leads.goes
+  free_to (Some man) is = held man is (side_cases man.side p.side) leads.goes
 
   left : men_left p leads.man t ≡ p.men
   left = ap (λ b. if b then map.remove p.men (ahead (other_side p.side) t) else p.men)

@@ -9,12 +9,12 @@ use Rattle.egt_steps.specs.Prelude.{men_left, FitsPromotion, IsOfficer, arriving
 use Rattle.egt_steps.specs.Prelude.{not_free, target_is, Facts, IsOfFourKinds, IsPassingCapture, IsPassingFrom}
 use Rattle.egt_steps.specs.Prelude.{stand_in, IsClassOf, IsPastKings, Left, left_of, stand_left}
 use Rattle.std.specs.FinMap as placement
-use Rattle.egt_steps.proofs.LeftTargets.{behind_target}
 use Rattle.egt_steps.proofs.PawnAdvances.{none_of}
 use Rattle.egt_steps.proofs.PawnCaptures.{takes_bare, takes_unpassed}
 use Rattle.egt_steps.proofs.Still.{no_promotion}
 use Rattle.egt_steps.proofs.Takings.{AreLeft, Telling, are_left, arrives, empties, not_promoting, one_left, placed, stands_left, stays}
 use Rattle.egt_steps.proofs.TwoNonKings.{AreTwo, are_in, who}
+use Rattle.egt_moves.proofs.SettledMoves.{advances_from}
 
 -- a target is on no last rank
 target_within : (side : Side) (t : ℕ) → rank_of t ≡ target_rank side → (0 < rank_of t) × (rank_of t < 7)
@@ -145,7 +145,7 @@ module _ (facts : Facts) (telling : Telling) (c : ℕ) (men : ShelfMen) (first :
     attacks (inr (inl advances)) = absurd
         (there.apart
         (sym passing.from
-        ∙ behind_target (IsFree p.men) leads.man.side m.from m.to advances.advances (ap rank_of arrives_there ∙ (set own).is.rank ∙ ap target_rank (sym leads.mine))
+        ∙ advances_from (IsFree p.men) leads.man.side m.from m.to advances.advances (ap rank_of arrives_there ∙ (set own).is.rank ∙ ap target_rank (sym leads.mine))
         ∙ (λ i. ahead (other_side (leads.mine i)) (arrives_there i))
         ∙ (set own).back))
 

@@ -18,6 +18,7 @@ use Rattle.egt_index.proofs.ByMen.{no_target}
 use Rattle.egt_steps.proofs.Fanned.{king_reaches}
 use Rattle.egt_steps.proofs.Passed.{departs}
 use Rattle.egt_steps.proofs.Still.{no_pawn_is}
+use Rattle.egt_board.proofs.Sides.{sides_differ}
 
 -- the men of a stand, and those beside the kings, by the laws of egt_index and egt_class
 pub record Telling : Type 0 where
@@ -388,10 +389,6 @@ module _ (facts : Facts) (telling : Telling) (c : ℕ) (men : ShelfMen) (one_oth
     leaves = last_takes;
   })
 
-  other_is_not : (s : Side) → s ≡ other_side s → ⊥
-  other_is_not White e = cc
-  other_is_not Black e = cc
-
   pub comes : (left : Left) → IsTaken men side a b left → (d : ℕ) (flips : Bool) → IsClassOf d flips left.man → (q : Setup) → HasStand d flips (stand_left flips left) (other_side side) false q → (m : Move) × Leads p m q × IsPlainCapture p m
   comes left is d flips class q there = (plain t.from t.to, leads, (held, refl))
     where
@@ -429,7 +426,7 @@ module _ (facts : Facts) (telling : Telling) (c : ℕ) (men : ShelfMen) (one_oth
         stands = t.stands;
         mine = t.own ∙ mine;
         goes = taking_goes p t.man t.from t.to held t.reaches
-            (λ (h : IsHeld p.men t.to p.side). other_is_not side (mine ∙ sym h.theirs ∙ ap (λ (x : Man). x.side) (one_man p.men t.to h.man t.taken h.stands t.there) ∙ t.theirs));
+            (λ (h : IsHeld p.men t.to p.side). sides_differ side (mine ∙ sym h.theirs ∙ ap (λ (x : Man). x.side) (one_man p.men t.to h.man t.taken h.stands t.there) ∙ t.theirs));
         promotion = subst (λ (b : Bool). FitsPromotion b None) (sym (not_promoting t.man t.to fits)) tt;
         becomes = λ i. record { men = placed_there i; side = turn i; target = target i };
         safe = λ check. there.admissible.quiet (subst (λ (s : Side). IsInCheck q.men s) (sym (ap other_side turn ∙ side_twice p.side)) check);
@@ -534,7 +531,7 @@ module _ (facts : Facts) (telling : Telling) (c : ℕ) (men : ShelfMen) (one_oth
         (left_so (left_of (with_king men side b) men.one a) (king_of side) (king_of_men men side) b is at there king_takes_last)
 
     by_one : men.one ≡ leads.man → a ≡ m.from → Victim → Result
-    by_one is at (inl (enemy, there)) = absurd (other_is_not side (sym own ∙ ap (λ (x : Man). x.side) (sym is) ∙ enemy))
+    by_one is at (inl (enemy, there)) = absurd (sides_differ side (sym own ∙ ap (λ (x : Man). x.side) (sym is) ∙ enemy))
     by_one is at (inr (enemy, there)) =
         result (left_of men men.one b) (inr (inr (inl (ap (λ (x : Man). x.side) is ∙ own, enemy, past men.one a b is at there, refl)))) one_other
         (left_so (left_of men men.one b) men.one a b is at there one_takes)
@@ -543,7 +540,7 @@ module _ (facts : Facts) (telling : Telling) (c : ℕ) (men : ShelfMen) (one_oth
     by_last is at (inl (enemy, there)) =
         result (left_of men men.last a) (inr (inr (inr (ap (λ (x : Man). x.side) is ∙ own, enemy, past men.last b a is at there, refl)))) last_other
         (left_so (left_of men men.last a) men.last b a is at there last_takes)
-    by_last is at (inr (enemy, there)) = absurd (other_is_not side (sym own ∙ ap (λ (x : Man). x.side) (sym is) ∙ enemy))
+    by_last is at (inr (enemy, there)) = absurd (sides_differ side (sym own ∙ ap (λ (x : Man). x.side) (sym is) ∙ enemy))
 
     pub goes : Result
     goes = elim mover [

@@ -6,6 +6,7 @@ use Rattle.egt_unmoves.specs.Prelude.{Has, size_of, size_of-some, Setup, IsAdmis
 use Rattle.egt_unmoves.specs.Prelude.{ListsBelow}
 use Rattle.egt_unmoves.proofs.Came.{came}
 use Rattle.egt_unmoves.proofs.InOrder.{squares_within, target_place_small, ListsBelow-none, ListsBelow-skip}
+use Rattle.egt_board.proofs.Bits.{not_both}
 
 -- that side's king stands somewhere
 king_square : (p : Setup) (side : Side) → IsAdmissible p → (k : ℕ) × IsKingOn p.men side k
@@ -19,9 +20,6 @@ pub record ListsMen (q : Setup) (now : List Unmove) (left : SquareSet) : Type 0 
   pub listed : ListsBelow q (next * 128) now
   pub left_is : (t : ℕ) → Has left t ↔ (IsHeld q.men t (other_side q.side) × (next ≤ t))
   pub room : (k : ℕ) → IsKingOn q.men (other_side q.side) k → length now + 56 * size_of left ≤ 128 + 40 * bit_at left.bits k
-
-not_both : {A : Type 0} (n : ℕ) → n ≡ 0 → n ≡ 1 → A
-not_both n none one = absurd (omega arith)
 
 pub ListsMen-none : (q : Setup) (left : SquareSet) → ((t : ℕ) → Has left t ↔ IsHeld q.men t (other_side q.side)) → size_of left ≤ 3 → ListsMen q [] left
 ListsMen-none q left held few = record {

@@ -9,6 +9,7 @@ use Rattle.egt_unmoves.proofs.Came.{Came, came, before_is}
 use Rattle.egt_unmoves.proofs.FiveMen.{target_of}
 use Rattle.egt_unmoves.proofs.Went.{comes_went}
 use Rattle.egt_unmoves.proofs.InOrder.{squares_within, target_place_small, ListsBelow-push, ListsBelow-skip}
+use Rattle.egt_board.proofs.Bits.{not_both}
 
 -- a place tells the squares
 pub placed : (w : Unmove) (n : Move) (q : Setup) (from to k : ℕ) → from < 64 → k < 2 → TakesBack w n q → place_of w n ≡ (to * 64 + from) * 2 + k
@@ -126,9 +127,6 @@ ListsTo-none q man to sources old lists few = record {
   left_is = λ t. (λ h. (h, omega arith), λ h. h.0);
   room = omega arith;
 }
-
-not_both : {A : Type 0} (n : ℕ) → n ≡ 0 → n ≡ 1 → A
-not_both n none one = absurd (omega arith)
 
 module _ (q : Setup) (man : Man) (to : ℕ) (sources : SquareSet) (complete : (b : Setup) (m : Move) → m.to ≡ to → ComesBy b m q → Has sources m.from) where
   -- no unmove comes from a square between

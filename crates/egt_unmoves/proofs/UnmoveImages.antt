@@ -1,18 +1,15 @@
 -- The unmoves of an image.
 use Rattle.egt_unmoves.specs.Prelude.{◌≡◌, ℕ, ◌<◌, ◌↔◌, ◌/◌, ◌%◌, ◌==◌, Bool, true, false, Option, Some, None, IfSome}
 use Rattle.egt_unmoves.specs.Prelude.{arith, refl, sym, ap, ◌∙◌, inl, inr, subst, option_map, cases_eq, Side, White}
-use Rattle.egt_unmoves.specs.Prelude.{Black, Man, Mirror, Files, Ranks, Diagonal, Colours, square_by, square_by-within}
-use Rattle.egt_unmoves.specs.Prelude.{square_by-twice, HasNoPawn, Stands, IsFree, one_man, get-insert_other}
-use Rattle.egt_unmoves.specs.Prelude.{get-remove_other, Setup, IsAdmissible, IsSettled, SettlesTo, rank_of, square_if}
-use Rattle.egt_unmoves.specs.Prelude.{square_of, KeepsPlay, IsTarget, target_rank, turned_square, turned_man, IsSetBy}
-use Rattle.egt_unmoves.specs.Prelude.{Move, IsPawnOn, Leads, turned_move, ComesBy}
+use Rattle.egt_unmoves.specs.Prelude.{Black, Man, Mirror, Files, Ranks, Diagonal, Colours, square_by, square_by-twice}
+use Rattle.egt_unmoves.specs.Prelude.{HasNoPawn, Stands, IsFree, one_man, get-insert_other, get-remove_other, Setup}
+use Rattle.egt_unmoves.specs.Prelude.{IsAdmissible, IsSettled, SettlesTo, rank_of, square_if, square_of, KeepsPlay}
+use Rattle.egt_unmoves.specs.Prelude.{IsTarget, target_rank, turned_square, turned_man, IsSetBy, Move, IsPawnOn, Leads}
+use Rattle.egt_unmoves.specs.Prelude.{turned_move, ComesBy}
 use Rattle.std.specs.FinMap as map
 use Rattle.egt_unmoves.proofs.Came.{Came, came, not_free}
 use Rattle.egt_unmoves.proofs.InOrder.{squares_within}
-
-within_if : (b : Bool) (m : Mirror) (s : ℕ) → s < 64 → square_if b m s < 64
-within_if true m s s_in = square_by-within m s s_in
-within_if false m s s_in = s_in
+use Rattle.egt_board.proofs.Images.{square_if-within}
 
 -- no two squares of the board become one
 apart_if : (b : Bool) (m : Mirror) (s t : ℕ) → s < 64 → t < 64 → square_if b m s ≡ square_if b m t → s ≡ t
@@ -27,13 +24,13 @@ turned_apart n flipped s t s_in t_in e =
     (apart_if flipped Colours _ _ (three s s_in) (three t t_in) e)))
   where
     one : (u : ℕ) → u < 64 → square_if (n % 2 == 1) Files u < 64
-    one u u_in = within_if (n % 2 == 1) Files u u_in
+    one u u_in = square_if-within (n % 2 == 1) Files u u_in
 
     two : (u : ℕ) → u < 64 → square_if (n / 2 % 2 == 1) Ranks (square_if (n % 2 == 1) Files u) < 64
-    two u u_in = within_if (n / 2 % 2 == 1) Ranks _ (one u u_in)
+    two u u_in = square_if-within (n / 2 % 2 == 1) Ranks _ (one u u_in)
 
     three : (u : ℕ) → u < 64 → square_of n u < 64
-    three u u_in = within_if (n / 4 == 1) Diagonal _ (two u u_in)
+    three u u_in = square_if-within (n / 4 == 1) Diagonal _ (two u u_in)
 
 turned_kind : (flipped : Bool) (man : Man) → (turned_man flipped man).kind ≡ man.kind
 turned_kind true man = refl

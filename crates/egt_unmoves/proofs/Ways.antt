@@ -1,21 +1,16 @@
 -- The ways back.
 use Rattle.egt_unmoves.specs.Prelude.{◌≡◌, ℕ, zero, suc, ◌+◌, ◌-◌, ◌<◌, ◌≤◌, ◌⊎◌, arith, refl, sym, ap, ◌∙◌, inl, inr}
-use Rattle.egt_unmoves.specs.Prelude.{if◌then◌else◌, ◌==◌, Bool, true, false, Some, None, ◌&&◌, ◌||◌, ◌/◌, false≢true}
-use Rattle.egt_unmoves.specs.Prelude.{eqb_tells, Side, White, Black, P, Man, other_side, rank_of, Away, ahead, forward}
-use Rattle.egt_unmoves.specs.Prelude.{home_rank, farthest_advance, Advances, passed, is_two_ranks, is_pawn}
+use Rattle.egt_unmoves.specs.Prelude.{if◌then◌else◌, ◌==◌, Bool, true, false, Some, None, ◌&&◌, ◌/◌, Side, White}
+use Rattle.egt_unmoves.specs.Prelude.{Black, P, Man, other_side, rank_of, Away, ahead, forward, home_rank}
+use Rattle.egt_unmoves.specs.Prelude.{farthest_advance, Advances, passed, is_two_ranks, is_pawn}
+use Rattle.egt_moves.proofs.Admissible.{two_ranks_told}
+use Rattle.egt_moves.proofs.SettledMoves.{farthest_two}
 
 -- a pawn steps one square at least
 some_advance : (side : Side) (s : ℕ) → 1 ≤ farthest_advance side s
 some_advance side s = by_test (rank_of s == home_rank side)
   where
     by_test : (b : Bool) → 1 ≤ (if b then 2 else 1)
-    by_test true = omega arith
-    by_test false = omega arith
-
-few_advance : (side : Side) (s : ℕ) → farthest_advance side s ≤ 2
-few_advance side s = by_test (rank_of s == home_rank side)
-  where
-    by_test : (b : Bool) → (if b then 2 else 1) ≤ 2
     by_test true = omega arith
     by_test false = omega arith
 
@@ -28,7 +23,7 @@ one_back G side s t free away = record {
 -- a pawn came from one square back, or two
 pub Advances-back : (F G : ℕ → Type 0) (side : Side) (s t : ℕ) → s < 64 → 0 < rank_of t → G s → Advances F side s t
     → Advances G (other_side side) t s ⊎ Advances G (other_side side) (ahead (other_side side) t) s
-Advances-back F G side s t s_in low free a = by_count side a.rides.count a.rides.moves (omega (arith, a.rides.within, few_advance side s)) a.rides.away
+Advances-back F G side s t s_in low free a = by_count side a.rides.count a.rides.moves (omega (arith, a.rides.within, farthest_two side s)) a.rides.away
   where
     by_count : (side : Side) (n : ℕ) → 0 < n → n ≤ 2 → Away (forward side) n s t → Advances G (other_side side) t s ⊎ Advances G (other_side side) (ahead (other_side side) t) s
     by_count White (suc zero) some few away = let x = away.across in let y = away.along in
@@ -44,7 +39,7 @@ Advances-back F G side s t s_in low free a = by_count side a.rides.count a.rides
 
 -- a pawn that advances comes from the square behind its goal, or over it
 pub passed_over : (F : ℕ → Type 0) (side : Side) (s t : ℕ) → s < 64 → Advances F side s t → (s ≡ ahead (other_side side) t) ⊎ F (ahead (other_side side) t)
-passed_over F side s t s_in a = by_count side a.rides.count a.rides.moves (omega (arith, a.rides.within, few_advance side s)) a.rides.away a.rides.clear
+passed_over F side s t s_in a = by_count side a.rides.count a.rides.moves (omega (arith, a.rides.within, farthest_two side s)) a.rides.away a.rides.clear
   where
     by_count : (side : Side) (n : ℕ) → 0 < n → n ≤ 2 → Away (forward side) n s t → ((k u : ℕ) → 0 < k → k < n → Away (forward side) k s u → F u)
         → (s ≡ ahead (other_side side) t) ⊎ F (ahead (other_side side) t)
@@ -61,24 +56,15 @@ if_some : (b : Bool) (x t : ℕ) → (if b then Some x else None) ≡ Some t →
 if_some true x t e = (refl, cc)
 if_some false x t e = absurd (cc)
 
-two_ranks : (s t : ℕ) → is_two_ranks s t ≡ true → (rank_of t ≡ rank_of s + 2) ⊎ (rank_of s ≡ rank_of t + 2)
-two_ranks s t e = elim (eqb_tells (rank_of t) (rank_of s + 2)) [
-  | inl up ↦ inl up.1
-  | inr not_up ↦ elim (eqb_tells (rank_of s) (rank_of t + 2)) [
-    | inl down ↦ inr down.1
-    | inr not_down ↦ absurd (false≢true (sym (ap (λ b. b || (rank_of s == rank_of t + 2)) not_up.0 ∙ not_down.0) ∙ e))
-  ]
-]
-
 -- the square that a pawn passes is the one behind its goal
 pub ahead_passed : (F : ℕ → Type 0) (man : Man) (s t u : ℕ) → man.kind ≡ P → Advances F man.side s t → passed man s t ≡ Some u → ahead man.side u ≡ t
-ahead_passed F man s t u pawn a e = by_count man.side a.rides.count a.rides.moves (omega (arith, a.rides.within, few_advance man.side s)) a.rides.away
+ahead_passed F man s t u pawn a e = by_count man.side a.rides.count a.rides.moves (omega (arith, a.rides.within, farthest_two man.side s)) a.rides.away
   where
     found : (is_two_ranks s t ≡ true) × ((s + t) / 2 ≡ u)
     found = if_some (is_two_ranks s t) ((s + t) / 2) u (ap (λ k. if is_pawn k && is_two_ranks s t then Some ((s + t) / 2) else None) (sym pawn) ∙ e)
 
     apart : (rank_of t ≡ rank_of s + 2) ⊎ (rank_of s ≡ rank_of t + 2)
-    apart = two_ranks s t found.0
+    apart = two_ranks_told s t found.0
 
     by_count : (side : Side) (n : ℕ) → 0 < n → n ≤ 2 → Away (forward side) n s t → ahead side u ≡ t
     by_count White (suc zero) some few away = let y = away.along in elim apart [ inl up ↦ omega arith | inr down ↦ omega arith ]

@@ -2,9 +2,9 @@ use Rattle.egt_index.specs.Prelude.{◌≡◌, ℕ, List, ◌∷◌, [], ◌++�
 use Rattle.egt_index.specs.Prelude.{king_of, men_of, Placement, IsFree, Man, White, Black, list_of, with_entry, Stand}
 use Rattle.std.specs.FinMap as map
 use Rattle.egt_index.proofs.Boarding.{apart_before, entry_free, entry_put, one_at_most, two_at_most}
-use Rattle.egt_index.proofs.Listing.{few_listed}
 use Rattle.egt_index.proofs.spelling.board_of.Goals.{After-with_entry}
 use Rattle.egt_index.proofs.spelling.board_of.Goals as goal
+use Rattle.egt_board.proofs.Lists.{len-men_of}
 
 kings : Stand → List (Man × ℕ)
 kings stand = (king_of White, stand.white) ∷ (king_of Black, stand.black) ∷ []
@@ -19,7 +19,7 @@ with_entry-board-requires-clause-free c =
 pub with_entry-board-requires-clause-room : goal.with_entry-board-requires-clause-room
 unfolding kings
 with_entry-board-requires-clause-room c =
-    let is = ap map.len c.kings_on-kings.ensures in let few = few_listed (kings c.args.stand.now) in omega arith
+    let is = ap map.len c.kings_on-kings.ensures in let few = len-men_of (kings c.args.stand.now) in omega arith
 
 -- the board with the first man beside the kings
 board_is : (c : goal.After-with_entry-arg-2-1) → c.with_entry-board.result ≡ men_of (kings c.args.stand.now ++ option_to_list c.args.stand.now.next)
@@ -38,7 +38,7 @@ pub with_entry-requires-clause-room : goal.with_entry-requires-clause-room
 unfolding kings
 with_entry-requires-clause-room c =
     let is = ap map.len (board_is c) in
-    let few = few_listed (kings c.args.stand.now ++ option_to_list c.args.stand.now.next) in let one = one_at_most c.args.stand.now.next in omega arith
+    let few = len-men_of (kings c.args.stand.now ++ option_to_list c.args.stand.now.next) in let one = one_at_most c.args.stand.now.next in omega arith
 
 all_is : (c : After-with_entry) → c.with_entry.result ≡ men_of (list_of c.args.stand.now)
 unfolding kings
@@ -52,4 +52,4 @@ returns-clause-men c = all_is c
 pub returns-clause-few : goal.returns-clause-few
 returns-clause-few c =
     let is = ap map.len (all_is c) in
-    let few = few_listed (list_of c.args.stand.now) in let two = two_at_most c.args.stand.now.next c.args.stand.now.last in omega arith
+    let few = len-men_of (list_of c.args.stand.now) in let two = two_at_most c.args.stand.now.next c.args.stand.now.last in omega arith

@@ -2,9 +2,9 @@ use Rattle.egt_index.specs.Prelude.{◌≡◌, ◌≢◌, ℕ, List, ◌∷◌, 
 use Rattle.egt_index.specs.Prelude.{Placement, IsFree, Man, White, Black, with_entry, AllApart}
 use Rattle.std.specs.FinMap as map
 use Rattle.egt_index.proofs.Boarding.{entry_free, entry_put}
-use Rattle.egt_index.proofs.Listing.{few_listed}
 use Rattle.egt_index.proofs.spelling.kings_on.Goals.{After-with_entry-board}
 use Rattle.egt_index.proofs.spelling.kings_on.Goals as goal
+use Rattle.egt_board.proofs.Lists.{len-men_of}
 
 one : ℕ → List (Man × ℕ)
 one white = (king_of White, white) ∷ []
@@ -27,7 +27,7 @@ with_entry-board-requires-clause-free c =
     subst (λ (men : Placement). IsFree men c.args.white) (sym (c.new.ensures ∙ none_is)) (entry_free [] (Some (king_of White, c.args.white)) (tt, tt))
 
 pub with_entry-board-requires-clause-room : goal.with_entry-board-requires-clause-room
-with_entry-board-requires-clause-room c = let is = ap map.len (c.new.ensures ∙ none_is) in let few = few_listed [] in omega arith
+with_entry-board-requires-clause-room c = let is = ap map.len (c.new.ensures ∙ none_is) in let few = len-men_of [] in omega arith
 
 pub with_entry-requires-clause-free : goal.with_entry-requires-clause-free
 unfolding one
@@ -37,7 +37,7 @@ with_entry-requires-clause-free c =
 
 pub with_entry-requires-clause-room : goal.with_entry-requires-clause-room
 unfolding one
-with_entry-requires-clause-room c = let is = ap map.len (white_is c) in let few = few_listed (one c.args.white) in omega arith
+with_entry-requires-clause-room c = let is = ap map.len (white_is c) in let few = len-men_of (one c.args.white) in omega arith
 
 pub returns : goal.returns
 unfolding one

@@ -1,6 +1,6 @@
 use Rattle.egt_lanes.specs.Prelude.{◌==◌, ◌%◌, ◌/◌, ◌∙◌, Files, Ranks, Diagonal, square_if}
-use Rattle.egt_lanes.proofs.Turns.{square_if-within}
 use Rattle.egt_lanes.proofs.turn.turned.Goals as goal
+use Rattle.egt_board.proofs.Images.{square_if-within}
 
 pub returns : goal.returns
 returns c s s_in =

@@ -1,7 +1,8 @@
-use Rattle.egt_unmoves.specs.Prelude.{◌≡◌, ◌⊎◌, ℕ, arith, Some, None, sym, ap, ◌∙◌, inl, subst, bit_at, other_side}
-use Rattle.egt_unmoves.specs.Prelude.{pawn_of, ahead, Stands}
+use Rattle.egt_unmoves.specs.Prelude.{◌≡◌, ◌⊎◌, Some, None, sym, ap, ◌∙◌, inl, subst, bit_at, other_side, pawn_of}
+use Rattle.egt_unmoves.specs.Prelude.{ahead, Stands}
 use Rattle.egt_unmoves.proofs.FiveMen.{target_found, no_target_before}
 use Rattle.egt_unmoves.proofs.targets.target_before.Goals as goal
+use Rattle.egt_board.proofs.Bits.{not_both}
 
 pub returns-then-has_advanced : goal.returns-then-has_advanced
 returns-then-has_advanced c = λ b m comes.
@@ -11,9 +12,6 @@ returns-then-has_advanced c = λ b m comes.
     let same : ahead (other_side q.side) c.in-Some.square ≡ c.ahead.result =
     sym (c.ahead.ensures ∙ ap (λ side. ahead side c.in-Some.square) (c.other.ensures ∙ ap other_side c.side-mover.ensures.side)) in
     subst (λ t. (b.target ≡ None) ⊎ (b.target ≡ Some t)) same found
-
-not_both : {A : Type 0} (n : ℕ) → n ≡ 0 → n ≡ 1 → A
-not_both n none one = absurd (omega arith)
 
 pub returns : goal.returns
 returns c = λ b m comes.
