@@ -1,6 +1,7 @@
 -- A position, its images and the position that its index spells play alike, and have one entry.
-use Rattle.egt_check.specs.Prelude.{◌≡◌, ℕ, ◌<◌, ◌↔◌, Bool, sym, subst, AreImages, SettlesTo, Setup, IsAdmissible, IsOf}
-use Rattle.egt_check.specs.Prelude.{Spells, IsIndex, Value, Metric, StepAlike, Facts, Tables, ShowsOf}
+use Rattle.egt_check.specs.Prelude.{◌≡◌, ◌≢◌, ◌⊎◌, ℕ, ◌<◌, ◌↔◌, Bool, inl, inr, cases_eq, sym, subst, AreImages}
+use Rattle.egt_check.specs.Prelude.{SettlesTo, Setup, IsAdmissible, IsOf, Spells, IsIndex, IsVoid, Value, Metric}
+use Rattle.egt_check.specs.Prelude.{StepAlike, Facts, Tables, ShowsOf}
 
 module _ (facts : Facts) where
   -- an image of its settled form plays like a position
@@ -33,6 +34,21 @@ module _ (facts : Facts) where
       let spelled = facts.spelled_class c i is.image is.spells in
       let settled = facts.image_class is.image is.settled c spelled.0 (facts.image_admissible is.settled is.image s_ok is.images) (facts.images_back is.settled is.image s_ok is.images) spelled.1 in
       (settled.0, (facts.settled_class p is.settled c settled.0 is.settles).1 settled.1)
+
+  -- what spells a code that is not void has it as its index
+  pub spelled_index : (c i : ℕ) (p : Setup) → c < 36 → Spells c i p → ¬ IsVoid c i → IsIndex c p i
+  spelled_index c i p c_in spells index = of_same (cases_eq there.0 i)
+    where
+      of : (flipped : Bool) × IsOf c flipped p
+      of = facts.spelled_class c i p spells
+
+      there : (j : ℕ) × IsIndex c p j
+      there = facts.some_index p c of.0 c_in spells.admissible of.1
+
+      of_same : (there.0 ≡ i) ⊎ (there.0 ≢ i) → IsIndex c p i
+      of_same (inl e) = subst (IsIndex c p) e there.1
+      of_same (inr other) = absurd (index (λ q ok is.
+          other (facts.one_index p c there.0 i spells.admissible there.1 (facts.index_spells q p c i ok is spells))))
 
   -- an image has the index of the position
   pub image_index : (c i : ℕ) (p q : Setup) → c < 36 → IsAdmissible p → AreImages p q → IsIndex c p i → IsIndex c q i

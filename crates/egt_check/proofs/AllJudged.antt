@@ -1,9 +1,9 @@
 -- Entries that are due to the greatest scores of all moves keep the rules.
-use Rattle.egt_check.specs.Prelude.{◌≡◌, ◌≢◌, ℕ, ◌%◌, ◌<◌, ◌⊎◌, Bool, false, None, arith, sym, ap, ◌∙◌, inl, inr}
+use Rattle.egt_check.specs.Prelude.{◌≡◌, ◌≢◌, ℕ, ◌<◌, ◌⊎◌, Bool, false, None, arith, sym, ◌∙◌, inl, inr}
 use Rattle.egt_check.specs.Prelude.{cases_eq, IsSettled, Setup, IsAdmissible, Side, Spells, IsIndex, IsVoid, size_of}
 use Rattle.egt_check.specs.Prelude.{TellsMen, HasStand, ShelfMen, byte_score, due_score, NoMove, chess, TableValue}
 use Rattle.egt_check.specs.Prelude.{Metric, Mate, Zeroing, stand_on, AreAlike, AreGiven, AreAllScores, AreTablesOf}
-use Rattle.egt_check.specs.Prelude.{IsRightAt, IsJudged, IsAtEnd, Tables, entry_at, score_at, FourMen}
+use Rattle.egt_check.specs.Prelude.{IsRightAt, IsJudged, IsAtEnd, Tables, entry_at, score_at, FourMen, nat_tests}
 use Rattle.egt_check.proofs.FirstRule.{void_judged}
 use Rattle.egt_check.proofs.QuietGiven.{low_score}
 
@@ -21,13 +21,7 @@ pub record Says (tables : Tables) (four : FourMen) (men : ShelfMen) (side : Side
 
 -- an entry with a byte of its own has a score
 pub some_score : (e : ℕ) → e ≢ 0 → e ≢ 2 → e < 254 → byte_score e ≢ 0
-some_score e some other low none = elim (cases_eq e 1) [
-  | inl one ↦ let is = ap byte_score one in omega (arith, is, none)
-  | inr more ↦ elim (cases_eq (e % 2) 0) [
-    | inl even ↦ grind (arith, some, other, low, none, more, even)
-    | inr odd ↦ grind (arith, some, other, low, none, more, odd)
-  ]
-]
+some_score e some other low none = grind (arith, nat_tests)
 
 module _ (tables : Tables) (four : FourMen) (men : ShelfMen) (side : Side) (passed : Bool) (a b : ℕ) (says : Says tables four men side passed a b) (are : AreTablesOf tables four men) (i : ℕ) (below : i < size_of four.own.class) where
   abbrev pub own : TableValue

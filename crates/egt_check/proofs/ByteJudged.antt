@@ -1,17 +1,17 @@
 -- Entries whose bytes are due to the greatest bytes of the moves are right.
 use Rattle.egt_check.specs.Prelude.{◌≡◌, ◌≢◌, ◌⊎◌, ℕ, ◌+◌, ◌-◌, ◌*◌, ◌/◌, ◌%◌, ◌<◌, ◌≤◌, Bool, true, false, cond, eqb}
-use Rattle.egt_check.specs.Prelude.{max, Option, Some, None, IfSome, arith, refl, sym, ap, ◌∙◌, inl, inr, subst}
-use Rattle.egt_check.specs.Prelude.{cases_eq, cases_lt, cond_above, cond_below, eq-eqb, eqb_tells, Setup, IsAdmissible}
+use Rattle.egt_check.specs.Prelude.{max, Option, Some, None, arith, refl, sym, ap, ◌∙◌, inl, inr, subst}
+use Rattle.egt_check.specs.Prelude.{cases_eq, cases_lt, eq-eqb, eqb_tells, nat_tests, Setup, IsAdmissible, shown_once}
 use Rattle.egt_check.specs.Prelude.{byte_score, due_score, zeroing_score, Value, NoMove, chess, Leads, Move, Metric}
 use Rattle.egt_check.specs.Prelude.{Mate, Zeroing, ByMetric, Outcome, Shows, Facts, AreAlike, AreGiven, HasScores}
 use Rattle.egt_check.specs.Prelude.{IsGiven, IsKnown, IsZeroingScore, IsCompared, IsJudged, IsAtEnd, IsBest, IsDue}
-use Rattle.egt_check.specs.Prelude.{IsCounted, IsShownBy, Scores, entry_before, number_at, score_of, value_of}
+use Rattle.egt_check.specs.Prelude.{IsShownBy, Scores, number_at, score_of, value_of}
 use Rattle.egt_check.specs.Prelude.{zeroing_said, Tables, HasEntry, ShowsOf, entry_at, Spells, IsVoid, SameKind}
 use Rattle.egt_check.specs.Prelude.{TableValue, ComesOf, at_end_due, both_due}
 use Rattle.egt_entries.specs.declared.outcome.Outcome.TheVariants as outcomes
 use Rattle.egt_entries.proofs.Scoring.{told}
 use Rattle.egt_check.proofs.ShelfJudged.{right_judged}
-use Rattle.egt_check.proofs.Showing.{one_after, shows_once}
+use Rattle.egt_check.proofs.Showing.{one_after}
 use Rattle.egt_check.proofs.Stepping.{Seen, scores_by}
 
 -- ---- what a byte is
@@ -21,12 +21,6 @@ if_not a b x y other = elim (eqb_tells a b) [ inl h ↦ absurd (other h.1) | inr
 
 pub if_same : (a b x y : ℕ) → a ≡ b → cond (eqb a b) x y ≡ x
 if_same a b x y same = ap (λ (t : Bool). cond t x y) (eq-eqb a b same)
-
-byte_win : (x : ℕ) → x ≢ 0 → x ≢ 1 → x % 2 ≡ 0 → byte_score x ≡ (x - 2) / 2
-byte_win x some odd even = if_not x 0 _ _ some ∙ if_not x 1 _ _ odd ∙ if_same (x % 2) 0 _ _ even
-
-pub byte_loss : (x : ℕ) → x ≢ 1 → x % 2 ≡ 1 → byte_score x ≡ 255 - (x - 3) / 2
-byte_loss x other odd = if_not x 0 _ _ (λ e. omega (arith, e, odd)) ∙ if_not x 1 _ _ other ∙ if_not (x % 2) 0 _ _ (λ e. omega (arith, e, odd))
 
 -- what an entry with a byte of its own shows, and its byte
 pub Byte : Outcome → ℕ → ℕ → Type 0
@@ -39,17 +33,18 @@ unfolding Byte
 byte_told x known = elim (cases_eq x 1) [
   | inl draw ↦ (outcomes.Draw, (draw, ap byte_score draw))
   | inr other ↦ elim (cases_eq (x % 2) 0) [
-    | inl even ↦ (outcomes.Win ((x - 2) / 2), (omega (arith, even, known.some), byte_win x known.some other even, omega (arith, even, known.some, known.other), omega (arith, known.low)))
-    | inr odd ↦ let o : x % 2 ≡ 1 = omega (arith, odd) in let is = byte_loss x other o in
-        (outcomes.Loss ((x - 3) / 2), (omega (arith, o, other), omega (arith, is, known.low), omega (arith, known.low)))
+    | inl even ↦ (outcomes.Win ((x - 2) / 2), grind (arith, nat_tests))
+    | inr odd ↦ (outcomes.Loss ((x - 3) / 2), grind (arith, nat_tests))
   ]
 ]
 
 byte_shows : (o : Outcome) (x g : ℕ) → Byte o x g → IsShownBy x (Some o)
 unfolding Byte
-byte_shows (outcomes.Win k) x g h = let is = h.0 in let some = h.2 in let few = h.3 in ((some, omega (arith, few)), is)
-byte_shows (outcomes.Loss k) x g h = let few = h.2 in (omega (arith, few), h.0)
-byte_shows outcomes.Draw x g h = (tt, h.0)
+byte_shows o x g h = grind arith
+
+no_byte : (o : Outcome) (x g : ℕ) → Byte o x g → g ≢ 0
+unfolding Byte
+no_byte o x g h = grind arith
 
 -- ---- bytes and the scores of the rules
 
@@ -70,105 +65,31 @@ stands_for draw g = elim (cases_lt 128 g) [
 -- greater bytes stand for greater scores
 stands_rising : (draw a b s t : ℕ) → 128 ≤ draw → draw ≤ 64000 → StandsFor draw a s → StandsFor draw b t → a ≤ b → s ≤ t
 unfolding StandsFor
-stands_rising draw a b s t low high (inl x) (inl y) le = omega (arith, x.1, y.1, le)
-stands_rising draw a b s t low high (inl x) (inr (inl y)) le = absurd (let e = y.0 in let g = x.0 in omega (arith, e, g, le))
-stands_rising draw a b s t low high (inl x) (inr (inr y)) le = absurd (let e = y.0 in let g = x.0 in omega (arith, e, g, le))
-stands_rising draw a b s t low high (inr (inl x)) (inl y) le = let e = x.1 in let f = y.1 in let g = y.0 in omega (arith, e, f, g, high)
-stands_rising draw a b s t low high (inr (inl x)) (inr (inl y)) le = let e = x.1 in let f = y.1 in omega (arith, e, f)
-stands_rising draw a b s t low high (inr (inl x)) (inr (inr y)) le = absurd (let e = x.0 in let f = y.0 in omega (arith, e, f, le))
-stands_rising draw a b s t low high (inr (inr x)) (inl y) le = let e = x.1 in let f = y.1 in omega (arith, e, f, le)
-stands_rising draw a b s t low high (inr (inr x)) (inr (inl y)) le = let e = x.1 in let f = y.1 in let g = x.0 in omega (arith, e, f, g, low)
-stands_rising draw a b s t low high (inr (inr x)) (inr (inr y)) le = let e = x.1 in let f = y.1 in omega (arith, e, f, le)
+stands_rising draw a b s t low high x y le = omega (arith, x, y)
 
 mate_stands : (o : Outcome) (x g score : ℕ) → Byte o x g → StandsFor 32002 g score → score ≡ score_of (Some o)
 unfolding Byte StandsFor
-mate_stands (outcomes.Win k) x g score h (inl s) = absurd (let a = h.1 in let b = h.3 in let c = s.0 in omega (arith, a, b, c))
-mate_stands (outcomes.Win k) x g score h (inr (inl s)) = absurd (let a = h.1 in let b = h.3 in let c = s.0 in omega (arith, a, b, c))
-mate_stands (outcomes.Win k) x g score h (inr (inr s)) = s.1 ∙ h.1
-mate_stands (outcomes.Loss k) x g score h (inl s) = let a = h.1 in let b = s.1 in omega (arith, a, b)
-mate_stands (outcomes.Loss k) x g score h (inr (inl s)) = absurd (let a = h.1 in let b = h.2 in let c = s.0 in omega (arith, a, b, c))
-mate_stands (outcomes.Loss k) x g score h (inr (inr s)) = absurd (let a = h.1 in let b = h.2 in let c = s.0 in omega (arith, a, b, c))
-mate_stands outcomes.Draw x g score h (inl s) = absurd (let a = h.1 in let c = s.0 in omega (arith, a, c))
-mate_stands outcomes.Draw x g score h (inr (inl s)) = s.1
-mate_stands outcomes.Draw x g score h (inr (inr s)) = absurd (let a = h.1 in let c = s.0 in omega (arith, a, c))
+mate_stands o x g score h s = grind arith
 
 -- ---- a move's scores
 
-zeroing_lost : (x : ℕ) → 128 < x → zeroing_score x ≡ 255
-zeroing_lost x high = sym (cond_below 128 x 255 _ high)
-
-zeroing_low : (x : ℕ) → x < 128 → zeroing_score x ≡ 0
-zeroing_low x low = sym (cond_above 128 x 255 _ 0 (omega (arith, low)) (sym (if_not x 128 128 0 (λ e. omega (arith, e, low)))))
-
-zeroing_drawn : (x : ℕ) → x ≡ 128 → zeroing_score x ≡ 128
-zeroing_drawn x same = ap zeroing_score same
-
 -- where a move that zeroes leads to less, it is worth no more
 pub zeroing_above : (v w : ℕ) → v ≤ w → zeroing_score v ≤ zeroing_score w
-zeroing_above v w le = elim (cases_lt 128 w) [
-  | inl more ↦ let high = zeroing_lost w more in elim (cases_lt 128 v) [
-    | inl lost ↦ let other = zeroing_lost v lost in omega (arith, high, other)
-    | inr rest ↦ elim (cases_eq v 128) [
-      | inl draw ↦ let other = zeroing_drawn v draw in omega (arith, high, other)
-      | inr apart ↦ let other = zeroing_low v (omega (arith, rest, apart)) in omega (arith, high, other)
-    ]
-  ]
-  | inr less ↦ elim (cases_eq v 128) [
-    | inl draw ↦ let same : v ≡ w = omega (arith, less, draw, le) in let e = ap zeroing_score same in omega (arith, e)
-    | inr apart ↦ let other = zeroing_low v (omega (arith, less, apart, le)) in omega (arith, other)
-  ]
-]
+zeroing_above v w le = grind (arith, nat_tests)
 
 -- moves that zero are worth as much together as the best of them
 pub zeroing_max : (u v : ℕ) → max (zeroing_score u) (zeroing_score v) ≡ zeroing_score (max u v)
-zeroing_max u v = elim (cases_lt u v) [
-  | inl less ↦ let le = zeroing_above u v (omega (arith, less)) in let is : max u v ≡ v = omega (arith, less) in let same = ap zeroing_score is in omega (arith, le, same)
-  | inr more ↦ let le = zeroing_above v u (omega (arith, more)) in let is : max u v ≡ u = omega (arith, more) in let same = ap zeroing_score is in omega (arith, le, same)
-]
+zeroing_max u v = grind (arith, nat_tests)
 
 -- what is said in the zeroing column by a move that zeroes
 zeroes_stands : (o : Outcome) (said : Option Outcome) (e x z score : ℕ) → Byte o e x → z ≡ zeroing_score x → StandsFor 32001 z score → score ≡ score_of (zeroing_said (Some o) said true)
 unfolding Byte StandsFor
-zeroes_stands (outcomes.Win k) said e x z score h is s = let a = h.1 in let b = h.3 in let low = zeroing_low x (omega (arith, a, b)) in elim s [
-  | inl c ↦ absurd (let d = c.0 in omega (arith, is, low, d))
-  | inr (inl c) ↦ absurd (let d = c.0 in omega (arith, is, low, d))
-  | inr (inr c) ↦ c.1 ∙ is ∙ low
-]
-zeroes_stands (outcomes.Loss k) said e x z score h is s = let a = h.1 in let b = h.2 in let high = zeroing_lost x (omega (arith, a, b)) in elim s [
-  | inl c ↦ let d = c.1 in omega (arith, is, high, d)
-  | inr (inl c) ↦ absurd (let d = c.0 in omega (arith, is, high, d))
-  | inr (inr c) ↦ absurd (let d = c.0 in omega (arith, is, high, d))
-]
-zeroes_stands outcomes.Draw said e x z score h is s = let same = zeroing_drawn x h.1 in elim s [
-  | inl c ↦ absurd (let d = c.0 in omega (arith, is, same, d))
-  | inr (inl c) ↦ c.1
-  | inr (inr c) ↦ absurd (let d = c.0 in omega (arith, is, same, d))
-]
+zeroes_stands o said e x z score h is s = grind (arith, nat_tests)
 
 -- and by another
 other_stands : (o o' : Outcome) (e f x z score : ℕ) → AreAlike e f → Byte o e x → Byte o' f z → StandsFor 32001 z score → score ≡ score_of (zeroing_said (Some o) (Some o') false)
 unfolding Byte StandsFor
-other_stands (outcomes.Win k) (outcomes.Win l) e f x z score alike h i s = let a = i.1 in let b = i.3 in elim s [
-  | inl c ↦ absurd (let d = c.0 in omega (arith, a, b, d))
-  | inr (inl c) ↦ absurd (let d = c.0 in omega (arith, a, b, d))
-  | inr (inr c) ↦ c.1 ∙ a
-]
-other_stands (outcomes.Loss k) (outcomes.Loss l) e f x z score alike h i s = let a = i.1 in let b = i.2 in elim s [
-  | inl c ↦ let d = c.1 in omega (arith, a, d)
-  | inr (inl c) ↦ absurd (let d = c.0 in omega (arith, a, b, d))
-  | inr (inr c) ↦ absurd (let d = c.0 in omega (arith, a, b, d))
-]
-other_stands outcomes.Draw outcomes.Draw e f x z score alike h i s = let a = i.1 in elim s [
-  | inl c ↦ absurd (let d = c.0 in omega (arith, a, d))
-  | inr (inl c) ↦ c.1
-  | inr (inr c) ↦ absurd (let d = c.0 in omega (arith, a, d))
-]
-other_stands (outcomes.Win k) (outcomes.Loss l) e f x z score alike h i s = absurd (let a = h.0 in let b = i.0 in omega (arith, a, b, alike.parity))
-other_stands (outcomes.Loss k) (outcomes.Win l) e f x z score alike h i s = absurd (let a = h.0 in let b = i.0 in omega (arith, a, b, alike.parity))
-other_stands (outcomes.Win k) outcomes.Draw e f x z score alike h i s = absurd (let one = alike.drawn.1 i.0 in let a = h.0 in omega (arith, one, a))
-other_stands (outcomes.Loss k) outcomes.Draw e f x z score alike h i s = absurd (let one = alike.drawn.1 i.0 in let a = h.0 in omega (arith, one, a))
-other_stands outcomes.Draw (outcomes.Win l) e f x z score alike h i s = absurd (let one = alike.drawn.0 h.0 in let a = i.0 in omega (arith, one, a))
-other_stands outcomes.Draw (outcomes.Loss l) e f x z score alike h i s = absurd (let one = alike.drawn.0 h.0 in let a = i.0 in omega (arith, one, a))
+other_stands o o' e f x z score alike h i s = grind arith
 
 module _ (facts : Facts) (tables : Tables) (p : Setup) (ok : IsAdmissible p) (q : Setup) (m : Move) (leads : Leads p m q) (x z : ℕ) (h : HasScores tables p q m x z) where
   o : (o : Outcome) × Byte o h.first (byte_score h.first)
@@ -215,13 +136,8 @@ module _ (facts : Facts) (tables : Tables) (p : Setup) (ok : IsAdmissible p) (q 
 
   -- the byte of a move is not 0
   pub some_byte : x ≢ 0
-  unfolding o Byte
-  some_byte none = of o.0 byte
-    where
-      of : (o : Outcome) → Byte o h.first x → ⊥
-      of (outcomes.Win k) b = let a = b.1 in let c = b.2 in omega (arith, a, c, none)
-      of (outcomes.Loss k) b = let a = b.1 in let c = b.2 in omega (arith, a, c, none)
-      of outcomes.Draw b = let a = b.1 in omega (arith, a, none)
+  unfolding o
+  some_byte none = no_byte o.0 h.first x byte none
 
 -- ---- the greatest of all moves
 
@@ -280,124 +196,45 @@ module _ (facts : Facts) (tables : Tables) (p : Setup) (ok : IsAdmissible p) (g 
 
 -- ---- the entry that is due
 
-due_low : (g : ℕ) → g < 128 → due_score g ≡ 254 - g
-due_low g low = sym (cond_below g 128 (254 - g) (256 - g) low)
-
-due_high : (g : ℕ) → 128 ≤ g → due_score g ≡ 256 - g
-due_high g high = sym (cond_above g 128 (254 - g) (256 - g) (256 - g) high refl)
-
 -- what a greatest byte may be
 MayBe : ℕ → Type 0
 MayBe g = (g ≤ 125) ⊎ ((g ≡ 128) ⊎ ((130 ≤ g) × (g ≤ 255)))
 
 byte_may : (o : Outcome) (x g : ℕ) → Byte o x g → MayBe g
 unfolding Byte MayBe
-byte_may (outcomes.Win k) x g h = inl (let a = h.1 in let b = h.3 in omega (arith, a, b))
-byte_may (outcomes.Loss k) x g h = inr (inr (let a = h.1 in let b = h.2 in (omega (arith, a, b), omega (arith, a))))
-byte_may outcomes.Draw x g h = inr (inl h.1)
+byte_may o x g h = grind arith
 
 zeroing_may : (x : ℕ) → MayBe (zeroing_score x)
 unfolding MayBe
-zeroing_may x = elim (cases_lt 128 x) [
-  | inl high ↦ let is = zeroing_lost x high in inr (inr (omega (arith, is), omega (arith, is)))
-  | inr le ↦ elim (cases_eq x 128) [
-    | inl same ↦ inr (inl (zeroing_drawn x same))
-    | inr other ↦ let is = zeroing_low x (omega (arith, le, other)) in inl (omega (arith, is))
-  ]
-]
+zeroing_may x = grind (arith, nat_tests)
 
 -- an entry with the byte that is due comes of the score
 comes_decisive : (draw g score e : ℕ) (o : Outcome) → draw ≤ 32002 → 32001 ≤ draw → MayBe g → StandsFor draw g score → Byte o e (due_score g) → e ≢ 1 → ComesOf score e
 unfolding Byte MayBe StandsFor
-comes_decisive draw g score e outcomes.Draw top low may stands byte other = absurd (other byte.0)
-comes_decisive draw g score e (outcomes.Win n) top low (inl small) stands byte other = absurd (let is = due_low g (omega (arith, small)) in let a = byte.1 in let b = byte.3 in omega (arith, is, a, b, small))
-comes_decisive draw g score e (outcomes.Loss n) top low (inl small) stands byte other = λ said counted same. of said counted same
-  where
-    due : due_score g ≡ 254 - g
-    due = due_low g (omega (arith, small))
-
-    value : score ≡ g
-    value = elim stands [
-      | inl c ↦ absurd (let d = c.0 in omega (arith, d, small))
-      | inr (inl c) ↦ absurd (let d = c.0 in omega (arith, d, small))
-      | inr (inr c) ↦ c.1
-    ]
-
-    of : (said : Option Outcome) → IfSome said IsCounted → score ≡ score_of said → e ≡ entry_before said
-    of None counted same = absurd (omega (arith, same, value, small))
-    of (Some outcomes.Draw) counted same = absurd (omega (arith, same, value, small))
-    of (Some (outcomes.Loss j)) counted same = absurd (omega (arith, same, value, small, counted))
-    of (Some (outcomes.Win j)) counted same = let a = byte.0 in let b = byte.1 in omega (arith, same, value, due, a, b, small)
-comes_decisive draw g score e (outcomes.Win n) top low (inr (inl same)) stands byte other = absurd (let is = due_high g (omega (arith, same)) in let a = byte.1 in let b = byte.3 in omega (arith, is, a, b, same))
-comes_decisive draw g score e (outcomes.Loss n) top low (inr (inl same)) stands byte other = absurd (let is = due_high g (omega (arith, same)) in let a = byte.1 in let b = byte.2 in omega (arith, is, a, b, same))
-comes_decisive draw g score e (outcomes.Loss n) top low (inr (inr high)) stands byte other = absurd (let f = high.0 in let t = high.1 in let is = due_high g (omega (arith, f)) in let a = byte.1 in let b = byte.2 in omega (arith, is, a, b, f, t))
-comes_decisive draw g score e (outcomes.Win n) top low (inr (inr high)) stands byte other = λ said counted same. of said counted same
-  where
-    from : 130 ≤ g
-    from = high.0
-
-    to : g ≤ 255
-    to = high.1
-
-    due : due_score g ≡ 256 - g
-    due = due_high g (omega (arith, from))
-
-    value : score ≡ 64745 + g
-    value = elim stands [
-      | inl c ↦ c.1
-      | inr (inl c) ↦ absurd (let d = c.0 in omega (arith, d, from))
-      | inr (inr c) ↦ absurd (let d = c.0 in omega (arith, d, from))
-    ]
-
-    of : (said : Option Outcome) → IfSome said IsCounted → score ≡ score_of said → e ≡ entry_before said
-    of None counted same = absurd (omega (arith, same, value, from))
-    of (Some outcomes.Draw) counted same = absurd (omega (arith, same, value, from))
-    of (Some (outcomes.Win j)) counted same = absurd (omega (arith, same, value, from, counted))
-    of (Some (outcomes.Loss j)) counted same = let a = byte.0 in let b = byte.1 in omega (arith, same, value, due, a, b, from, to, counted)
+comes_decisive draw g score e o top low may stands byte other = λ said counted same. grind (arith, nat_tests)
 
 -- a draw is due to a draw alone
 drawn_due : (g : ℕ) → MayBe g → due_score g ≡ 128 → g ≡ 128
 unfolding MayBe
-drawn_due g (inl small) is = absurd (let due = due_low g (omega (arith, small)) in omega (arith, is, due, small))
-drawn_due g (inr (inl same)) is = same
-drawn_due g (inr (inr high)) is = absurd (let f = high.0 in let t = high.1 in let due = due_high g (omega (arith, f)) in omega (arith, is, due, f, t))
+drawn_due g may is = grind (arith, nat_tests)
 
 stands_drawn : (draw g score : ℕ) → g ≡ 128 → StandsFor draw g score → score ≡ draw
 unfolding StandsFor
-stands_drawn draw g score same (inl c) = absurd (let d = c.0 in omega (arith, d, same))
-stands_drawn draw g score same (inr (inl c)) = c.1
-stands_drawn draw g score same (inr (inr c)) = absurd (let d = c.0 in omega (arith, d, same))
+stands_drawn draw g score same stands = omega (arith, stands)
 
 comes_drawn : (score : ℕ) → score ≡ 32002 → ComesOf score 1
-comes_drawn score is None counted same = absurd (omega (arith, is, same))
-comes_drawn score is (Some outcomes.Draw) counted same = refl
-comes_drawn score is (Some (outcomes.Win j)) counted same = absurd (omega (arith, is, same, counted))
-comes_drawn score is (Some (outcomes.Loss j)) counted same = absurd (omega (arith, is, same, counted))
+comes_drawn score is = λ said counted same. grind arith
 
 comes_none : (score : ℕ) → score ≡ 32001 → ComesOf score 0
-comes_none score is None counted same = refl
-comes_none score is (Some outcomes.Draw) counted same = absurd (omega (arith, is, same))
-comes_none score is (Some (outcomes.Win j)) counted same = absurd (omega (arith, is, same, counted))
-comes_none score is (Some (outcomes.Loss j)) counted same = absurd (omega (arith, is, same, counted))
+comes_none score is = λ said counted same. grind arith
+
+never_drawn : (o : Outcome) (x : ℕ) → Shows x (value_of o) → x ≡ 1 → IsCompared Zeroing o → ⊥
+never_drawn o x shows one compared = grind arith
 
 same_kinds : (o o' : Outcome) (e f : ℕ) → AreAlike e f → Shows e (value_of o) → Shows f (value_of o') → SameKind (value_of o) (value_of o')
-same_kinds (outcomes.Win k) (outcomes.Win l) e f alike x y = tt
-same_kinds (outcomes.Loss k) (outcomes.Loss l) e f alike x y = tt
-same_kinds outcomes.Draw outcomes.Draw e f alike x y = tt
-same_kinds (outcomes.Win k) (outcomes.Loss l) e f alike x y = absurd (let a = x.1 in let b = y.1 in omega (arith, a, b, alike.parity))
-same_kinds (outcomes.Loss k) (outcomes.Win l) e f alike x y = absurd (let a = x.1 in let b = y.1 in omega (arith, a, b, alike.parity))
-same_kinds (outcomes.Win k) outcomes.Draw e f alike x y = absurd (let one = alike.drawn.1 y.1 in let a = x.1 in omega (arith, one, a))
-same_kinds (outcomes.Loss k) outcomes.Draw e f alike x y = absurd (let one = alike.drawn.1 y.1 in let a = x.1 in omega (arith, one, a))
-same_kinds outcomes.Draw (outcomes.Win l) e f alike x y = absurd (let one = alike.drawn.0 x.1 in let a = y.1 in omega (arith, one, a))
-same_kinds outcomes.Draw (outcomes.Loss l) e f alike x y = absurd (let one = alike.drawn.0 x.1 in let a = y.1 in omega (arith, one, a))
+same_kinds o o' e f alike x y = grind arith
 
 module _ (facts : Facts) (tables : Tables) (t : TableValue) (i : ℕ) (p : Setup) (spells : Spells t.class i p) (alone : (q : Setup) → Spells t.class i q → q ≡ p) (index : ¬ IsVoid t.class i) (alike : AreAlike (entry_at t Mate i) (entry_at t Zeroing i)) where
-  e : ℕ
-  e = entry_at t Mate i
-
-  f : ℕ
-  f = entry_at t Zeroing i
-
   own : (o : Outcome) × Byte o (entry_at t Mate i) (byte_score (entry_at t Mate i))
   own = byte_told (entry_at t Mate i) alike.mate_known
 
@@ -415,8 +252,8 @@ module _ (facts : Facts) (tables : Tables) (t : TableValue) (i : ℕ) (p : Setup
   agrees : (v w : Value) → Shows (entry_at t Mate i) v → Shows (entry_at t Zeroing i) w → SameKind v w
   unfolding own other
   agrees v w x y =
-      subst (λ v. SameKind v w) (shows_once (entry_at t Mate i) (value_of own.0) v mate_shown x)
-      (subst (λ w. SameKind (value_of own.0) w) (shows_once (entry_at t Zeroing i) (value_of other.0) w zeroing_shown y) (same_kinds own.0 other.0 (entry_at t Mate i) (entry_at t Zeroing i) alike mate_shown zeroing_shown))
+      subst (λ v. SameKind v w) (shown_once (entry_at t Mate i) (value_of own.0) v mate_shown x)
+      (subst (λ w. SameKind (value_of own.0) w) (shown_once (entry_at t Zeroing i) (value_of other.0) w zeroing_shown y) (same_kinds own.0 other.0 (entry_at t Mate i) (entry_at t Zeroing i) alike mate_shown zeroing_shown))
 
   -- entries that are due, or draws in the zeroing column
   judged_by : (due : ByMetric) → ((metric : Metric) → IsDue (ShowsOf tables) metric p (number_at due metric)) → entry_at t Mate i ≡ due.mate → (IsCompared Zeroing other.0 → entry_at t Zeroing i ≡ due.zeroing) → (metric : Metric) → IsJudged tables t metric i None
@@ -431,9 +268,6 @@ module _ (facts : Facts) (tables : Tables) (t : TableValue) (i : ℕ) (p : Setup
       numbers Zeroing = refl
 
   module _ (g z : ℕ) (given : AllGiven tables p g z) (some : g ≢ 0) (mate_due : byte_score (entry_at t Mate i) ≡ due_score g) (zeroing_due : byte_score (entry_at t Zeroing i) ≡ due_score z) where
-    ok : IsAdmissible p
-    ok = spells.admissible
-
     g_may : MayBe g
     g_may =
         let one = first_given facts tables p spells.admissible g z given some in
@@ -492,13 +326,8 @@ module _ (facts : Facts) (tables : Tables) (t : TableValue) (i : ℕ) (p : Setup
           judged_by (record { mate = entry_at t Mate i; zeroing = entry_at t Zeroing i }) (due (entry_at t Zeroing i) comes) refl (λ compared. refl)
       | inl one ↦
           let drawn = drawn_due z z_may (sym zeroing_due ∙ ap byte_score one) in
-          judged_by (record { mate = entry_at t Mate i; zeroing = 0 }) (due 0 (comes_none second.0 (stands_drawn 32001 z second.0 drawn second.1))) refl (λ compared. absurd (never other.0 zeroing_shown one compared))
+          judged_by (record { mate = entry_at t Mate i; zeroing = 0 }) (due 0 (comes_none second.0 (stands_drawn 32001 z second.0 drawn second.1))) refl (λ compared. absurd (never_drawn other.0 (entry_at t Zeroing i) zeroing_shown one compared))
     ]
-      where
-        never : (o : Outcome) → Shows (entry_at t Zeroing i) (value_of o) → entry_at t Zeroing i ≡ 1 → IsCompared Zeroing o → ⊥
-        never (outcomes.Win k) shows one compared = let a = shows.1 in omega (arith, a, one)
-        never (outcomes.Loss k) shows one compared = let a = shows.1 in omega (arith, a, one)
-        never outcomes.Draw shows one compared = compared
 
   -- without a move the entries tell checkmate or stalemate
   module _ (stuck : NoMove chess p) (x : ℕ) (end : IsAtEnd p x) (mate : entry_at t Mate i ≡ x) (zeroing : entry_at t Zeroing i ≡ x) where

@@ -86,3 +86,24 @@ zeroing_of column four men side a b exits own score e o is =
     both : (taken last first stepped leapt exits own : ℕ) → exits ≡ max taken (max last first) → own ≡ max stepped leapt → max exits own ≡ max taken (max (max stepped last) (max leapt first))
     both taken last first stepped leapt exits own e_is o_is = subst (λ n. max n own ≡ max taken (max (max stepped last) (max leapt first))) (sym e_is)
         (subst (λ n. max (max taken (max last first)) n ≡ max taken (max (max stepped last) (max leapt first))) (sym o_is) (greatest taken last first stepped leapt))
+
+-- where neither man is a pawn of that side, that of the moves that leave the class
+pub zeroed_alone : (column : Column) (four : FourMen) (men : ShelfMen) (side : Side) (a b exits : ℕ)
+    → ¬ ((men.last.kind ≡ P) × (men.last.side ≡ side)) → ¬ ((men.one.kind ≡ P) × (men.one.side ≡ side))
+    → AreExits column four.children men side a b exits → AreZeroingMoves column four men side a b exits
+zeroed_alone column four men side a b exits last one e =
+    zeroing_of column four men side a b exits 0 exits e own (omega arith)
+  where
+    own : AreOwnPawnMoves column four.own men side a b 0
+    own = record {
+      by_last = 0;
+      by_first = 0;
+      last_is = no_advances column four.own false men side a b last;
+      first_is = no_advances column four.own true (men_swapped men) side b a one;
+      is = refl;
+    }
+
+-- raised to one score and then to another
+pub raised_twice : (low one two middle high : ℕ) → middle ≡ max low one → high ≡ max middle two
+    → high ≡ max low (max one two)
+raised_twice low one two middle high once again = omega (arith, once, again)

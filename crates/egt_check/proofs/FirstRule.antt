@@ -1,33 +1,12 @@
 -- From what comparing finds to the first rule that an entry breaks.
-use Rattle.egt_check.specs.Prelude.{◌≡◌, ◌≢◌, ℕ, ◌-◌, ◌/◌, ◌%◌, ◌<◌, ◌≤◌, inl, inr, Option, Some, None, sym, subst, ◌∙◌}
-use Rattle.egt_check.specs.Prelude.{arith, cases_lt, Setup, Spells, IsVoid, Value, Win, Loss, Draw, Metric, Mate}
+use Rattle.egt_check.specs.Prelude.{◌≡◌, ◌≢◌, ℕ, ◌<◌, Option, Some, None, sym, subst, ◌∙◌}
+use Rattle.egt_check.specs.Prelude.{arith, Setup, Spells, IsVoid, Value, Win, Loss, Draw, Metric, Mate}
 use Rattle.egt_check.specs.Prelude.{Zeroing, TableValue, Outcome, Rule, entry_of, Shows, FitsBeside, Agree, IsCompared}
-use Rattle.egt_check.specs.Prelude.{Finds, FindsVoid, value_of, IsDueDraw, IsDue, Tables, entry_at, ShowsOf}
+use Rattle.egt_check.specs.Prelude.{Finds, FindsVoid, value_of, IsDueDraw, IsDue, Tables, entry_at, ShowsOf, shown_once}
+use Rattle.egt_check.specs.Prelude.{shown_range, in_range}
 use Rattle.egt_entries.specs.declared.outcome.Outcome.TheVariants as outcomes
 use Rattle.egt_entries.specs.declared.rule.Rule.TheVariants as rules
 use Rattle.egt_entries.specs.Rules.{Fits, AgreesInKind, Keeps, rule_place, IsJudged}
-use Rattle.egt_check.proofs.Showing.{shows_once}
-
--- what shows something is in range, and not 0
-not_zero : (x : ℕ) (v : Value) → Shows x v → x ≢ 0
-not_zero x (Win n) shows = omega (arith, shows.1)
-not_zero x (Loss n) shows = omega (arith, shows.1)
-not_zero x Draw shows = omega (arith, shows.1)
-
-in_range : (x : ℕ) (v : Value) → Shows x v → (x ≢ 2) × (x ≤ 64003)
-in_range x (Win n) shows = (omega (arith, shows.0, shows.1), omega (arith, shows.0, shows.1))
-in_range x (Loss n) shows = (omega (arith, shows.0, shows.1), omega (arith, shows.0, shows.1))
-in_range x Draw shows = (omega (arith, shows.1), omega (arith, shows.1))
-
--- and the other way round
-something : (x : ℕ) → x ≢ 0 → ((v : Value) → ¬ Shows x v) → (x ≢ 2) × (x ≤ 64003) → ⊥
-something x some none range = elim (cases_lt (x % 2) 1) [
-  | inl even ↦ none (Win (x / 2 - 1)) ((omega (arith, some, range.0, range.1), omega (arith, range.1)), omega (arith, some, range.0))
-  | inr odd ↦ elim (cases_lt x 3) [
-    | inl low ↦ none Draw (tt, omega arith)
-    | inr high ↦ none (Loss (x / 2 - 1)) (omega (arith, range.1), omega arith)
-  ]
-]
 
 module _ (tables : Tables) (t : TableValue) (i : ℕ) where
   agrees_in : (metric : Metric) → Agree metric (entry_at t Mate i) (entry_at t metric i) → AgreesInKind t metric i
@@ -50,14 +29,7 @@ module _ (tables : Tables) (t : TableValue) (i : ℕ) where
   kept_before metric n void range kind win loss draw rules.Dead lt = tt
 
   place_below : (rule : Rule) → rule_place rule < 8
-  place_below rules.Void = omega arith
-  place_below rules.Range = omega arith
-  place_below rules.Kind = omega arith
-  place_below rules.Win = omega arith
-  place_below rules.Loss = omega arith
-  place_below rules.Draw = omega arith
-  place_below rules.Reach = omega arith
-  place_below rules.Dead = omega arith
+  place_below rule = grind arith
 
   -- where no position has the index
   pub void_judged : (metric : Metric) → IsVoid t.class i → (rule : Option Rule) → FindsVoid (entry_at t metric i) rule → IsJudged tables t metric i rule
@@ -66,14 +38,14 @@ module _ (tables : Tables) (t : TableValue) (i : ℕ) where
       (λ lt. ((λ e. void), (λ v. zero)))
       (λ lt. (omega (arith, zero), omega (arith, zero)))
       (λ lt. agrees_in metric (nothing metric zero))
-      (λ lt n shows. absurd (not_zero _ (Win n) shows zero))
-      (λ lt n shows. absurd (not_zero _ (Loss n) shows zero))
-      (λ lt shows. absurd (not_zero _ Draw shows zero))
+      (λ lt n shows. absurd ((shown_range _ (Win n) shows).0 zero))
+      (λ lt n shows. absurd ((shown_range _ (Loss n) shows).0 zero))
+      (λ lt shows. absurd ((shown_range _ Draw shows).0 zero))
       rule (place_below rule)
     where
       nothing : (metric : Metric) → entry_at t metric i ≡ 0 → Agree metric (entry_at t Mate i) (entry_at t metric i)
       nothing Mate e = tt
-      nothing Zeroing e = λ v w there here. absurd (not_zero _ w here e)
+      nothing Zeroing e = λ v w there here. absurd ((shown_range _ w here).0 e)
   void_judged metric void (Some rules.Void) other = record {
     broken = λ keeps. other (keeps.1 void);
     kept = λ rule lt. absurd (omega arith);
@@ -116,19 +88,19 @@ module _ (tables : Tables) (t : TableValue) (i : ℕ) (p : Setup) (spelled : Spe
 
   fits : (outcome : Outcome) → Shows here (value_of outcome) → (IsCompared metric outcome → here ≡ due) → (v : Value) → Fits tables t metric i v
   fits outcome shows is v shows_v q spells =
-      subst (λ w. FitsBeside (ShowsOf tables) metric q w) (shows_once here (value_of outcome) v shows shows_v)
+      subst (λ w. FitsBeside (ShowsOf tables) metric q w) (shown_once here (value_of outcome) v shows shows_v)
       (subst (λ r. FitsBeside (ShowsOf tables) metric r (value_of outcome)) (sym (alone q spells)) (value_fits outcome shows is))
 
   -- an entry that shows something keeps the rules on other kinds
   fits_other : (v w : Value) → Shows here v → (v ≡ w → ⊥) → Fits tables t metric i w
-  fits_other v w shows other shows_w = absurd (other (shows_once here v w shows shows_w))
+  fits_other v w shows other shows_w = absurd (other (shown_once here v w shows shows_w))
 
   -- the first rule that is broken, or that all are kept
   pub judged : (rule : Option Rule) → Finds metric mate_entry here due rule → IsJudged tables t metric i rule
   judged None right =
       λ rule. kept_before tables t i metric 8
-      (λ lt. kept_void (not_zero here (value_of right.outcome) right.shows))
-      (λ lt. in_range here (value_of right.outcome) right.shows)
+      (λ lt. kept_void ((shown_range here (value_of right.outcome) right.shows).0))
+      (λ lt. let shown = shown_range here (value_of right.outcome) right.shows in (shown.1, shown.2))
       (λ lt. agrees_in tables t i metric right.agrees)
       (λ lt n. fits right.outcome right.shows right.is (Win n))
       (λ lt n. fits right.outcome right.shows right.is (Loss n))
@@ -139,7 +111,7 @@ module _ (tables : Tables) (t : TableValue) (i : ℕ) (p : Setup) (spelled : Spe
     kept = λ rule lt. absurd (omega arith);
   }
   judged (Some rules.Range) found = record {
-    broken = λ keeps. something here found.0 found.1 keeps;
+    broken = λ keeps. let shown = in_range here found.0 keeps.0 keeps.1 in found.1 shown.0 shown.1;
     kept = kept_before tables t i metric 1
         (λ lt. kept_void found.0)
         (λ lt. absurd (omega arith)) (λ lt. absurd (omega arith)) (λ lt. absurd (omega arith)) (λ lt. absurd (omega arith)) (λ lt. absurd (omega arith));
@@ -147,8 +119,8 @@ module _ (tables : Tables) (t : TableValue) (i : ℕ) (p : Setup) (spelled : Spe
   judged (Some rules.Kind) found = record {
     broken = λ keeps. found.differs (agrees_by tables t i metric keeps);
     kept = kept_before tables t i metric 2
-        (λ lt. kept_void (not_zero here (value_of found.outcome) found.shows))
-        (λ lt. in_range here (value_of found.outcome) found.shows)
+        (λ lt. kept_void ((shown_range here (value_of found.outcome) found.shows).0))
+        (λ lt. let shown = shown_range here (value_of found.outcome) found.shows in (shown.1, shown.2))
         (λ lt. absurd (omega arith)) (λ lt. absurd (omega arith)) (λ lt. absurd (omega arith)) (λ lt. absurd (omega arith));
   }
   judged (Some rules.Win) found =
@@ -156,8 +128,8 @@ module _ (tables : Tables) (t : TableValue) (i : ℕ) (p : Setup) (spelled : Spe
       record {
         broken = λ keeps. wrong.other (wrong.shows.1 ∙ sym ((is_due.win found.0).0 (keeps found.0 wrong.shows p spelled)));
         kept = kept_before tables t i metric 3
-            (λ lt. kept_void (not_zero here (Win found.0) wrong.shows))
-            (λ lt. in_range here (Win found.0) wrong.shows)
+            (λ lt. kept_void ((shown_range here (Win found.0) wrong.shows).0))
+            (λ lt. let shown = shown_range here (Win found.0) wrong.shows in (shown.1, shown.2))
             (λ lt. agrees_in tables t i metric wrong.agrees)
             (λ lt. absurd (omega arith)) (λ lt. absurd (omega arith)) (λ lt. absurd (omega arith));
       }
@@ -166,8 +138,8 @@ module _ (tables : Tables) (t : TableValue) (i : ℕ) (p : Setup) (spelled : Spe
       record {
         broken = λ keeps. wrong.other (wrong.shows.1 ∙ sym ((is_due.loss found.0).0 (keeps found.0 wrong.shows p spelled)));
         kept = kept_before tables t i metric 4
-            (λ lt. kept_void (not_zero here (Loss found.0) wrong.shows))
-            (λ lt. in_range here (Loss found.0) wrong.shows)
+            (λ lt. kept_void ((shown_range here (Loss found.0) wrong.shows).0))
+            (λ lt. let shown = shown_range here (Loss found.0) wrong.shows in (shown.1, shown.2))
             (λ lt. agrees_in tables t i metric wrong.agrees)
             (λ lt n. fits_other (Loss found.0) (Win n) wrong.shows (λ e. cc))
             (λ lt. absurd (omega arith)) (λ lt. absurd (omega arith));
@@ -175,8 +147,8 @@ module _ (tables : Tables) (t : TableValue) (i : ℕ) (p : Setup) (spelled : Spe
   judged (Some rules.Draw) wrong = record {
     broken = λ keeps. undrawn metric is_due.draw wrong.compared wrong.other wrong.shows.1 (keeps wrong.shows p spelled);
     kept = kept_before tables t i metric 5
-        (λ lt. kept_void (not_zero here Draw wrong.shows))
-        (λ lt. in_range here Draw wrong.shows)
+        (λ lt. kept_void ((shown_range here Draw wrong.shows).0))
+        (λ lt. let shown = shown_range here Draw wrong.shows in (shown.1, shown.2))
         (λ lt. agrees_in tables t i metric wrong.agrees)
         (λ lt n. fits_other Draw (Win n) wrong.shows (λ e. cc))
         (λ lt n. fits_other Draw (Loss n) wrong.shows (λ e. cc))

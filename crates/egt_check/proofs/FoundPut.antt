@@ -1,10 +1,10 @@
 -- Scores that are put, and what they tell.
-use Rattle.egt_check.specs.Prelude.{◌≡◌, ◌≢◌, ◌∙◌, ◌⊎◌, ℕ, ◌+◌, ◌*◌, ◌-◌, ◌%◌, ◌<◌, List, true, Option, Some, None}
+use Rattle.egt_check.specs.Prelude.{◌≡◌, ◌≢◌, ◌∙◌, ◌⊎◌, ℕ, ◌+◌, ◌<◌, List, true, Option, Some, None}
 use Rattle.egt_check.specs.Prelude.{length, map, slice_index, Fits, w8, arith, refl, sym, ap, subst, inl, inr}
-use Rattle.egt_check.specs.Prelude.{Each1-get_or, cases_eq, cases_lt, false≢true, nat_tests, Has, Kind, Side, SquareSet}
-use Rattle.egt_check.specs.Prelude.{code_of, kind_digits, kind_less, number_in, size_of, ShelfMen, byte_score}
-use Rattle.egt_check.specs.Prelude.{reach_score, zeroing_score, HasColumn, TableValue, entries_of, Column, IsShelfRow}
-use Rattle.egt_check.specs.Prelude.{square_in, AreAlike, IsKnown, Inside, Part, AreFound, AreTold, IsNearScore, IsPutIn}
+use Rattle.egt_check.specs.Prelude.{Each1-get_or, false≢true, nat_tests, Has, Kind, Side, SquareSet}
+use Rattle.egt_check.specs.Prelude.{code_of, kind_digits, kind_less, number_in, size_of, ShelfMen}
+use Rattle.egt_check.specs.Prelude.{zeroing_score, HasColumn, TableValue, entries_of, Column, IsShelfRow}
+use Rattle.egt_check.specs.Prelude.{square_in, AreAlike, Inside, Part, AreFound, AreTold, IsNearScore, IsPutIn}
 use Rattle.egt_check.specs.Prelude.{IsToldAt, IsValueScore, TellColumn, TellsEntry, near_told, table_told, told}
 use Rattle.egt_check.specs.Prelude.{value_told, IsPut, CodeScores, IsLaneIn}
 use lib.Lanes.{Each1}
@@ -20,99 +20,17 @@ lane_in row kind digit long fits below =
     let s_in = square_in kind digit below in
     (Each1-get_or (Fits w8) row (digit + kind_less kind) 0 (omega (arith, long, s_in)) fits).fits
 
-value_shape : (b : ℕ) → b < 256 → IsValueScore b → ((b ≡ 128) × (value_told b ≡ 1)) ⊎ (((b < 126) × (value_told b ≡ 2 + 2 * b)) ⊎ ((129 < b) × (value_told b ≡ 513 - 2 * b)))
-value_shape b b_in is = elim (cases_eq b 128) [
-  | inl draw ↦ inl (draw, ap value_told draw)
-  | inr other ↦ elim (cases_lt b 128) [
-    | inl low ↦ inr (inl ((let a = is.no_win in let d = is.no_entry in omega (arith, a, d, low)), (let some = is.some in grind (arith, nat_tests, some, other, low))))
-    | inr high ↦ inr (inr ((let a = is.no_loss in omega (arith, a, other, high)), (let some = is.some in grind (arith, nat_tests, some, other, high))))
-  ]
-]
-
 value_tells : (b : ℕ) → b < 256 → IsValueScore b → TellsEntry Mate b
-value_tells b b_in is = elim (value_shape b b_in is) [
-  | inl draw ↦ ap (λ e. byte_score (e % 256)) draw.1 ∙ sym draw.0
-  | inr either ↦ elim either [
-    | inl win ↦ ap (λ e. byte_score (e % 256)) win.1 ∙ win_score b win.0
-    | inr loss ↦ ap (λ e. byte_score (e % 256)) loss.1 ∙ loss_score b loss.0 b_in
-  ]
-]
-  where
-    win_score : (b : ℕ) → b < 126 → byte_score ((2 + 2 * b) % 256) ≡ b
-    win_score b low = grind (arith, nat_tests, low)
-
-    loss_score : (b : ℕ) → 129 < b → b < 256 → byte_score ((513 - 2 * b) % 256) ≡ b
-    loss_score b high b_in = grind (arith, nat_tests, high, b_in)
-
-near_shape : (b : ℕ) → b < 256 → IsNearScore b → ((b ≡ 128) × (near_told b ≡ 1)) ⊎ ((129 < b) × (near_told b ≡ 257 - b))
-near_shape b b_in is = elim (cases_eq b 128) [
-  | inl draw ↦ inl (draw, ap near_told draw)
-  | inr other ↦ inr (
-    (let a = is.no_loss in let high = is.high in omega (arith, a, other, high)),
-    (let high = is.high in grind (arith, nat_tests, other, high)),
-  )
-]
+value_tells b b_in is = grind (arith, nat_tests)
 
 near_tells : (b : ℕ) → b < 256 → IsNearScore b → TellsEntry Reach b
-near_tells b b_in is = elim (near_shape b b_in is) [
-  | inl draw ↦ ap (λ e. reach_score (e % 256)) draw.1 ∙ sym draw.0
-  | inr loss ↦ ap (λ e. reach_score (e % 256)) loss.1 ∙ loss_score b loss.0 b_in
-]
-  where
-    loss_score : (b : ℕ) → 129 < b → b < 256 → reach_score ((257 - b) % 256) ≡ b
-    loss_score b high b_in = grind (arith, nat_tests, high, b_in)
+near_tells b b_in is = grind (arith, nat_tests)
 
 near_known : (b : ℕ) → b < 256 → IsNearScore b → (near_told b ≢ 0) × (near_told b < 128)
-near_known b b_in is = elim (near_shape b b_in is) [
-  | inl draw ↦ let told = draw.1 in ((λ none. omega (arith, told, none)), omega (arith, told))
-  | inr loss ↦ let told = loss.1 in let high = loss.0 in ((λ none. omega (arith, told, none, b_in)), omega (arith, told, high))
-]
-
--- what the shapes zero to
-zeroed_win : (b : ℕ) → b < 126 → zeroing_score b ≡ 0
-zeroed_win b low = grind (arith, nat_tests, low)
-
-zeroed_loss : (b : ℕ) → 129 < b → zeroing_score b ≡ 255
-zeroed_loss b high = grind (arith, nat_tests, high)
-
-known_value : (b : ℕ) → b < 256 → IsValueScore b → IsKnown (value_told b)
-known_value b b_in is = elim (value_shape b b_in is) [
-  | inl draw ↦ let told = draw.1 in record { some = λ none. omega (arith, told, none); other = λ two. omega (arith, told, two); low = omega (arith, told) }
-  | inr either ↦ elim either [
-    | inl win ↦ let told = win.1 in let low = win.0 in let some = is.some in record { some = λ none. omega (arith, told, none); other = λ two. omega (arith, told, two, some); low = omega (arith, told, low) }
-    | inr loss ↦ let told = loss.1 in let high = loss.0 in record { some = λ none. omega (arith, told, none, b_in); other = λ two. omega (arith, told, two, b_in); low = omega (arith, told, high) }
-  ]
-]
+near_known b b_in is = grind (arith, nat_tests)
 
 value_alike : (a b : ℕ) → a < 256 → b < 256 → IsValueScore a → IsValueScore b → zeroing_score a ≡ zeroing_score b → AreAlike (value_told a) (value_told b)
-value_alike a b a_in b_in a_is b_is same =
-    let first_known = known_value a a_in a_is in
-    let second_known = known_value b b_in b_is in
-    elim (value_shape a a_in a_is) [
-      | inl first ↦ elim (value_shape b b_in b_is) [
-        | inl second ↦ let x = first.1 in let y = second.1 in record { mate_known = first_known; zeroing_known = second_known; parity = omega (arith, x, y); drawn = (λ e. y, λ e. x) }
-        | inr either ↦ let at : zeroing_score a ≡ 128 = ap zeroing_score first.0 in elim either [
-          | inl win ↦ absurd (let there = zeroed_win b win.0 in omega (arith, at, there, same))
-          | inr loss ↦ absurd (let there = zeroed_loss b loss.0 in omega (arith, at, there, same))
-        ]
-      ]
-      | inr either ↦ elim either [
-        | inl win ↦ let here = zeroed_win a win.0 in elim (value_shape b b_in b_is) [
-          | inl second ↦ absurd (let at : zeroing_score b ≡ 128 = ap zeroing_score second.0 in omega (arith, at, here, same))
-          | inr other ↦ elim other [
-            | inl also ↦ let x = win.1 in let y = also.1 in let p = win.0 in let q = also.0 in record { mate_known = first_known; zeroing_known = second_known; parity = omega (arith, x, y); drawn = (λ e. absurd (omega (arith, e, x)), λ e. absurd (omega (arith, e, y))) }
-            | inr loss ↦ absurd (let there = zeroed_loss b loss.0 in omega (arith, here, there, same))
-          ]
-        ]
-        | inr loss ↦ let here = zeroed_loss a loss.0 in elim (value_shape b b_in b_is) [
-          | inl second ↦ absurd (let at : zeroing_score b ≡ 128 = ap zeroing_score second.0 in omega (arith, at, here, same))
-          | inr other ↦ elim other [
-            | inl win ↦ absurd (let there = zeroed_win b win.0 in omega (arith, here, there, same))
-            | inr also ↦ let x = loss.1 in let y = also.1 in record { mate_known = first_known; zeroing_known = second_known; parity = omega (arith, x, y, a_in, b_in); drawn = (λ e. absurd (omega (arith, e, x, a_in)), λ e. absurd (omega (arith, e, y, b_in))) }
-          ]
-        ]
-      ]
-    ]
+value_alike a b a_in b_in a_is b_is same = grind (arith, nat_tests)
 
 -- ---- scores that were put
 

@@ -1,17 +1,12 @@
 -- The code of a lane of a shelf.
-use Rattle.egt_check.specs.Prelude.{◌≡◌, ◌≢◌, ℕ, ◌+◌, ◌*◌, ◌<◌, ◌≤◌, Bool, arith, sym, subst, side_number, Kind, Q, R}
-use Rattle.egt_check.specs.Prelude.{B, N, P, K, Side, code_of, places, kind_digits, kind_less, IsShelfOf, IsWithin}
+use Rattle.egt_check.specs.Prelude.{◌≡◌, ◌≢◌, ℕ, ◌+◌, ◌*◌, ◌<◌, ◌≤◌, Bool, arith, sym, subst, side_number, Kind}
+use Rattle.egt_check.specs.Prelude.{Side, code_of, places, kind_digits, kind_less, IsShelfOf, IsWithin}
 use Rattle.egt_check.specs.Prelude.{number_in, size_of, TellsMen, ShelfMen, TableValue, Column, Part, IsBlank, men_on}
 use Rattle.egt_check.specs.Prelude.{stand_on, column_of, IsRightLane, IsRightAtOf, column_score, side_few}
 
 -- a code of a shelf within is below the size
 row_below : (kind : Kind) (shelf first digit size : ℕ) → first < 2 → digit < kind_digits kind → (shelf + 1) * (2 * kind_digits kind) ≤ size → shelf * (2 * kind_digits kind) + first + 2 * digit < size
-row_below P shelf first digit size few below ends = omega (arith, few, below, ends)
-row_below Q shelf first digit size few below ends = omega (arith, few, below, ends)
-row_below R shelf first digit size few below ends = omega (arith, few, below, ends)
-row_below B shelf first digit size few below ends = omega (arith, few, below, ends)
-row_below N shelf first digit size few below ends = omega (arith, few, below, ends)
-row_below K shelf first digit size few below ends = omega (arith, few, below, ends)
+row_below kind shelf first digit size few below ends = grind arith
 
 module _ (passed : Bool) (t : TableValue) (men : ShelfMen) (on shelf : ℕ) (side : Side) (is : IsShelfOf passed t.class shelf (men_on men on)) (within : IsWithin t.class shelf)
     (coded : (n : ℕ) → n < size_of t.class → code_of t.class n < size_of t.class) (y : ℕ) (y_in : y < kind_digits men.last.kind) where

@@ -1,14 +1,10 @@
 -- The entries of a class with one man beside the kings, read by his square.
 use Rattle.egt_check.specs.Prelude.{◌≡◌, ℕ, ◌+◌, ◌-◌, ◌*◌, ◌%◌, ◌<◌, ◌≤◌, ◌⊎◌, Bool, true, false, List, take, drop}
 use Rattle.egt_check.specs.Prelude.{arith, refl, ap, ◌∙◌, inl, inr, subst, slice_index, cases_lt, side_number, MayStand}
-use Rattle.egt_check.specs.Prelude.{P, Man, Side, White, Black, IsLoneRow, lone_stand, kind_digits, kind_less, IsListed}
+use Rattle.egt_check.specs.Prelude.{P, Man, Side, IsLoneRow, lone_stand, kind_digits, kind_less, IsListed}
 use Rattle.egt_check.specs.Prelude.{TellsMen, list_of, Stand, IsRaised, is_pawn, TableValue, entries_of, Column}
-use Rattle.egt_check.specs.Prelude.{column_score, entry_score, pawn_digits, piece_at, piece_digits}
+use Rattle.egt_check.specs.Prelude.{column_score, entry_score, pawn_digits, piece_at, piece_digits, side_few}
 use Rattle.egt_check.proofs.RowRead.{no_score}
-
-side_few : (side : Side) → side_number side < 2
-side_few White = omega arith
-side_few Black = omega arith
 
 module _ (t : TableValue) (column : Column) (man : Man) (white black first : ℕ) (side : Side) (is : IsLoneRow t.class first white black man)
     (one : (passed : Bool) (c x y : ℕ) (stand : Stand) (side : Side) → TellsMen passed c x stand side → TellsMen passed c y stand side → x ≡ y)

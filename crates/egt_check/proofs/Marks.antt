@@ -1,10 +1,10 @@
 -- What the scores of a shelf's mate entries tell, beside the bits of its indexes.
-use Rattle.egt_check.specs.Prelude.{◌≡◌, ◌≢◌, ℕ, ◌+◌, ◌*◌, ◌/◌, ◌%◌, ◌^◌, ◌<◌, ◌==◌, if◌then◌else◌, Bool, true, false}
-use Rattle.egt_check.specs.Prelude.{inl, inr, arith, ap, eqb, refl, sym, ◌∙◌, subst, bit_at, cases_eq, eqb-true}
-use Rattle.egt_check.specs.Prelude.{bit_at-lt, bit_at-zero, div-add-mod', div_below, mod_below, shr-shr, Side, White}
-use Rattle.egt_check.specs.Prelude.{Black, IsVoid, code_of, number_of, places, AreIndexed, AreIndexes, IsWithin}
+use Rattle.egt_check.specs.Prelude.{◌≡◌, ◌≢◌, ℕ, ◌+◌, ◌*◌, ◌/◌, ◌%◌, ◌^◌, ◌<◌, ◌==◌, if◌then◌else◌}
+use Rattle.egt_check.specs.Prelude.{inl, inr, arith, ap, sym, ◌∙◌, subst, bit_at, cases_eq}
+use Rattle.egt_check.specs.Prelude.{bit_at-lt, bit_at-zero, shr-shr, Side, White}
+use Rattle.egt_check.specs.Prelude.{Black, IsVoid, code_of, places, AreIndexed, AreIndexes, IsWithin}
 use Rattle.egt_check.specs.Prelude.{number_in, size_of, Places, TableValue, Mate, Zeroing, entry_at, AreAllAlike}
-use Rattle.egt_check.specs.Prelude.{TellsVoid, TellsVoids, TellsVoidsIn, score_at, side_few}
+use Rattle.egt_check.specs.Prelude.{TellsVoid, TellsVoidsIn, score_at, side_few, nat_tests}
 use Rattle.egt_check.proofs.AllJudged.{some_score}
 use Rattle.egt_check.proofs.QuietGiven.{low_score}
 use Rattle.egt_check.proofs.ToldBytes.{alike_there}
@@ -19,11 +19,7 @@ abbrev pub mark : ℕ → ℕ
 mark score = if score == 0 then 0 else 1
 
 mark_none : (score : ℕ) → mark score ≡ 0 → score ≡ 0
-mark_none score = go (eqb score 0) refl
-  where
-    go : (t : Bool) → eqb score 0 ≡ t → ◌≡◌ {A = ℕ} (if t then 0 else 1) 0 → score ≡ 0
-    go true e is = eqb-true score 0 e
-    go false e is = absurd (omega (arith, is))
+mark_none score is = grind (arith, nat_tests)
 
 -- where no bit is set there are no scores
 pub none_marked : (marks k : ℕ) → marks ≡ 0 → (score : ℕ) → bit_at marks k ≡ mark score → score ≡ 0
@@ -71,28 +67,3 @@ module _ (t : TableValue) where
         tells_at (shelf * (2 * places t.class)) white indexes.white k (number_in t.class shelf White k) (omega arith) (whites k below) are.white same_white below (within White k below)
     shelf_told shelf white black indexes whites blacks are same_white same_black within Black k below =
         tells_at (shelf * (2 * places t.class) + 1) black indexes.black k (number_in t.class shelf Black k) (omega arith) (blacks k below) are.black same_black below (within Black k below)
-
-  -- the codes of all shelves' numbers are all codes
-  module _ (number : (code : ℕ) → code < size_of t.class → (code_of t.class (number_of t.class code) ≡ code) × (number_of t.class code < size_of t.class)) (shelves : ℕ) (whole : shelves * (2 * places t.class) ≡ size_of t.class) (some : 0 < 2 * places t.class)
-      (told : (shelf : ℕ) → shelf < shelves → TellsVoidsIn t shelf) where
-    -- some shelf has the number
-    in_shelf : (n shelf rest : ℕ) → n < size_of t.class → shelf * (2 * places t.class) + rest ≡ n → rest < 2 * places t.class → shelf < shelves → TellsAt n
-    in_shelf n shelf rest below is few shelf_in = elim (cases_eq (rest % 2) 0) [
-      | inl even ↦ subst TellsAt (let at : number_in t.class shelf White (rest / 2) ≡ n = omega (arith, is, even) in at) (told shelf shelf_in White (rest / 2) (omega (arith, few)))
-      | inr odd ↦ subst TellsAt (let at : number_in t.class shelf Black (rest / 2) ≡ n = omega (arith, is, odd) in at) (told shelf shelf_in Black (rest / 2) (omega (arith, few)))
-    ]
-
-    of_number : (n : ℕ) → n < size_of t.class → TellsAt n
-    of_number n below =
-        in_shelf n (n / (2 * places t.class)) (n % (2 * places t.class)) below (div-add-mod' n (2 * places t.class)) (mod_below n (2 * places t.class) some)
-        (div_below n (2 * places t.class) shelves some (subst (λ size. n < size) (sym whole) below))
-
-    pub all_told : TellsVoids t
-    all_told code below = let there = number code below in subst (TellsVoid t) there.0 (of_number (number_of t.class code) there.1)
-
--- a table is whole shelves
-pub whole_shelves : (c size digits : ℕ) → size ≡ size_of c → digits ≡ places c → size_of c % (2 * places c) ≡ 0 → size / (2 * digits) * (2 * places c) ≡ size_of c
-whole_shelves c size digits same_size same none =
-    ap (λ n. n / (2 * digits) * (2 * places c)) same_size
-    ∙ ap (λ n. size_of c / (2 * n) * (2 * places c)) same
-    ∙ (let whole = div-add-mod' (size_of c) (2 * places c) in omega (arith, whole, none))

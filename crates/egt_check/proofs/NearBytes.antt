@@ -1,19 +1,12 @@
 -- Tables whose entries of the nearest mates have bytes of their own.
-use Rattle.egt_check.specs.Prelude.{◌≡◌, ◌≢◌, ℕ, ◌*◌, ◌-◌, ◌<◌, arith, inl, inr, refl, cases_eq, IsVoid, size_of}
-use Rattle.egt_check.specs.Prelude.{IsVoidOrNear, TableValue, Metric, Mate, Zeroing, AreAlike, IsKnown, entry_at}
+use Rattle.egt_check.specs.Prelude.{◌≡◌, ◌≢◌, ℕ, ◌*◌, ◌-◌, ◌<◌, arith, inl, inr, cases_eq, IsVoid, size_of}
+use Rattle.egt_check.specs.Prelude.{IsVoidOrNear, TableValue, Metric, Mate, Zeroing, AreAlike, entry_at}
 use Rattle.egt_check.specs.Prelude.{reach_at, TellsVoids, HasBytes}
 use Rattle.egt_check.proofs.NearReading.{near, near_at}
 
 -- an entry as it is read
-near_known : (read entry : ℕ) → read ≡ 2 * entry - 1 → entry ≢ 0 → entry < 128 → IsKnown read
-near_known read entry is some low = record {
-  some = λ none. omega (arith, is, none, some);
-  other = λ two. omega (arith, is, two);
-  low = omega (arith, is, low);
-}
-
-known_alike : (read : ℕ) → IsKnown read → AreAlike read read
-known_alike read known = record { mate_known = known; zeroing_known = known; parity = refl; drawn = (λ is. is, λ is. is) }
+near_alike : (read entry : ℕ) → read ≡ 2 * entry - 1 → entry ≢ 0 → entry < 128 → AreAlike read read
+near_alike read entry is some low = grind arith
 
 module _ (t : TableValue) (voids : TellsVoids t) (told : (i : ℕ) → i < size_of t.class → IsVoidOrNear (entry_at t Mate i) (reach_at t i)) where
   -- it is 0 where the mate entry is
@@ -29,8 +22,8 @@ module _ (t : TableValue) (voids : TellsVoids t) (told : (i : ℕ) → i < size_
 
   alike : (i : ℕ) → i < size_of t.class → ¬ IsVoid t.class i → AreAlike (entry_at (near t) Mate i) (entry_at (near t) Zeroing i)
   alike i below index =
-      known_alike (entry_at (near t) Mate i)
-      (near_known (entry_at (near t) Mate i) (reach_at t i) (near_at t i) (λ none. index ((voids i below).void ((told i below).1.0 none))) (told i below).0)
+      near_alike (entry_at (near t) Mate i) (reach_at t i) (near_at t i)
+      (λ none. index ((voids i below).void ((told i below).1.0 none))) (told i below).0
 
   pub has_near_bytes : HasBytes (near t)
   has_near_bytes = record { void = void_entry; alike = alike }

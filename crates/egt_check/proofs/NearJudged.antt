@@ -1,13 +1,13 @@
 -- Entries of the nearest mates that are due to the greatest scores of all moves keep the rules.
-use Rattle.egt_check.specs.Prelude.{◌≡◌, ◌≢◌, ℕ, zero, suc, ◌+◌, ◌-◌, ◌<◌, ◌≤◌, ◌⊎◌, List, Option, Some, None, arith}
-use Rattle.egt_check.specs.Prelude.{refl, sym, ap, ◌∙◌, inl, inr, subst, slice_index, get_or-map, cases_eq, cond_above}
-use Rattle.egt_check.specs.Prelude.{cond_below, Setup, IsAdmissible, Spells, IsIndex, IsVoid, byte_score}
+use Rattle.egt_check.specs.Prelude.{◌≡◌, ◌≢◌, ℕ, zero, suc, ◌+◌, ◌<◌, ◌≤◌, ◌⊎◌, List, Option, Some, None, arith}
+use Rattle.egt_check.specs.Prelude.{refl, sym, ap, ◌∙◌, inl, inr, subst, slice_index, get_or-map, nat_tests}
+use Rattle.egt_check.specs.Prelude.{Setup, Spells, IsVoid, byte_score}
 use Rattle.egt_check.specs.Prelude.{reach_due_score, reach_score, NoMove, chess, Move, TableValue, entries_or_none}
 use Rattle.egt_check.specs.Prelude.{Mate, Facts, AreGiven, HasScores, IsKnown, near_entry, near_if, near_of, near_table}
 use Rattle.egt_check.specs.Prelude.{near_tables, FitsReachBeside, HasReachEntry, ShowsReachOf, reach_entry_of}
 use Rattle.egt_check.specs.Prelude.{IsJudgedBy, KeepsReach, IsAtEnd, HasEntry, Tables, entry_at, reach_at}
 use Rattle.egt_entries.specs.declared.rule.Rule.TheVariants as rules
-use Rattle.egt_check.proofs.ByteJudged.{byte_loss}
+use Rattle.egt_check.proofs.Nearing.{one_reach_entry}
 
 -- ---- entries as they are read
 
@@ -35,21 +35,10 @@ Near r g = ((r ≡ 1) × (g ≡ 128)) ⊎ ((2 ≤ r) × (r ≤ 127) × (g + r �
 
 near_of_entry : (r : ℕ) → r ≢ 0 → r < 128 → Near r (byte_score (near_entry r))
 unfolding Near
-near_of_entry r some low = elim (cases_eq r 1) [
-  | inl dead ↦ inl (dead, ap (λ n. byte_score (near_entry n)) dead)
-  | inr far ↦
-      let score = byte_loss (near_entry r) (λ one. omega (arith, one, some, far)) (omega (arith, some, far)) in
-      inr (omega (arith, some, far), omega (arith, low), omega (arith, score, some, far, low))
-]
+near_of_entry r some low = grind (arith, nat_tests)
 
 known_near : (r : ℕ) → IsKnown (near_entry r) → Near r (byte_score (near_entry r))
 known_near r known = let some = known.some in let low = known.low in near_of_entry r (λ none. some (ap near_entry none)) (omega (arith, low))
-
-due_far : (g : ℕ) → 128 < g → reach_due_score g ≡ g - 1
-due_far g far = sym (cond_below 128 g (g - 1) 128 far)
-
-due_dead : (g : ℕ) → g ≤ 128 → reach_due_score g ≡ 128
-due_dead g le = sym (cond_above 128 g (g - 1) 128 128 le refl)
 
 -- the entry e and the soonest one r, which scores g: both dead, or the one of one ply more
 abbrev pub IsOneMore : (e g r : ℕ) → Type 0
@@ -57,16 +46,7 @@ IsOneMore e g r = ((e ≡ 1) × (r ≡ 1) × (g ≡ 128)) ⊎ ((e ≡ r + 1) × 
 
 due_to : (e score g r : ℕ) → Near e score → Near r g → score ≡ reach_due_score g → IsOneMore e g r
 unfolding Near
-due_to e score g r (inl own) (inl first) due = inl (own.0, first.0, first.1)
-due_to e score g r (inr own) (inl first) due = absurd (let is = due_dead g (let g_is = first.1 in omega (arith, g_is)) in let few = own.1 in let sum = own.2 in omega (arith, due, is, few, sum))
-due_to e score g r (inl own) (inr first) due = absurd (let few = first.1 in let sum = first.2 in let is = due_far g (omega (arith, few, sum)) in let dead = own.1 in omega (arith, due, is, dead, few, sum))
-due_to e score g r (inr own) (inr first) due =
-    let few = first.1 in
-    let sum = first.2 in
-    let is = due_far g (omega (arith, few, sum)) in
-    let all = own.2 in
-    let some = own.0 in
-    inr (omega (arith, due, is, all, few, sum), first.0, first.1, first.2)
+due_to e score g r own first due = grind (arith, nat_tests)
 
 -- a move to the soonest of the successors
 record IsSoonest (tables : Tables) (p : Setup) (g : ℕ) : Type 0 where
@@ -112,8 +92,7 @@ module _ (tables : Tables) (t : TableValue) (i : ℕ) where
     end_fits x stuck (inr (stale, entry)) is None shows = (stale.1, λ q step. absurd (stuck q step))
 
     end_low : (x e : ℕ) → IsAtEnd p x → near_entry e ≡ x → (e ≢ 0) × (e < 128)
-    end_low x e (inl (mate, entry)) is = ((λ none. omega (arith, entry, is, none)), omega (arith, entry, is))
-    end_low x e (inr (stale, entry)) is = ((λ none. omega (arith, entry, is, none)), omega (arith, entry, is))
+    end_low x e end is = grind arith
 
     pub end_kept : (x : ℕ) → NoMove chess p → IsAtEnd p x → near_entry (reach_at t i) ≡ x → IsJudgedBy (KeepsReach tables t i) None
     end_kept x stuck end is = let low = end_low x (reach_at t i) end is in fitting_kept low.0 low.1 (end_fits x stuck end is)
@@ -121,16 +100,6 @@ module _ (tables : Tables) (t : TableValue) (i : ℕ) where
     -- ---- entries due to the greatest scores
 
     module _ (facts : Facts) (g z : ℕ) (given : AreGiven (near_tables tables) p (λ m. Unit {0}) g z) (some_move : g ≢ 0) where
-      -- a position has one entry
-      one_entry : (q : Setup) (x y : ℕ) → IsAdmissible q → HasReachEntry tables q x → HasReachEntry tables q y → x ≡ y
-      one_entry q x y ok a b =
-          let class : a.class ≡ b.class = facts.one_class q a.class b.class a.flipped b.flipped a.below b.below a.of b.of in
-          let found : Some a.table ≡ Some b.table = sym a.found ∙ ap tables class ∙ b.found in
-          let table : a.table ≡ b.table = cc in
-          let there : IsIndex b.class q a.index = subst (λ c. IsIndex c q a.index) class a.is_index in
-          let same : a.index ≡ b.index = facts.one_index q b.class a.index b.index ok there b.is_index in
-          a.is ∙ ap (λ (u : TableValue). reach_at u a.index) table ∙ ap (reach_at b.table) same ∙ sym b.is
-
       -- what a move scores
       score_of : (q : Setup) (m : Move) (x z : ℕ) → HasScores (near_tables tables) p q m x z → (r : ℕ) × HasReachEntry tables q r × Near r x
       score_of q m x z scores =
@@ -152,7 +121,8 @@ module _ (tables : Tables) (t : TableValue) (i : ℕ) where
       least q step k shows =
           let h = given.above q step.0 step.1 tt in
           let score = score_of q step.0 h.0 h.1 h.2 in
-          let same : score.0 ≡ 2 + k = one_entry q score.0 shows.0 (facts.step_admissible p q step.0 spells.admissible step.1) score.1 shows.1 ∙ shows.2.1 in
+          let ok = facts.step_admissible p q step.0 spells.admissible step.1 in
+          let same : score.0 ≡ 2 + k = one_reach_entry facts tables q ok score.0 shows.0 score.1 shows.1 ∙ shows.2.1 in
           let le = h.3 in
           elim score.2 [
             | inl dead ↦ absurd (let one = dead.0 in omega (arith, one, same))

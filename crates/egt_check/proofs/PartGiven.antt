@@ -8,6 +8,7 @@ use Rattle.egt_check.specs.Prelude.{HasScores, IsGiven, HasEntry, Tables, entry_
 use Rattle.egt_check.specs.Prelude.{score_at, settled_index}
 use Rattle.egt_check.proofs.ByteJudged.{zeroing_above}
 use Rattle.egt_check.proofs.QuietGiven.{low_score}
+use Rattle.egt_check.proofs.Told.{entry_there}
 use Rattle.egt_check.proofs.Worth.{AreWhole, SpellsSettled, Turning, best_with}
 
 -- the moves among these zero, and lead to the positions with men of some stand, and a target where one is left, and to all
@@ -31,17 +32,10 @@ module _ (facts : Facts) (turning : Turning) (tables : Tables) (t : TableValue) 
     alike = bytes.alike i (facts.index_below r t.class i index) (λ void. void r there.admissible index)
 
     entry : (metric : Metric) → HasEntry tables metric q (entry_at t metric i)
-    entry metric = record {
-      class = t.class;
-      below = is_table.class_in;
-      flipped = flips;
-      of = (facts.settled_class q r t.class flips settles).1 there.is_of;
-      table = t;
-      found = found;
-      index = i;
-      is_index = settled_index t.class i q r settles there.settled index;
-      is = refl;
-    }
+    entry metric =
+        let of = (facts.settled_class q r t.class flips settles).1 there.is_of in
+        let same = settled_index t.class i q r settles there.settled index in
+        entry_there tables metric t t.class flips q i is_table.class_in found of same
 
     scores : (m : Move) → Zeroes p m → HasScores tables p q m (score_at t Mate i) (zeroing_score (score_at t Mate i))
     scores m zeroes = record {

@@ -96,36 +96,18 @@ fits_pawn man to kind fits = by_test (promotes man to) refl fits
 
 module _ (p : Setup) (b : ℕ) (m : Move) where
   captured : (kind : Kind) → IsOfficer kind → IsPromotingCaptureFrom p b kind m → IsMoveFrom p b m
-  captured Q officer is = inl (inl (inl (inl (inl (inl (inr is))))))
-  captured R officer is = inl (inl (inl (inl (inr is))))
-  captured B officer is = inl (inl (inr is))
-  captured N officer is = inr is
-  captured P officer is = absurd officer
-  captured K officer is = absurd officer
+  captured kind officer is = grind arith
 
   advanced : (man : Man) (promo : Option Kind) → FitsPromotion (promotes man m.to) promo → IsAdvanceFrom p b promo m → IsMoveFrom p b m
   advanced man None fits is = inl (inl (inl (inl (inl (inl (inl (inl is)))))))
   advanced man (Some kind) fits is = of_kind kind (fits_pawn man m.to kind fits).1 is
     where
       of_kind : (kind : Kind) → IsOfficer kind → IsAdvanceFrom p b (Some kind) m → IsMoveFrom p b m
-      of_kind Q officer is = inl (inl (inl (inl (inl (inl (inl (inr is)))))))
-      of_kind R officer is = inl (inl (inl (inl (inl (inr is)))))
-      of_kind B officer is = inl (inl (inl (inr is)))
-      of_kind N officer is = inl (inr is)
-      of_kind P officer is = absurd officer
-      of_kind K officer is = absurd officer
+      of_kind kind officer is = grind arith
 
   -- they are all from b
   from_there : IsMoveFrom p b m → m.from ≡ b
-  from_there (inr is) = is.from
-  from_there (inl (inr is)) = is.from
-  from_there (inl (inl (inr is))) = is.from
-  from_there (inl (inl (inl (inr is)))) = is.from
-  from_there (inl (inl (inl (inl (inr is))))) = is.from
-  from_there (inl (inl (inl (inl (inl (inr is)))))) = is.from
-  from_there (inl (inl (inl (inl (inl (inl (inr is))))))) = is.from
-  from_there (inl (inl (inl (inl (inl (inl (inl (inr is)))))))) = is.from
-  from_there (inl (inl (inl (inl (inl (inl (inl (inl is)))))))) = is.from
+  from_there is = grind arith
 
 -- of either man
 abbrev pub IsEitherPawnMove : ShelfMen → Side → Setup → (a b : ℕ) → Move → Type 0

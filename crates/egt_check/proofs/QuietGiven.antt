@@ -1,10 +1,11 @@
 -- The greatest scores of the codes of quiet steps are those of the quiet moves.
-use Rattle.egt_check.specs.Prelude.{◌≡◌, ℕ, ◌%◌, ◌<◌, ◌≤◌, Bool, false, Some, arith, refl, sym, ap, inl, inr, subst}
+use Rattle.egt_check.specs.Prelude.{◌≡◌, ℕ, ◌%◌, ◌<◌, ◌≤◌, Bool, false, Some, arith, sym, ap, inl, inr, subst}
 use Rattle.egt_check.specs.Prelude.{other_side, Setup, Side, White, Black, IsIndex, AllStand, HasStand, list_of}
 use Rattle.egt_check.specs.Prelude.{ShelfMen, Stand, IsRaised, byte_score, Zeroes, Leads, Move, IsTable, TableValue}
 use Rattle.egt_check.specs.Prelude.{Metric, Mate, Zeroing, stand_on, with_king, Facts, AreAlike, AreGiven, HasScores}
 use Rattle.egt_check.specs.Prelude.{AreQuietCodes, IsQuietStand, HasEntry, Tables, entry_at, HasBytes, IsBestOf}
 use Rattle.egt_check.specs.Prelude.{score_at}
+use Rattle.egt_check.proofs.Told.{entry_there}
 use Rattle.egt_check.proofs.Worth.{AreWhole, Turning, best_of}
 
 pub low_score : (e : ℕ) → e < 254 → byte_score (e % 256) ≡ byte_score e
@@ -52,17 +53,7 @@ module _ (facts : Facts) (quietly : Quietly) (turning : Turning) (tables : Table
     alike = bytes.alike i (facts.index_below q t.class i index) (λ void. void q there.admissible index)
 
     entry : (metric : Metric) → HasEntry tables metric q (entry_at t metric i)
-    entry metric = record {
-      class = t.class;
-      below = is_table.class_in;
-      flipped = false;
-      of = there.is_of;
-      table = t;
-      found = found;
-      index = i;
-      is_index = index;
-      is = refl;
-    }
+    entry metric = entry_there tables metric t t.class false q i is_table.class_in found there.is_of index
 
     scores : (m : Move) → ¬ Zeroes p m → HasScores tables p q m (score_at t Mate i) (score_at t Zeroing i)
     scores m quiet = record {

@@ -27,8 +27,7 @@ reach_in_range x some le = elim (cases_eq x 1) [
 ]
 
 pub reach_range : (x : ℕ) (number : Option ℕ) → ShowsReach x number → (x ≢ 0) × (x ≤ 32002)
-reach_range x (Some n) s = (λ e. omega (arith, s.1, e), omega (arith, s.0, s.1))
-reach_range x None s = (λ e. omega (arith, s.1, e), omega (arith, s.1))
+reach_range x number s = grind arith
 
 module _ (facts : Facts) (tables : Tables) where
   number_in : ℕ → Option TableValue → Option ℕ
@@ -45,20 +44,16 @@ module _ (facts : Facts) (tables : Tables) where
   pub number_at : Setup → Option ℕ
   number_at p = number_of p (decided_admissible p)
 
-  found_number : (i j : ℕ) (o : Option TableValue) (t : TableValue) → o ≡ Some t → i ≡ j → number_in i o ≡ reach_read (reach_at t j)
-  unfolding number_in
-  found_number i j None t found same = absurd (let x : None ≡ Some t = found in cc)
-  found_number i j (Some own) t found same = let e : own ≡ t = (let x : Some own ≡ Some t = found in cc) in ap (λ (x : TableValue). reach_read (reach_at x i)) e ∙ ap (λ k. reach_read (reach_at t k)) same
-
   entry_number : (p : Setup) (x : ℕ) → IsAdmissible p → (d : Decided (IsAdmissible p)) → HasReachEntry tables p x → number_of p d ≡ reach_read x
-  unfolding number_of
+  unfolding number_of number_in
   entry_number p x ok (inr not) e = absurd (not ok)
   entry_number p x ok (inl own_ok) e =
       let own = facts.classes p own_ok in
       let index = facts.some_index p own.0 own.1 own.2 own_ok own.3 in
       let same : own.0 ≡ e.class = facts.one_class p own.0 e.class own.1 e.flipped own.2 e.below own.3 e.of in
       let one : index.0 ≡ e.index = facts.one_index p e.class index.0 e.index ok (subst (λ c. IsIndex c p index.0) same index.1) e.is_index in
-      found_number index.0 e.index (tables own.0) e.table (ap tables same ∙ e.found) one ∙ ap reach_read (sym e.is)
+      ap (number_in index.0) (ap tables same ∙ e.found) ∙ ap (λ k. reach_read (reach_at e.table k)) one
+      ∙ ap reach_read (sym e.is)
 
   -- what is shown of a position is told
   pub reach_shown_told : (p : Setup) (number : Option ℕ) → IsAdmissible p → ShowsReachOf tables p number → number_at p ≡ number

@@ -1,14 +1,13 @@
 -- The scores of codes, read from rows and put in them.
-use Rattle.egt_check.specs.Prelude.{◌≡◌, ◌≢◌, ◌⊎◌, ℕ, ◌+◌, ◌*◌, ◌/◌, ◌%◌, ◌<◌, ◌≤◌, ◌∙◌, max, min, ◌-◌, if◌then◌else◌}
-use Rattle.egt_check.specs.Prelude.{◌==◌, List, [], ◌∷◌, length, map, set, get_or, replicate, slice_index, arith, refl}
-use Rattle.egt_check.specs.Prelude.{sym, ap, subst, inl, inr, slice_index_or, bit_at, range_with_len, cases_eq}
-use Rattle.egt_check.specs.Prelude.{cases_lt, bit_at-lt, get_or-replicate, get_or-set_other, get_or-set_same}
-use Rattle.egt_check.specs.Prelude.{get_or_default, get_or-map-range_with_len, length-map-range_with_len, div-add-mod'}
+use Rattle.egt_check.specs.Prelude.{◌≡◌, ◌⊎◌, ℕ, ◌+◌, ◌*◌, ◌/◌, ◌%◌, ◌<◌, ◌≤◌, ◌∙◌, if◌then◌else◌}
+use Rattle.egt_check.specs.Prelude.{◌==◌, List, [], ◌∷◌, length, set, replicate, slice_index, arith}
+use Rattle.egt_check.specs.Prelude.{sym, ap, subst, inl, inr, slice_index_or, bit_at, cases_eq}
+use Rattle.egt_check.specs.Prelude.{cases_lt, bit_at-lt, get_or-replicate, get_or-set_other, get_or-set_same, nat_tests}
+use Rattle.egt_check.specs.Prelude.{get_or-map-range_with_len, length-map-range_with_len, div-add-mod'}
 use Rattle.egt_check.specs.Prelude.{div_below, div-mul-add, mod-mul-add, mod_below, get_or-eq_default, length-replicate}
-use Rattle.egt_check.specs.Prelude.{side_number, Has, king_of, P, Man, Side, White, Black, SquareSet, code_of}
+use Rattle.egt_check.specs.Prelude.{side_number, Has, Man, Side, White, Black, SquareSet, code_of}
 use Rattle.egt_check.specs.Prelude.{number_of, places, kind_digits, kind_less, AreMenOf, IsShelf, IsWithin, number_in}
 use Rattle.egt_check.specs.Prelude.{size_of, ShelfMen, side_few, square_in, IsShelfRow}
-use Rattle.egt_check.proofs.ByteJudged.{if_not, if_same}
 use Rattle.egt_check.specs.ScoreRows.{AreWholeRows, IsLaneIn, IsMaskOf, score_of, scores_in}
 
 module _ (c less shelves : ℕ) (rows : List (List ℕ)) where
@@ -58,21 +57,10 @@ module _ (c shelf : ℕ) (side : Side) (digit : ℕ) (below : digit < places c) 
 
 -- one row at most is that of a shelf and side
 one_place : (side : Side) (half shelves a b : ℕ) → half < 2 → a < shelves → b < shelves → half * shelves + a ≡ side_number side * shelves + b → (half ≡ side_number side) × (a ≡ b)
-one_place White half shelves a b few a_in b_in same = elim (cases_eq half 0) [
-  | inl none ↦ (none, (let at = ap (λ h. h * shelves + a) none in omega (arith, at, same)))
-  | inr one ↦ absurd (let is : half ≡ 1 = omega (arith, few, one) in let at = ap (λ h. h * shelves + a) is in omega (arith, at, same, b_in))
-]
-one_place Black half shelves a b few a_in b_in same = elim (cases_eq half 0) [
-  | inl none ↦ absurd (let at = ap (λ h. h * shelves + a) none in omega (arith, at, same, a_in))
-  | inr one ↦ let is : half ≡ 1 = omega (arith, few, one) in (is, (let at = ap (λ h. h * shelves + a) is in omega (arith, at, same)))
-]
-
--- of which side a half is
-side_of : (half : ℕ) → half < 2 → (side : Side) × (side_number side ≡ half)
-side_of half few = elim (cases_eq half 0) [
-  | inl none ↦ (White, sym none)
-  | inr one ↦ (Black, (let is : 1 ≡ half = omega (arith, few, one) in is))
-]
+one_place White half shelves a b few a_in b_in same =
+    elim (cases_eq half 0) [ inl none ↦ grind arith | inr one ↦ grind arith ]
+one_place Black half shelves a b few a_in b_in same =
+    elim (cases_eq half 0) [ inl none ↦ grind arith | inr one ↦ grind arith ]
 
 -- a row is put in the place of another: lanes that keep their scores, and the others
 module _ (c less shelves shelf : ℕ) (side : Side) (rows : List (List ℕ)) (row : List ℕ)
@@ -181,14 +169,7 @@ whole_class c size digits same_size same none =
 -- what is put in a lane of a row
 pub mixed : (old scores : List ℕ) (new lane bit mask : ℕ) → new ≡ (if mask == 0 then slice_index old lane else slice_index scores lane) → bit ≡ (if mask == 0 then 0 else 1)
     → ((bit ≡ 1) → new ≡ slice_index scores lane) × ((bit ≡ 0) → new ≡ slice_index old lane)
-mixed old scores new lane bit mask is bit_is = elim (cases_eq mask 0) [
-  | inl none ↦
-      let zero = bit_is ∙ if_same mask 0 0 1 none in
-      ((λ has. absurd (omega (arith, zero, has))), (λ lacks. is ∙ if_same mask 0 (slice_index old lane) (slice_index scores lane) none))
-  | inr some ↦
-      let one = bit_is ∙ if_not mask 0 0 1 some in
-      ((λ has. is ∙ if_not mask 0 (slice_index old lane) (slice_index scores lane) some), (λ lacks. absurd (omega (arith, one, lacks))))
-]
+mixed old scores new lane bit mask is bit_is = grind (arith, nat_tests)
 
 module _ (c shelves : ℕ) (last : Man) (rows : List (List ℕ)) (are : AreWholeRows c last shelves rows) (men : ShelfMen) (shelf : ℕ) (side : Side) (is : IsShelf c shelf men) (within : IsWithin c shelf)
     (in_class : (n : ℕ) → n < size_of c → code_of c n < size_of c) (stands : (n : ℕ) → n < size_of c → number_of c (code_of c n) ≡ n) where

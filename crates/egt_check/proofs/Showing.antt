@@ -1,19 +1,7 @@
 -- What tables show of positions.
-use Rattle.egt_check.specs.Prelude.{◌≡◌, ℕ, Option, Some, None, refl, sym, ap, subst, ◌∙◌, arith, Setup, IsAdmissible}
-use Rattle.egt_check.specs.Prelude.{IsIndex, Value, Win, Loss, Draw, chess, Metric, Outcome, Shows, Facts, IsShownBy}
-use Rattle.egt_check.specs.Prelude.{Tables, entry_at, HasEntry, ShowsOf, IsOne, IsShownOf}
-
--- an entry shows one value
-pub shows_once : (x : ℕ) (v w : Value) → Shows x v → Shows x w → v ≡ w
-shows_once x (Win i) (Win j) a b = let same : i ≡ j = omega (arith, a.1, b.1) in ap Win same
-shows_once x (Win i) (Loss j) a b = absurd (omega (arith, a.1, b.1))
-shows_once x (Win i) Draw a b = absurd (omega (arith, a.1, b.1))
-shows_once x (Loss i) (Win j) a b = absurd (omega (arith, a.1, b.1))
-shows_once x (Loss i) (Loss j) a b = let same : i ≡ j = omega (arith, a.1, b.1) in ap Loss same
-shows_once x (Loss i) Draw a b = absurd (omega (arith, a.1, b.1))
-shows_once x Draw (Win j) a b = absurd (omega (arith, a.1, b.1))
-shows_once x Draw (Loss j) a b = absurd (omega (arith, a.1, b.1))
-shows_once x Draw Draw a b = refl
+use Rattle.egt_check.specs.Prelude.{◌≡◌, ℕ, Option, Some, None, sym, ap, subst, ◌∙◌, Setup, IsAdmissible}
+use Rattle.egt_check.specs.Prelude.{IsIndex, chess, Metric, Outcome, Shows, Facts, IsShownBy}
+use Rattle.egt_check.specs.Prelude.{Tables, entry_at, HasEntry, ShowsOf, IsOne, IsShownOf, shown_once}
 
 module _ (facts : Facts) (tables : Tables) (p : Setup) (ok : IsAdmissible p) where
   -- a position has one entry
@@ -28,7 +16,7 @@ module _ (facts : Facts) (tables : Tables) (p : Setup) (ok : IsAdmissible p) whe
 
   pub one_shown : IsOne (ShowsOf tables) p
   one_shown = record {
-    one = λ metric v w a b. shows_once a.0 v w a.2 (subst (λ x. Shows x w) (one_entry metric b.0 a.0 b.1 a.1) b.2);
+    one = λ metric v w a b. shown_once a.0 v w a.2 (subst (λ x. Shows x w) (one_entry metric b.0 a.0 b.1 a.1) b.2);
     short = λ metric v a. a.2.0;
   }
 

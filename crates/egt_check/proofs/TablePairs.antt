@@ -1,7 +1,7 @@
 -- Whole tables of classes with two men beside the kings: what holds at all codes, shelf by shelf, and the tables that moves lead to.
-use Rattle.egt_check.specs.Prelude.{◌≡◌, ◌≢◌, ℕ, ◌+◌, ◌-◌, ◌*◌, ◌/◌, ◌%◌, ◌<◌, ◌≤◌, ◌⊎◌, Bool, ne_eqb, refl, inl, inr}
+use Rattle.egt_check.specs.Prelude.{◌≡◌, ◌≢◌, ℕ, ◌+◌, ◌-◌, ◌*◌, ◌/◌, ◌%◌, ◌<◌, ◌≤◌, ◌⊎◌, Bool, ne_eqb, inl, inr}
 use Rattle.egt_check.specs.Prelude.{Some, None, sym, ap, ◌∙◌, subst, arith, cases_lt, mul-le-mul_right, Setup}
-use Rattle.egt_check.specs.Prelude.{turned_man, side_number, Kind, Q, R, B, N, P, K, Man, Side, White, Black, IsOf}
+use Rattle.egt_check.specs.Prelude.{turned_man, side_number, Kind, Man, Side, White, Black, IsOf}
 use Rattle.egt_check.specs.Prelude.{AreNonKings, IsLoneMan, code_of, number_of, places, kind_digits, number_in, size_of}
 use Rattle.egt_check.specs.Prelude.{HasColumn, TableValue, Part, column_of, table_in, tables_in, IsShelved, Tables}
 use Rattle.egt_check.specs.Prelude.{beside, IsTableOf, HasBytes}
@@ -18,12 +18,7 @@ pub record IsLane (wide first many i : ℕ) : Type 0 where
   pub is : (first + x) * (2 * wide) + side_number side + 2 * y ≡ i
 
 digits_are : (kind : Kind) → (kind_digits kind ≡ 64) ⊎ (kind_digits kind ≡ 48)
-digits_are P = inr refl
-digits_are Q = inl refl
-digits_are R = inl refl
-digits_are B = inl refl
-digits_are N = inl refl
-digits_are K = inl refl
+digits_are kind = grind arith
 
 lane_of_64 : (first many i : ℕ) → first * 128 ≤ i → i < (first + many) * 128 → IsLane 64 first many i
 lane_of_64 first many i from below = elim (cases_lt (i % 2) 1) [

@@ -1,7 +1,22 @@
 -- What tables show of positions, as a function.
-use Rattle.egt_check.specs.Prelude.{◌≡◌, ℕ, Option, Some, None, sym, ap, ◌∙◌, subst, inl, inr, Decided}
+use Rattle.egt_check.specs.Prelude.{◌≡◌, ℕ, Option, Some, None, sym, ap, ◌∙◌, subst, inl, inr, Decided, Bool, IsOf, ◌<◌}
 use Rattle.egt_check.specs.Prelude.{decided_admissible, Setup, IsAdmissible, IsIndex, Value, Draw, Metric, TableValue}
-use Rattle.egt_check.specs.Prelude.{Facts, Tables, entry_at, HasEntry, ShowsOf, read, read_shown}
+use Rattle.egt_check.specs.Prelude.{Facts, Tables, entry_at, HasEntry, ShowsOf, read, read_shown, refl}
+
+-- a table's entry of a position of its class
+pub entry_there : (tables : Tables) (metric : Metric) (u : TableValue) (d : ℕ) (flipped : Bool) (p : Setup) (i : ℕ)
+    → d < 36 → tables d ≡ Some u → IsOf d flipped p → IsIndex d p i → HasEntry tables metric p (entry_at u metric i)
+entry_there tables metric u d flipped p i below found of is = record {
+  class = d;
+  below = below;
+  flipped = flipped;
+  of = of;
+  table = u;
+  found = found;
+  index = i;
+  is_index = is;
+  is = refl;
+}
 
 module _ (facts : Facts) (tables : Tables) where
   value_in : Metric → ℕ → Option TableValue → Value
@@ -18,20 +33,16 @@ module _ (facts : Facts) (tables : Tables) where
   pub value_at : Metric → Setup → Value
   value_at metric p = value_of metric p (decided_admissible p)
 
-  found_value : (metric : Metric) (i j : ℕ) (o : Option TableValue) (t : TableValue) → o ≡ Some t → i ≡ j → value_in metric i o ≡ read (entry_at t metric j)
-  unfolding value_in
-  found_value metric i j None t found same = absurd (let x : None ≡ Some t = found in cc)
-  found_value metric i j (Some own) t found same = let e : own ≡ t = (let x : Some own ≡ Some t = found in cc) in ap (λ (x : TableValue). read (entry_at x metric i)) e ∙ ap (λ k. read (entry_at t metric k)) same
-
   entry_value : (metric : Metric) (p : Setup) (x : ℕ) → IsAdmissible p → (d : Decided (IsAdmissible p)) → HasEntry tables metric p x → value_of metric p d ≡ read x
-  unfolding value_of
+  unfolding value_of value_in
   entry_value metric p x ok (inr not) e = absurd (not ok)
   entry_value metric p x ok (inl own_ok) e =
       let own = facts.classes p own_ok in
       let index = facts.some_index p own.0 own.1 own.2 own_ok own.3 in
       let same : own.0 ≡ e.class = facts.one_class p own.0 e.class own.1 e.flipped own.2 e.below own.3 e.of in
       let one : index.0 ≡ e.index = facts.one_index p e.class index.0 e.index ok (subst (λ c. IsIndex c p index.0) same index.1) e.is_index in
-      found_value metric index.0 e.index (tables own.0) e.table (ap tables same ∙ e.found) one ∙ ap read (sym e.is)
+      ap (value_in metric index.0) (ap tables same ∙ e.found) ∙ ap (λ k. read (entry_at e.table metric k)) one
+      ∙ ap read (sym e.is)
 
   -- what is shown of a position is told
   pub shown_told : (metric : Metric) (p : Setup) (v : Value) → IsAdmissible p → ShowsOf tables metric p v → value_at metric p ≡ v

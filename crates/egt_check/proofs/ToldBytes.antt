@@ -1,42 +1,15 @@
 -- Tables whose entries have bytes of their own.
-use Rattle.egt_check.specs.Prelude.{◌≡◌, ◌≢◌, ℕ, ◌<◌, ◌∙◌, arith, inl, inr, sym, cases_eq, IsVoid, size_of, AreDecided}
-use Rattle.egt_check.specs.Prelude.{AreVoidOrAlike, TableValue, Metric, Mate, Zeroing, AreAlike, IsKnown, shown_range}
+use Rattle.egt_check.specs.Prelude.{◌≡◌, ◌≢◌, ℕ, ◌<◌, arith, inl, inr, cases_eq, IsVoid, size_of}
+use Rattle.egt_check.specs.Prelude.{AreVoidOrAlike, TableValue, Metric, Mate, Zeroing, AreAlike, shown_range}
 use Rattle.egt_check.specs.Prelude.{entry_at, IsTrueTable, AreAllAlike, TellsVoids, HasBytes}
-
-known : (entry : ℕ) → 2 < entry → entry < 254 → IsKnown entry
-known entry some low = record { some = λ is. absurd (omega (arith, is, some)); other = λ is. absurd (omega (arith, is, some)); low = low }
-
-decided : (mate zeroing : ℕ) → AreDecided mate zeroing → AreAlike mate zeroing
-decided mate zeroing are =
-    let mate_some = are.mate_some in
-    let zeroing_some = are.zeroing_some in
-    record {
-      mate_known = known mate are.mate_some are.mate_low;
-      zeroing_known = known zeroing are.zeroing_some are.zeroing_low;
-      parity = are.parity;
-      drawn = (λ is. absurd (omega (arith, is, mate_some)), λ is. absurd (omega (arith, is, zeroing_some)));
-    }
-
-drawn : (mate zeroing : ℕ) → mate ≡ 1 → zeroing ≡ 1 → AreAlike mate zeroing
-drawn mate zeroing first second = record {
-  mate_known = one mate first;
-  zeroing_known = one zeroing second;
-  parity = omega (arith, first, second);
-  drawn = (λ _. second, λ _. first);
-}
-  where
-    one : (entry : ℕ) → entry ≡ 1 → IsKnown entry
-    one entry is = record { some = λ none. absurd (omega (arith, is, none)); other = λ two. absurd (omega (arith, is, two)); low = omega (arith, is) }
 
 -- entries that are not 0 are alike
 pub alike_there : (mate zeroing : ℕ) → AreVoidOrAlike mate zeroing → mate ≢ 0 → AreAlike mate zeroing
-alike_there mate zeroing (inl (same, low)) some = let first : mate ≡ 1 = omega (arith, low, some) in drawn mate zeroing first (sym same ∙ first)
-alike_there mate zeroing (inr are) some = decided mate zeroing are
+alike_there mate zeroing are some = grind arith
 
 -- beside 0 is 0
 none_there : (mate zeroing : ℕ) → AreVoidOrAlike mate zeroing → mate ≡ 0 → zeroing ≡ 0
-none_there mate zeroing (inl (same, low)) none = sym same ∙ none
-none_there mate zeroing (inr are) none = let some = are.mate_some in absurd (omega (arith, some, none))
+none_there mate zeroing are none = omega (arith, are)
 
 module _ (t : TableValue) (told : AreAllAlike t) (voids : TellsVoids t) where
   -- the mate entry of a void code is 0

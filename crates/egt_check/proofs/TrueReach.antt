@@ -1,12 +1,12 @@
 -- Where the children's columns of the nearest mates are true, a table's keeps the rules exactly where it is true.
-use Rattle.egt_check.specs.Prelude.{◌≡◌, ◌≢◌, ℕ, zero, suc, ◌<◌, ◌≤◌, ◌⊎◌, ◌↔◌, Bool, IsTrue, Option, Some, None, refl}
-use Rattle.egt_check.specs.Prelude.{sym, subst, inl, inr, arith, cases_eq, cases_lt, ⊎_elim, ⊎_map, Setup, IsAdmissible}
-use Rattle.egt_check.specs.Prelude.{IsOf, Spells, IsIndex, IsVoid, size_of, chess, TableValue, IsTable, StepAlike}
+use Rattle.egt_check.specs.Prelude.{◌≡◌, ℕ, zero, suc, ◌<◌, ◌≤◌, ◌⊎◌, ◌↔◌, Bool, IsTrue, Option, Some, None, refl}
+use Rattle.egt_check.specs.Prelude.{sym, subst, inl, inr, arith, cases_lt, ⊎_elim, ⊎_map, Setup, IsAdmissible}
+use Rattle.egt_check.specs.Prelude.{IsOf, IsIndex, size_of, chess, TableValue, IsTable, StepAlike}
 use Rattle.egt_check.specs.Prelude.{Facts, FitsReachBeside, HasReachEntry, ShowsReach, ShowsReachOf, FitsReach}
 use Rattle.egt_check.specs.Prelude.{KeepsReach, KeepsReachBelow, Tables, reach_at, IsTrueReach, HasTrueReachesBelow}
 use Rattle.egt_moves.specs.Reach.{FitsReach as FitsNumbers, HasReach, ReachJudgedOver}
 use Rattle.egt_entries.specs.declared.rule.Rule.TheVariants as rules
-use Rattle.egt_check.proofs.Alike.{settled_image_alike, indexed_class}
+use Rattle.egt_check.proofs.Alike.{settled_image_alike, indexed_class, spelled_index}
 use Rattle.egt_check.proofs.ReachTold.{images_show_reach, number_at, reach_in_range, reach_range, reach_shown_told, reach_told_shown}
 use Rattle.egt_check.proofs.TrueTables.{Child, Own, is_own, own, owned, step}
 
@@ -205,26 +205,11 @@ module _ (facts : Facts) (tables : Tables) (t : TableValue) (sized : IsTable t) 
       back = λ q m. (q, m, shown_same all_true p q q o m (λ ok number. ((λ s. s), (λ s. s))));
     }
 
-    -- what spells a code whose entry shows something has it as its index
-    spelled_index : (i : ℕ) (number : Option ℕ) (p : Setup) → i < size_of t.class → ShowsReach (reach_at t i) number → Spells t.class i p → IsIndex t.class p i
-    spelled_index i number p below shown spells = of_same (cases_eq index.0 i)
-      where
-        of : (flipped : Bool) × IsOf t.class flipped p
-        of = facts.spelled_class t.class i p spells
-
-        index : (j : ℕ) × IsIndex t.class p j
-        index = facts.some_index p t.class of.0 sized.class_in spells.admissible of.1
-
-        of_same : (index.0 ≡ i) ⊎ (index.0 ≢ i) → IsIndex t.class p i
-        of_same (inl e) = subst (IsIndex t.class p) e index.1
-        of_same (inr other) =
-            let void : IsVoid t.class i = (λ q ok is. other (facts.one_index p t.class index.0 i spells.admissible index.1 (facts.index_spells q p t.class i ok is spells))) in
-            absurd ((reach_range (reach_at t i) number shown).0 (truth.void i below void))
-
     fits_true : (i : ℕ) (number : Option ℕ) → i < size_of t.class → FitsReach tables t i number
     unfolding Ours
     fits_true i number below shown p spells =
-        let is = spelled_index i number p below shown spells in
+        let some = (reach_range (reach_at t i) number shown).0 in
+        let is = spelled_index facts t.class i p sized.class_in spells (λ void. some (truth.void i below void)) in
         let of = indexed_class facts t.class i p spells.admissible is in
         let o : Own facts tables t sized here p = (spells.admissible, of) in
         let tells = reach_shown_told facts tables p number spells.admissible (reach_at t i, entry_there t t.class of.0 p i sized.class_in here of.1 is, shown) in

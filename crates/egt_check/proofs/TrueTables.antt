@@ -2,15 +2,15 @@
 use Rattle.egt_check.specs.Prelude.{◌≡◌, ◌≢◌, ℕ, zero, suc, ◌<◌, ◌≤◌, ◌⊎◌, ◌↔◌, Bool, IsTrue, Some, refl, sym, subst}
 use Rattle.egt_check.specs.Prelude.{inl, inr, arith, cases_eq, cases_lt, ⊎_elim, ⊎_map, Contains, Decided, tells}
 use Rattle.egt_check.specs.Prelude.{tells_so, tells_where, decided_admissible, Setup, IsAdmissible, children_of, IsOf}
-use Rattle.egt_check.specs.Prelude.{Spells, IsIndex, IsVoid, size_of, Value, Win, Loss, Draw, chess, Metric, Mate}
+use Rattle.egt_check.specs.Prelude.{IsIndex, IsVoid, size_of, Value, Win, Loss, Draw, chess, Metric, Mate}
 use Rattle.egt_check.specs.Prelude.{Zeroing, TableValue, IsTable, Rule, StepAlike, Shows, Facts, Shown, FitsBeside}
-use Rattle.egt_check.specs.Prelude.{Tables, entry_at, HasEntry, ShowsOf, Tells, HasTrueValues, HasTrueValuesBelow}
+use Rattle.egt_check.specs.Prelude.{Tables, entry_at, ShowsOf, Tells, HasTrueValues, HasTrueValuesBelow}
 use Rattle.egt_check.specs.Prelude.{ShownAlike, PlaysLike, carry, in_range, shown_range}
 use Rattle.egt_moves.specs.Entries as entries
 use Rattle.egt_entries.specs.declared.rule.Rule.TheVariants as rules
 use Rattle.egt_entries.specs.Rules.{Fits, Keeps, KeepsBelow}
-use Rattle.egt_check.proofs.Alike.{settled_image_alike, indexed_class, images_show_alike}
-use Rattle.egt_check.proofs.Told.{value_at, shown_told, told_shown}
+use Rattle.egt_check.proofs.Alike.{settled_image_alike, indexed_class, images_show_alike, spelled_index}
+use Rattle.egt_check.proofs.Told.{entry_there, value_at, shown_told, told_shown}
 
 module _ (facts : Facts) (tables : Tables) (t : TableValue) (sized : IsTable t) (here : tables t.class ≡ Some t) where
   -- a position of the table's class
@@ -51,17 +51,13 @@ module _ (facts : Facts) (tables : Tables) (t : TableValue) (sized : IsTable t) 
       let ok = facts.step_admissible p q m.0 o.0 m.1 in
       ⊎_map (λ of. (ok, (o.1.0, of))) (λ child. (ok, child)) (facts.step_class p q m.0 t.class o.1.0 sized.class_in o.0 o.1.1 m.1)
 
-  -- a table's entry of a position of its class
-  entry_there : (metric : Metric) (u : TableValue) (d : ℕ) (flipped : Bool) (p : Setup) (i : ℕ) → d < 36 → tables d ≡ Some u → IsOf d flipped p → IsIndex d p i → HasEntry tables metric p (entry_at u metric i)
-  entry_there metric u d flipped p i d_in found of is = record { class = d; below = d_in; flipped = flipped; of = of; table = u; found = found; index = i; is_index = is; is = refl }
-
   -- what a true table shows
   true_shown : (metric : Metric) (u : TableValue) (d : ℕ) (flipped : Bool) (p : Setup) → d < 36 → tables d ≡ Some u → u.class ≡ d → HasTrueValues u → IsAdmissible p → IsOf d flipped p →
       (v : Value) × Tells metric p v × ShowsOf tables metric p v
   true_shown metric u d flipped p d_in found class truth ok of =
       let index = facts.some_index p d flipped d_in ok of in
       let tells = truth.true metric p index.0 ok (subst (λ c. IsIndex c p index.0) (sym class) index.1) in
-      (tells.0, tells.1, (entry_at u metric index.0, entry_there metric u d flipped p index.0 d_in found of index.1, tells.2))
+      (tells.0, tells.1, (entry_at u metric index.0, entry_there tables metric u d flipped p index.0 d_in found of index.1, tells.2))
 
   module _ (children : HasTrueValuesBelow tables t.class) where
     child_shown : (metric : Metric) (q : Setup) → Child q → (v : Value) × Tells metric q v × ShowsOf tables metric q v
@@ -82,37 +78,22 @@ module _ (facts : Facts) (tables : Tables) (t : TableValue) (sized : IsTable t) 
     mate_ends : (p : Setup) → chess.Checkmate p → (q : Setup) → chess.Move p q → ⊥
     mate_ends p mate q m = mate.stuck m.0 (q, m.1)
 
-    fits_mate : (p : Setup) (v : Value) → FitsBeside told Mate p v → entries.Fits chess (value_at facts tables Mate) p v
+    fits_mate : (p : Setup) (v : Value) → FitsBeside told Mate p v ↔ entries.Fits chess (value_at facts tables Mate) p v
     unfolding told
-    fits_mate p (Win zero) h = h
-    fits_mate p (Win (suc n)) h = h
-    fits_mate p (Loss zero) h = h
-    fits_mate p (Loss (suc n)) h = h
-    fits_mate p Draw h = h
+    fits_mate p (Win zero) = ((λ h. h), (λ h. h))
+    fits_mate p (Win (suc n)) = ((λ h. h), (λ h. h))
+    fits_mate p (Loss zero) = ((λ h. h), (λ h. h))
+    fits_mate p (Loss (suc n)) = ((λ h. h), (λ h. h))
+    fits_mate p Draw = ((λ h. h), (λ h. h))
 
-    mate_fits : (p : Setup) (v : Value) → entries.Fits chess (value_at facts tables Mate) p v → FitsBeside told Mate p v
+    fits_zeroing : (p : Setup) (v : Value) → FitsBeside told Zeroing p v
+        ↔ entries.FitsZeroing chess (value_at facts tables Mate) (value_at facts tables Zeroing) p v
     unfolding told
-    mate_fits p (Win zero) h = h
-    mate_fits p (Win (suc n)) h = h
-    mate_fits p (Loss zero) h = h
-    mate_fits p (Loss (suc n)) h = h
-    mate_fits p Draw h = h
-
-    fits_zeroing : (p : Setup) (v : Value) → FitsBeside told Zeroing p v → entries.FitsZeroing chess (value_at facts tables Mate) (value_at facts tables Zeroing) p v
-    unfolding told
-    fits_zeroing p (Win zero) h = h
-    fits_zeroing p (Win (suc n)) h = h
-    fits_zeroing p (Loss zero) h = h
-    fits_zeroing p (Loss (suc n)) h = h
-    fits_zeroing p Draw h = h
-
-    zeroing_fits : (p : Setup) (v : Value) → entries.FitsZeroing chess (value_at facts tables Mate) (value_at facts tables Zeroing) p v → FitsBeside told Zeroing p v
-    unfolding told
-    zeroing_fits p (Win zero) h = h
-    zeroing_fits p (Win (suc n)) h = h
-    zeroing_fits p (Loss zero) h = h
-    zeroing_fits p (Loss (suc n)) h = h
-    zeroing_fits p Draw h = h
+    fits_zeroing p (Win zero) = ((λ h. h), (λ h. h))
+    fits_zeroing p (Win (suc n)) = ((λ h. h), (λ h. h))
+    fits_zeroing p (Loss zero) = ((λ h. h), (λ h. h))
+    fits_zeroing p (Loss (suc n)) = ((λ h. h), (λ h. h))
+    fits_zeroing p Draw = ((λ h. h), (λ h. h))
 
     -- something is shown of each position of the class
     abbrev AllShown : Type 0
@@ -158,7 +139,7 @@ module _ (facts : Facts) (tables : Tables) (t : TableValue) (sized : IsTable t) 
       all_shown metric p o =
           let index = facts.some_index p t.class o.1.0 sized.class_in o.0 o.1.1 in
           let s = own_shown metric p index.0 o.0 index.1 in
-          (s.0, (entry_at t metric index.0, entry_there metric t t.class o.1.0 p index.0 sized.class_in here o.1.1 index.1, s.1))
+          (s.0, (entry_at t metric index.0, entry_there tables metric t t.class o.1.0 p index.0 sized.class_in here o.1.1 index.1, s.1))
 
       by_rule : (metric : Metric) (i : ℕ) (v : Value) → i < size_of t.class → Fits tables t metric i v
       by_rule metric i (Win n) below = (keeps metric i below rules.Win) n
@@ -173,7 +154,7 @@ module _ (facts : Facts) (tables : Tables) (t : TableValue) (sized : IsTable t) 
           let below = facts.index_below p t.class index.0 is in
           let fits = by_rule metric index.0 s.0 below s.1 is.image is.spells in
           let alike = settled_image_alike facts p is.settled is.image o.0 is.settles is.images in
-          let tells = shown_told facts tables metric p s.0 o.0 (entry_at t metric index.0, entry_there metric t t.class o.1.0 p index.0 sized.class_in here o.1.1 is, s.1) in
+          let tells = shown_told facts tables metric p s.0 o.0 (entry_at t metric index.0, entry_there tables metric t t.class o.1.0 p index.0 sized.class_in here o.1.1 is, s.1) in
           subst (FitsBeside told metric p) (sym tells) (carry (ShowsOf tables) told is.image p (plays_like all_shown p is.image o is.spells.admissible alike) metric s.0 fits)
 
       agree : (p : Setup) → Own p → entries.SameKind (value_at facts tables Mate p) (value_at facts tables Zeroing p)
@@ -183,7 +164,7 @@ module _ (facts : Facts) (tables : Tables) (t : TableValue) (sized : IsTable t) 
           let zeroing = own_shown Zeroing p index.0 o.0 index.1 in
           let below = facts.index_below p t.class index.0 index.1 in
           let kind : Keeps tables t Zeroing index.0 rules.Kind = keeps Zeroing index.0 below rules.Kind in
-          let there = λ (metric : Metric). entry_there metric t t.class o.1.0 p index.0 sized.class_in here o.1.1 index.1 in
+          let there = λ (metric : Metric). entry_there tables metric t t.class o.1.0 p index.0 sized.class_in here o.1.1 index.1 in
           subst (λ v. entries.SameKind v (value_at facts tables Zeroing p)) (sym (shown_told facts tables Mate p mate.0 o.0 (entry_at t Mate index.0, there Mate, mate.1)))
           (subst (entries.SameKind mate.0) (sym (shown_told facts tables Zeroing p zeroing.0 o.0 (entry_at t Zeroing index.0, there Zeroing, zeroing.1))) (kind mate.0 zeroing.0 mate.1 zeroing.1))
 
@@ -191,14 +172,14 @@ module _ (facts : Facts) (tables : Tables) (t : TableValue) (sized : IsTable t) 
       judged = record {
         ends = mate_ends;
         over = λ p q o m. ⊎_map (is_own q) (child_tells Mate q) (step p q (owned p o) m);
-        fits = λ p o. fits_mate p (value_at facts tables Mate p) (own_fits Mate p (owned p o));
+        fits = λ p o. (fits_mate p (value_at facts tables Mate p)).0 (own_fits Mate p (owned p o));
       }
 
       zeroing_judged : entries.ZeroingJudgedOver chess (λ p. IsTrue (own p)) (value_at facts tables Mate) (value_at facts tables Zeroing)
       zeroing_judged = record {
         over = λ p q o m. ⊎_map (is_own q) (child_tells Zeroing q) (step p q (owned p o) m);
         kind = λ p o. agree p (owned p o);
-        fits = λ p o. fits_zeroing p (value_at facts tables Zeroing p) (own_fits Zeroing p (owned p o));
+        fits = λ p o. (fits_zeroing p (value_at facts tables Zeroing p)).0 (own_fits Zeroing p (owned p o));
       }
 
       tells_true : (metric : Metric) (p : Setup) → Own p → Tells metric p (value_at facts tables metric p)
@@ -209,7 +190,7 @@ module _ (facts : Facts) (tables : Tables) (t : TableValue) (sized : IsTable t) 
       entry_true metric p i ok is =
           let of = indexed_class facts t.class i p ok is in
           let s = own_shown metric p i ok is in
-          let shown = shown_told facts tables metric p s.0 ok (entry_at t metric i, entry_there metric t t.class of.0 p i sized.class_in here of.1 is, s.1) in
+          let shown = shown_told facts tables metric p s.0 ok (entry_at t metric i, entry_there tables metric t t.class of.0 p i sized.class_in here of.1 is, s.1) in
           (s.0, subst (Tells metric p) shown (tells_true metric p (ok, of)), s.1)
 
       pub void_true : (metric : Metric) (i : ℕ) → i < size_of t.class → IsVoid t.class i → entry_at t metric i ≡ 0
@@ -237,8 +218,8 @@ module _ (facts : Facts) (tables : Tables) (t : TableValue) (sized : IsTable t) 
           (λ p o. own_tells Mate p (owned p o)) (λ p o. own_tells Zeroing p (owned p o)) (true_over Mate) (true_over Zeroing)
 
       true_fits : (metric : Metric) (p : Setup) → Own p → FitsBeside told metric p (value_at facts tables metric p)
-      true_fits Mate p o = mate_fits p (value_at facts tables Mate p) (true_judged.fits p (is_own p o))
-      true_fits Zeroing p o = zeroing_fits p (value_at facts tables Zeroing p) (true_zeroing.fits p (is_own p o))
+      true_fits Mate p o = (fits_mate p (value_at facts tables Mate p)).1 (true_judged.fits p (is_own p o))
+      true_fits Zeroing p o = (fits_zeroing p (value_at facts tables Zeroing p)).1 (true_zeroing.fits p (is_own p o))
 
       -- what is told of the successors is shown of them
       plays_itself : (p : Setup) → Own p → PlaysLike told (ShowsOf tables) p p
@@ -252,40 +233,17 @@ module _ (facts : Facts) (tables : Tables) (t : TableValue) (sized : IsTable t) 
       unshown : (metric : Metric) (i : ℕ) → i < size_of t.class → ((v : Value) → ¬ Shows (entry_at t metric i) v) → entry_at t metric i ≡ 0
       unshown metric i below none = truth.void metric i below (λ p ok is. let s = truth.true metric p i ok is in none s.0 s.2)
 
-      -- what spells a code whose entry shows something has it as its index
-      spelled_index : (metric : Metric) (i : ℕ) (v : Value) (p : Setup) → i < size_of t.class → Shows (entry_at t metric i) v → Spells t.class i p → IsIndex t.class p i
-      spelled_index metric i v p below shown spells = of_same (cases_eq index.0 i)
-        where
-          of : (flipped : Bool) × IsOf t.class flipped p
-          of = facts.spelled_class t.class i p spells
-
-          index : (j : ℕ) × IsIndex t.class p j
-          index = facts.some_index p t.class of.0 sized.class_in spells.admissible of.1
-
-          of_same : (index.0 ≡ i) ⊎ (index.0 ≢ i) → IsIndex t.class p i
-          of_same (inl e) = subst (IsIndex t.class p) e index.1
-          of_same (inr other) =
-              let void : IsVoid t.class i = (λ q ok is. other (facts.one_index p t.class index.0 i spells.admissible index.1 (facts.index_spells q p t.class i ok is spells))) in
-              absurd ((shown_range (entry_at t metric i) v shown).0 (truth.void metric i below void))
-
       fits_true : (metric : Metric) (i : ℕ) (v : Value) → i < size_of t.class → Fits tables t metric i v
       fits_true metric i v below shown p spells =
-          let is = spelled_index metric i v p below shown spells in
+          let some = (shown_range (entry_at t metric i) v shown).0 in
+          let is = spelled_index facts t.class i p sized.class_in spells (λ void. some (truth.void metric i below void)) in
           let of = indexed_class facts t.class i p spells.admissible is in
           let o : Own p = (spells.admissible, of) in
-          let tells = shown_told facts tables metric p v spells.admissible (entry_at t metric i, entry_there metric t t.class of.0 p i sized.class_in here of.1 is, shown) in
+          let tells = shown_told facts tables metric p v spells.admissible (entry_at t metric i, entry_there tables metric t t.class of.0 p i sized.class_in here of.1 is, shown) in
           carry told (ShowsOf tables) p p (plays_itself p o) metric v (subst (FitsBeside told metric p) tells (true_fits metric p o))
 
       decided_kind : (v w : Value) → Decided (entries.SameKind v w)
-      decided_kind (Win m) (Win n) = inl tt
-      decided_kind (Win m) (Loss n) = inr (λ h. h)
-      decided_kind (Win m) Draw = inr (λ h. h)
-      decided_kind (Loss m) (Win n) = inr (λ h. h)
-      decided_kind (Loss m) (Loss n) = inl tt
-      decided_kind (Loss m) Draw = inr (λ h. h)
-      decided_kind Draw (Win n) = inr (λ h. h)
-      decided_kind Draw (Loss n) = inr (λ h. h)
-      decided_kind Draw Draw = inl tt
+      decided_kind v w = grind arith
 
       kind_true : (i : ℕ) → i < size_of t.class → (v w : Value) → Shows (entry_at t Mate i) v → Shows (entry_at t Zeroing i) w → entries.SameKind v w
       kind_true i below v w mate zeroing = of_decided (decided_kind v w)
@@ -293,7 +251,7 @@ module _ (facts : Facts) (tables : Tables) (t : TableValue) (sized : IsTable t) 
           same : (p : Setup) → IsAdmissible p → IsIndex t.class p i → entries.SameKind v w
           same p ok is =
               let of = indexed_class facts t.class i p ok is in
-              let there = λ (metric : Metric). entry_there metric t t.class of.0 p i sized.class_in here of.1 is in
+              let there = λ (metric : Metric). entry_there tables metric t t.class of.0 p i sized.class_in here of.1 is in
               subst (λ x. entries.SameKind x w) (shown_told facts tables Mate p v ok (entry_at t Mate i, there Mate, mate))
               (subst (entries.SameKind (value_at facts tables Mate p)) (shown_told facts tables Zeroing p w ok (entry_at t Zeroing i, there Zeroing, zeroing)) (true_zeroing.kind p (is_own p (ok, of))))
 

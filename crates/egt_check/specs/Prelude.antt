@@ -51,7 +51,7 @@ pub use Rattle.egt_check.specs.PawnScores.{IsRaisedByPawn}
 pub use Rattle.egt_check.specs.Place.{HasReachAt, IsPlaceOf}
 pub use Rattle.egt_check.specs.Put.{IsPut}
 pub use Rattle.egt_check.specs.ReachScores.{AreAllReachScores, AreAllScoresOf, ArePassedReachScores, AreReachScores}
-pub use Rattle.egt_check.specs.Reading.{in_range, read, read_shown, shown_range}
+pub use Rattle.egt_check.specs.Reading.{in_range, read, read_shown, shown_once, shown_range}
 pub use Rattle.egt_check.specs.RightBlock.{AreJudged, IsRightLane, KeepsPart}
 pub use Rattle.egt_check.specs.RightRow.{IsRightAt, IsRightAtOf, IsRightEnd, IsRightEndOf, IsRightReachEnd, due_in}
 pub use Rattle.egt_check.specs.ScoreRows.{AreDrawnOrNone, CodeScores, HasNoVoidScore, IsDrawnIndex, IsLaneIn, IsMaskOf}

@@ -1,5 +1,5 @@
 -- What an entry shows, as a function.
-use Rattle.std.proofs.Common.{◌≡◌, ◌≢◌, ℕ, ◌/◌, ◌%◌, ◌-◌, ◌<◌, ◌≤◌, ◌⊎◌, inl, inr, refl, ap, arith}
+use Rattle.std.proofs.Common.{◌≡◌, ◌≢◌, ℕ, ◌/◌, ◌%◌, ◌-◌, ◌≤◌, inl, inr, arith}
 use Rattle.std.proofs.lemmas.Bool.{cases_eq, cases_lt}
 use Rattle.egt_board.specs.Decided.{Decided}
 use Rattle.egt_moves.specs.Arena.{Value, Win, Loss, Draw}
@@ -7,54 +7,34 @@ use Rattle.egt_entries.specs.Entry.{Shows, IsShort}
 
 -- an entry that is not 0, not 2 and at most 64,003 shows a value
 pub in_range : (x : ℕ) → x ≢ 0 → x ≢ 2 → x ≤ 64003 → (v : Value) × Shows x v
-in_range x not_void not_two le = of_one (cases_eq x 1)
-  where
-    of_parity : x ≢ 1 → (x % 2 ≡ 0) ⊎ (x % 2 ≢ 0) → (v : Value) × Shows x v
-    of_parity not_one (inl even) = (Win (x / 2 - 1), ((omega arith, omega arith), omega arith))
-    of_parity not_one (inr odd) = (Loss ((x - 3) / 2), (omega arith, omega arith))
-
-    of_one : (x ≡ 1) ⊎ (x ≢ 1) → (v : Value) × Shows x v
-    of_one (inl one) = (Draw, (tt, one))
-    of_one (inr not_one) = of_parity not_one (cases_eq (x % 2) 0)
+in_range x not_void not_two le = elim (cases_eq x 1) [
+  | inl one ↦ (Draw, (tt, one))
+  | inr not_one ↦ elim (cases_eq (x % 2) 0) [
+    | inl even ↦ (Win (x / 2 - 1), ((omega arith, omega arith), omega arith))
+    | inr odd ↦ (Loss ((x - 3) / 2), (omega arith, omega arith))
+  ]
+]
 
 -- and one that shows a value is such
 pub shown_range : (x : ℕ) (v : Value) → Shows x v → (x ≢ 0) × (x ≢ 2) × (x ≤ 64003)
-shown_range x (Win n) s = (λ e. omega (arith, s.0.0, s.1, e), λ e. omega (arith, s.0.0, s.1, e), omega (arith, s.0.1, s.1))
-shown_range x (Loss n) s = (λ e. omega (arith, s.1, e), λ e. omega (arith, s.1, e), omega (arith, s.0, s.1))
-shown_range x Draw s = (λ e. omega (arith, s.1, e), λ e. omega (arith, s.1, e), omega (arith, s.1))
+shown_range x v s = grind arith
 
 -- no entry shows two values
 pub shown_once : (x : ℕ) (v w : Value) → Shows x v → Shows x w → v ≡ w
-shown_once x (Win n) (Win k) s t = ap Win (omega (arith, s.1, t.1))
-shown_once x (Win n) (Loss k) s t = absurd (omega (arith, s.1, t.1))
-shown_once x (Win n) Draw s t = absurd (omega (arith, s.1, t.1))
-shown_once x (Loss n) (Win k) s t = absurd (omega (arith, s.1, t.1))
-shown_once x (Loss n) (Loss k) s t = ap Loss (omega (arith, s.1, t.1))
-shown_once x (Loss n) Draw s t = absurd (omega (arith, s.1, t.1))
-shown_once x Draw (Win k) s t = absurd (omega (arith, s.1, t.1))
-shown_once x Draw (Loss k) s t = absurd (omega (arith, s.1, t.1))
-shown_once x Draw Draw s t = refl
+shown_once x v w s t = grind arith
 
 -- whether it shows one can be told
 told : (x : ℕ) → Decided ((v : Value) × Shows x v)
-told x = of_void (cases_eq x 0)
-  where
-    none : ((x ≡ 0) ⊎ ((x ≡ 2) ⊎ (64003 < x))) → Decided ((v : Value) × Shows x v)
-    none (inl e) = inr (λ s. (shown_range x s.0 s.1).0 e)
-    none (inr (inl e)) = inr (λ s. (shown_range x s.0 s.1).1 e)
-    none (inr (inr lt)) = inr (λ s. let le = (shown_range x s.0 s.1).2 in omega (arith, le, lt))
-
-    of_high : x ≢ 0 → x ≢ 2 → (64003 < x) ⊎ (x ≤ 64003) → Decided ((v : Value) × Shows x v)
-    of_high not_void not_two (inl high) = none (inr (inr high))
-    of_high not_void not_two (inr le) = inl (in_range x not_void not_two le)
-
-    of_two : x ≢ 0 → (x ≡ 2) ⊎ (x ≢ 2) → Decided ((v : Value) × Shows x v)
-    of_two not_void (inl two) = none (inr (inl two))
-    of_two not_void (inr not_two) = of_high not_void not_two (cases_lt 64003 x)
-
-    of_void : (x ≡ 0) ⊎ (x ≢ 0) → Decided ((v : Value) × Shows x v)
-    of_void (inl void) = none (inl void)
-    of_void (inr not_void) = of_two not_void (cases_eq x 2)
+told x = elim (cases_eq x 0) [
+  | inl void ↦ inr (λ s. (shown_range x s.0 s.1).0 void)
+  | inr not_void ↦ elim (cases_eq x 2) [
+    | inl two ↦ inr (λ s. (shown_range x s.0 s.1).1 two)
+    | inr not_two ↦ elim (cases_lt 64003 x) [
+      | inl high ↦ inr (λ s. let le = (shown_range x s.0 s.1).2 in omega (arith, le, high))
+      | inr le ↦ inl (in_range x not_void not_two le)
+    ]
+  ]
+]
 
 -- the value that it shows, or a draw
 value_told : {x : ℕ} → Decided ((v : Value) × Shows x v) → Value

@@ -4,6 +4,7 @@ ghost use Rattle.egt_check.specs.Prelude.{AreMenOf, number_in, at, HasColumn, me
 ghost use Rattle.egt_check.specs.Prelude.{HoldsExits, HoldsPassing, column_of, four_in, tables_in, AreAllScoresOf};
 ghost use Rattle.egt_check.specs.Prelude.{AreJudged, IsRightLane, Tables, column_score};
 
+use crate::blank::side_is_blank;
 use crate::move_scores::{FourMen, exits, move_scores, passing_captures, raise_passed};
 use crate::part::{Part, column_of};
 use crate::part_laws::entries_due_to_all_moves_are_right;
@@ -15,7 +16,7 @@ use egt_blocks::kept_blocks::BlockKey;
 use egt_blocks::men::men_on;
 use egt_board::{Side, Square};
 use egt_index::ShelfMen;
-use egt_index::laws::numbers_stand_for_codes;
+use egt_index::laws::{a_code_is_an_index_or_void, numbers_stand_for_codes};
 use egt_lanes::Block;
 use egt_table::Table;
 
@@ -128,10 +129,14 @@ pub(crate) fn block_is_right(
         AreJudged part tables four.now.own men.now first side × AreJudged part tables four.now.own men.now (first + half) side }
 {
     entries_due_to_all_moves_are_right();
+    a_code_is_an_index_or_void();
+    let column = column_of(part);
+    if side_is_blank(&four.own, column, men, first, half, side) {
+        return true;
+    }
     let Some(table) = four.own.table() else {
         return false;
     };
-    let column = column_of(part);
     let mut leaving = nothing();
     if !exits(&four.children, column, men, side, &mut leaving) {
         return false;

@@ -1,7 +1,7 @@
 //! The greatest scores of the moves of a side with two men beside the kings, who stand on two squares.
-ghost use Rattle.egt_check.specs.Prelude.{◌≡◌, ◌<◌, max, ℕ, false, true, other_side, AreMenOf, at, IsRaised};
-ghost use Rattle.egt_check.specs.Prelude.{zeroing_score, HasColumn, AreKept, AreStill, ScoresNoVoids, AreChildren};
-ghost use Rattle.egt_check.specs.Prelude.{AreFourMen, AreMoveScores, ArePassedScores, AreZeroingMoves, HoldsExits};
+ghost use Rattle.egt_check.specs.Prelude.{◌≡◌, ◌<◌, max, ℕ, false, true, P, other_side, AreMenOf, at, IsRaised};
+ghost use Rattle.egt_check.specs.Prelude.{zeroing_score, HasColumn, AreKept, ScoresNoVoids, AreChildren};
+ghost use Rattle.egt_check.specs.Prelude.{AreFourMen, AreMoveScores, ArePassedScores, HoldsExits};
 ghost use Rattle.egt_check.specs.Prelude.{HoldsPassing, AreOwnPawnMoves, IsBestPromotion, AreLeftCodes, men_swapped};
 ghost use Rattle.egt_check.specs.Prelude.{column_score};
 ghost use Rattle.egt_table.specs.declared.column.Column.TheVariants as columns;
@@ -111,6 +111,14 @@ fn raise_first_taken(
     true
 }
 
+/// Whether that side has a pawn.
+pub(crate) fn has_pawn(men: &ShelfMen, side: Side) -> bool
+    ensures last { result ≡ false → ¬ ((men.now.last.kind ≡ P) × (men.now.last.side ≡ side)) }
+    ensures one { result ≡ false → ¬ ((men.now.one.kind ≡ P) × (men.now.one.side ≡ side)) }
+{
+    is_pawn_of(men.one, side) || is_pawn_of(men.last, side)
+}
+
 /// Raises the scores to those of promotions of both men, where that side has a pawn. False where a table does not tell.
 fn raise_pawns_promoted(
     children: &Children,
@@ -122,7 +130,7 @@ fn raise_pawns_promoted(
     requires { AreChildren column children.now men.now }
     ensures { result ≡ true → (a b : ℕ) → a < 64 → b < 64 → (last first : ℕ) × IsBestPromotion column children.now.last_pawn men.now side a b last × IsBestPromotion column children.now.first_pawn (men_swapped men.now) side b a first × (at out.new a b ≡ max (at out.old a b) (max last first)) }
 {
-    if !is_pawn_of(men.one, side) && !is_pawn_of(men.last, side) {
+    if !has_pawn(men, side) {
         return true;
     }
     let mut promoted = nothing();
@@ -177,65 +185,30 @@ pub fn exits(
         && raise_pawns_promoted(children, column, men, side, out)
 }
 
-/// Raises the scores to those of pawns' advances within the class, where that side has a pawn; `still` are those of the men
-/// where they stand, the other side to move. False where the table does not tell.
-fn raise_own_pawns(
+/// The greatest scores in the column of pawns' advances within the class. False where the table does not tell.
+pub(crate) fn advances(
     own: &Own,
     column: Column,
     men: &ShelfMen,
     side: Side,
-    still: &Block,
+    keys: &mut [Option<BlockKey>],
+    blocks: &mut [Block],
     out: &mut Block,
 ) -> bool
     requires there { HasColumn column own.now }
     requires voids { ScoresNoVoids own.now.class (column_score own.now column) }
     requires men { AreMenOf own.now.class men.now }
-    requires still { AreStill own.now.class (column_score own.now column) false men.now side still.now }
-    ensures { result ≡ true → (a b : ℕ) → a < 64 → b < 64 → (pawns : ℕ) × AreOwnPawnMoves column own.now men.now side a b pawns × (at out.new a b ≡ max (at out.old a b) pawns) }
-{
-    if !is_pawn_of(men.one, side) && !is_pawn_of(men.last, side) {
-        return true;
-    }
-    let mut pawns = nothing();
-    if !own_pawn_moves(own, column, men, side, still, &mut pawns) {
-        return false;
-    }
-    raise(out, &pawns);
-    true
-}
-
-/// The greatest scores in the column of all moves of that side that zero but captures in passing, by those of its exits. False
-/// where the table does not tell.
-pub(crate) fn zeroing_moves(
-    four: &FourMen,
-    column: Column,
-    men: &ShelfMen,
-    side: Side,
-    leaving: &Block,
-    keys: &mut [Option<BlockKey>],
-    blocks: &mut [Block],
-    out: &mut Block,
-) -> bool
-    requires men { AreFourMen column four.now men.now }
-    requires leaving { HoldsExits column four.now.children men.now side leaving.now }
-    requires kept { AreKept four.now.own.class (column_score four.now.own) men.now (other_side side) keys.old blocks.old }
-    ensures kept { result ≡ true → AreKept four.now.own.class (column_score four.now.own) men.now (other_side side) keys.new blocks.new }
-    ensures scores { result ≡ true → (a b : ℕ) → a < 64 → b < 64 → AreZeroingMoves column four.now men.now side a b (at out.new a b) }
+    requires kept { AreKept own.now.class (column_score own.now) men.now (other_side side) keys.old blocks.old }
+    ensures kept { result ≡ true →
+        AreKept own.now.class (column_score own.now) men.now (other_side side) keys.new blocks.new }
+    ensures scores { result ≡ true → (a b : ℕ) → a < 64 → b < 64 →
+        AreOwnPawnMoves column own.now men.now side a b (at out.new a b) }
 {
     let mut still = nothing();
-    if !raise_kept(
-        &four.own,
-        column,
-        men,
-        side.other(),
-        keys,
-        blocks,
-        &mut still,
-    ) {
+    if !raise_kept(own, column, men, side.other(), keys, blocks, &mut still) {
         return false;
     }
-    *out = *leaving;
-    raise_own_pawns(&four.own, column, men, side, &still, out)
+    own_pawn_moves(own, column, men, side, &still, out)
 }
 
 /// The greatest scores in the column of the captures in passing. False where a table does not tell.
@@ -303,21 +276,17 @@ pub fn move_scores(
     if !quiet_block(&four.own, Column::Zeroing, men, side, keys, blocks, zeroing) {
         return false;
     }
-    let mut zeroed = nothing();
-    if !zeroing_moves(
-        four,
-        Column::Mate,
-        men,
-        side,
-        leaving,
-        keys,
-        blocks,
-        &mut zeroed,
-    ) {
+    raise(mates, leaving);
+    raise_zeroed(zeroing, leaving);
+    if !has_pawn(men, side) {
+        return true;
+    }
+    let mut pawns = nothing();
+    if !advances(&four.own, Column::Mate, men, side, keys, blocks, &mut pawns) {
         return false;
     }
-    raise(mates, &zeroed);
-    raise_zeroed(zeroing, &zeroed);
+    raise(mates, &pawns);
+    raise_zeroed(zeroing, &pawns);
     true
 }
 

@@ -5,7 +5,7 @@ ghost use Rattle.egt_check.specs.Prelude.{◌≡◌, ◌<◌, ℕ, true, other_s
 ghost use Rattle.egt_check.specs.Prelude.{HoldsPassing, ArePassedReachScores, AreReachScores, column_score};
 ghost use Rattle.egt_table.specs.declared.column.Column.TheVariants as columns;
 
-use crate::move_scores::{FourMen, zeroing_moves};
+use crate::move_scores::{FourMen, advances, has_pawn};
 use crate::table_scores::TableScores;
 use egt_blocks::blocks::nothing;
 use egt_blocks::kept_blocks::BlockKey;
@@ -36,20 +36,23 @@ pub fn reach_scores(
     if !quiet_block(&four.own, Column::Reach, men, side, keys, blocks, out) {
         return false;
     }
-    let mut zeroed = nothing();
-    if !zeroing_moves(
-        four,
+    raise(out, leaving);
+    if !has_pawn(men, side) {
+        return true;
+    }
+    let mut pawns = nothing();
+    if !advances(
+        &four.own,
         Column::Reach,
         men,
         side,
-        leaving,
         keys,
         blocks,
-        &mut zeroed,
+        &mut pawns,
     ) {
         return false;
     }
-    raise(out, &zeroed);
+    raise(out, &pawns);
     true
 }
 

@@ -157,7 +157,8 @@ pub(crate) fn row_is_right(
     {
         return false;
     }
-    let ends = lanes_of(own).without(lanes_of(scores));
+    // Told by these rows: a comparison that is kept across the branch would be taken apart lane by lane.
+    let ends = lanes_of(unlike(own, within, own));
     ends_are_right(
         table,
         part,

@@ -8,7 +8,6 @@ ghost use Rattle.egt_check.specs.Prelude.{ArePromotionsOf, HasPromotion, HasProm
 ghost use Rattle.egt_check.specs.Prelude.{KeepsPart, FourMen, KeepsBelow, men_swapped, Tables, beside, table_at};
 ghost use Rattle.egt_check.specs.Prelude.{IsTrueTable, HasBytes, column_score};
 
-use crate::blank::side_is_blank;
 use crate::block_judging::block_is_right;
 use crate::bytes::{tells_bytes, true_table_tells};
 use crate::library::Library;
@@ -24,7 +23,6 @@ use egt_blocks::own_men::{is_pawn, turned_man};
 use egt_board::{Kind, Man, Side, Square};
 use egt_class::Class;
 use egt_class::membership::of_men;
-use egt_index::laws::a_code_is_an_index_or_void;
 use egt_index::{ShelfMen, lone_man, shelf_men};
 use egt_lanes::Block;
 use egt_table::Table;
@@ -40,32 +38,6 @@ pub fn with_kings(men: &ShelfMen, white: Square, black: Square) -> ShelfMen
         on: men.on,
         last: men.last,
     }
-}
-
-/// Whether all entries of the part keep the rules, of those shelves with that side to move and of those `half` further
-/// on, whose positions have a target.
-fn side_is_right(
-    four: &FourMen,
-    men: &ShelfMen,
-    part: Part,
-    first: u32,
-    half: u32,
-    side: Side,
-    keys: &mut [Option<BlockKey>],
-    blocks: &mut [Block],
-) -> bool
-    requires men { AreFourMen (column_of part) four.now men.now }
-    requires room { first + half + 64 < 4294967296 }
-    requires kept { AreKept four.now.own.class (column_score four.now.own) men.now (other_side side) keys.old blocks.old }
-    ensures kept { result ≡ true → AreKept four.now.own.class (column_score four.now.own) men.now (other_side side) keys.new blocks.new }
-    ensures judged { result ≡ true → (tables : Tables) → AreTablesOf (tables_in part tables) (four_in part four.now) men.now →
-        AreJudged part tables four.now.own men.now first side × AreJudged part tables four.now.own men.now (first + half) side }
-{
-    a_code_is_an_index_or_void();
-    if side_is_blank(&four.own, column_of(part), men, first, half, side) {
-        return true;
-    }
-    block_is_right(four, men, part, first, half, side, keys, blocks)
 }
 
 /// Whether all entries of the part keep the rules, of the shelves from this one on, one for each digit of the first man,
@@ -92,7 +64,7 @@ fn pair_is_right(
         return false;
     };
     let there = with_kings(men, here.white, here.black);
-    side_is_right(four, &there, part, first, half, side, keys, blocks)
+    block_is_right(four, &there, part, first, half, side, keys, blocks)
 }
 
 /// Whether all entries of the part with that side to move keep the rules, of all pairs of kings' squares.

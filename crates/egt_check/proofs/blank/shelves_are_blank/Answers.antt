@@ -5,23 +5,19 @@ use Rattle.egt_check.proofs.LaneRight.{blank_lane}
 use Rattle.egt_check.proofs.Marks.{mark, none_marked}
 use Rattle.egt_check.proofs.blank.shelves_are_blank.Goals as goal
 
-pub marks_of-requires-clause-shelf : goal.marks_of-requires-clause-shelf
-marks_of-requires-clause-shelf c =
+pub marks_of-requires : goal.marks_of-requires
+marks_of-requires c =
     let men = c.args.men.now in
     let class = c.args.table.now.class in
     let are = subst (λ k. AreShelvesOf c.args.passed k men c.args.first) c.class.ensures.class (c.begin_with.ensures c.if-not-begin_with.false) in
     let under = c.loop-digit-test.true in
     let many = c.digits_of-digit-end.ensures in
-    let there = run_at c.args.passed class c.args.first men are c.loop-digit.digit c.from.result c.at.result c.first_square-from.result (omega (arith, under, many)) c.from.ensures c.at.ensures c.first_square-from.ensures in
-    subst (λ (m : ShelfMen). IsShelfOf c.args.passed class (c.args.first + c.from.result) m) (sym c.men_on-there.ensures) there.0
-
-pub marks_of-requires-clause-within : goal.marks_of-requires-clause-within
-marks_of-requires-clause-within c =
-    let men = c.args.men.now in
-    let are = subst (λ k. AreShelvesOf c.args.passed k men c.args.first) c.class.ensures.class (c.begin_with.ensures c.if-not-begin_with.false) in
-    let under = c.loop-digit-test.true in
-    let many = c.digits_of-digit-end.ensures in
-    (run_at c.args.passed c.args.table.now.class c.args.first men are c.loop-digit.digit c.from.result c.at.result c.first_square-from.result (omega (arith, under, many)) c.from.ensures c.at.ensures c.first_square-from.ensures).1
+    let there = run_at c.args.passed class c.args.first men are c.loop-digit.digit c.from.result c.at.result
+    c.first_square-from.result (omega (arith, under, many)) c.from.ensures c.at.ensures c.first_square-from.ensures in record {
+      there = c.requires.there;
+      shelf = subst (λ (m : ShelfMen). IsShelfOf c.args.passed class (c.args.first + c.from.result) m) (sym c.men_on-there.ensures) there.0;
+      within = there.1;
+    }
 
 pub loop-digit-preserved : goal.loop-digit-preserved
 loop-digit-preserved c = λ x y under y_in. elim (cases_lt x c.loop-digit.digit) [

@@ -19,20 +19,15 @@ loop-index-preserved c =
       zeroing = subst (IsFirstBad tables t (n + 1)) (sym c.earlier-bad.ensures) (first_bad_more tables t n c.loop-index.bad _ c.loop-index.invariant.zeroing c.judge-mate.ensures.zeroing);
     }
 
-pub returns-clause-kept : goal.returns-clause-kept
-returns-clause-kept c =
+pub returns : goal.returns
+returns c =
     let t = c.args.table.now in
+    let tables = beside (table_at c.args.library.now) t in
     let size_is : c.size-index-end.result ≡ size_of t.class = c.size-index-end.ensures ∙ ap (λ k. size_of k) c.class.ensures.class in
     let within = c.loop-index.invariant.within in
     let past = c.loop-index-test.false in
-    let end : c.loop-index.index ≡ size_of t.class = omega (arith, size_is, within, past) in
-    subst (KeepsBelow (beside (table_at c.args.library.now) t) t Mate) end c.loop-index.invariant.mate
-
-pub returns-clause-zeroing : goal.returns-clause-zeroing
-returns-clause-zeroing c =
-    let t = c.args.table.now in
-    let size_is : c.size-index-end.result ≡ size_of t.class = c.size-index-end.ensures ∙ ap (λ k. size_of k) c.class.ensures.class in
-    let within = c.loop-index.invariant.within in
-    let past = c.loop-index-test.false in
-    let end : c.loop-index.index ≡ size_of t.class = omega (arith, size_is, within, past) in
-    subst (λ n. IsFirstBad (beside (table_at c.args.library.now) t) t n c.loop-index.bad) end c.loop-index.invariant.zeroing
+    let end : c.loop-index.index ≡ size_of t.class = omega (arith, size_is, within, past) in record {
+      kept = subst (KeepsBelow tables t Mate) end c.loop-index.invariant.mate;
+      zeroing = subst (λ n. IsFirstBad tables t n c.loop-index.bad) end c.loop-index.invariant.zeroing;
+      broken = tt;
+    }

@@ -1,4 +1,4 @@
-use Rattle.egt_check.specs.Prelude.{◌≡◌, ◌∙◌, ◌+◌, ◌*◌, ◌-◌, ◌%◌, ◌<◌, ap, arith, inl, inr, sym, bit_at, kind_digits}
+use Rattle.egt_check.specs.Prelude.{◌≡◌, ◌∙◌, ◌+◌, ◌-◌, ap, arith, inl, inr, sym, bit_at}
 use Rattle.egt_check.specs.Prelude.{kind_less, pawn_digits}
 use Rattle.egt_check.proofs.ScoresDrawn.{shifted_high, shifted_low}
 use Rattle.egt_check.proofs.score_rows.squares_of.Goals as goal

@@ -15,20 +15,14 @@ loop-chess_move-preserved c =
     tried_more (shown_by c.args.library.now c.args.table.now) c.args.position.now c.as_slice-chess_move-items.result.now c.loop-chess_move.chess_move-index c.chess_move-item.result None c.loop-chess_move.best c.best_after-best.result
     c.loop-chess_move-test.true c.chess_move-item.is c.loop-chess_move.invariant c.best_after-best.ensures
 
-pub returns-clause-some : goal.returns-clause-some
-returns-clause-some c =
+pub returns : goal.returns
+returns c =
     let shows = shown_by c.args.library.now c.args.table.now in
     let p = c.args.position.now in
     let moves = c.as_slice-chess_move-items.result.now in
-    best_found shows p (λ m. Unit {0}) (λ m legal. tt) c.loop-chess_move.best
-    (tried_all shows p moves c.loop-chess_move.chess_move-index None c.loop-chess_move.best c.loop-chess_move-test.false
-    (λ m legal. subst (λ l. Contains l m) (sym c.as_slice-chess_move-items.ensures.value) ((c.legal_moves-moves.ensures.legal m).1 legal)) c.loop-chess_move.invariant)
-
-pub returns-clause-none : goal.returns-clause-none
-returns-clause-none c =
-    let shows = shown_by c.args.library.now c.args.table.now in
-    let p = c.args.position.now in
-    let moves = c.as_slice-chess_move-items.result.now in
-    none_found shows p (λ m. Unit {0}) (λ m legal. tt) c.loop-chess_move.best
-    (tried_all shows p moves c.loop-chess_move.chess_move-index None c.loop-chess_move.best c.loop-chess_move-test.false
-    (λ m legal. subst (λ l. Contains l m) (sym c.as_slice-chess_move-items.ensures.value) ((c.legal_moves-moves.ensures.legal m).1 legal)) c.loop-chess_move.invariant)
+    let tried =
+    tried_all shows p moves c.loop-chess_move.chess_move-index None c.loop-chess_move.best c.loop-chess_move-test.false
+    (λ m legal. subst (λ l. Contains l m) (sym c.as_slice-chess_move-items.ensures.value) ((c.legal_moves-moves.ensures.legal m).1 legal)) c.loop-chess_move.invariant in record {
+      some = best_found shows p (λ m. Unit {0}) (λ m legal. tt) c.loop-chess_move.best tried;
+      none = none_found shows p (λ m. Unit {0}) (λ m legal. tt) c.loop-chess_move.best tried;
+    }

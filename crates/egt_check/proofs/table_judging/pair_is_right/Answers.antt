@@ -8,8 +8,8 @@ use Rattle.egt_check.proofs.table_judging.pair_is_right.Goals as goal
 are_there : (part : Part) (four : FourMen) (men there : ShelfMen) (white black : ℕ) → there ≡ with_kings men white black → AreFourMen (column_of part) four men → AreFourMen (column_of part) four there
 are_there part four men there white black is are = subst (λ (other : ShelfMen). AreFourMen (column_of part) four other) (sym is) (four_there men white black (column_of part) four are)
 
-pub side_is_right-requires-clause-men : goal.side_is_right-requires-clause-men
-side_is_right-requires-clause-men c = are_there c.args.part c.args.four.now c.args.men.now c.with_kings-there.result c.in-Some.here.white c.in-Some.here.black c.with_kings-there.ensures c.requires.men
+pub block_is_right-requires-clause-men : goal.block_is_right-requires-clause-men
+block_is_right-requires-clause-men c = are_there c.args.part c.args.four.now c.args.men.now c.with_kings-there.result c.in-Some.here.white c.in-Some.here.black c.with_kings-there.ensures c.requires.men
 
 pub returns-clause-judged : goal.returns-clause-judged
 returns-clause-judged c = λ told tables are.
@@ -20,7 +20,7 @@ returns-clause-judged c = λ told tables are.
     let there : AreTablesOf (tables_in part tables) (four_in part c.args.four.now) c.with_kings-there.result =
     subst (λ (men : ShelfMen). AreTablesOf (tables_in part tables) (four_in part c.args.four.now) men) (sym c.with_kings-there.ensures)
     (tables_of_there c.args.men.now c.in-Some.here.white c.in-Some.here.black (tables_in part tables) (four_in part c.args.four.now) are) in
-    subst (λ (men : ShelfMen). AreJudged part tables t men c.args.first side × AreJudged part tables t men upper side) c.with_kings-there.ensures (c.side_is_right.ensures.judged told tables there)
+    subst (λ (men : ShelfMen). AreJudged part tables t men c.args.first side × AreJudged part tables t men upper side) c.with_kings-there.ensures (c.block_is_right.ensures.judged told tables there)
 
 -- what is kept tells of all squares of the kings
 kept_there : (d : ℕ) (worth : Column → ℕ → ℕ) (men there : ShelfMen) (white black : ℕ) (side : Side) (keys : List (Option BlockKey)) (blocks : List (List (List ℕ))) → there ≡ with_kings men white black
@@ -32,10 +32,10 @@ kept_there d worth men there white black side keys blocks is = (
       record { some = at_home.some; as_many = at_home.as_many; each = at_home.each; placed = at_home.placed }),
 )
 
-pub side_is_right-requires-clause-kept : goal.side_is_right-requires-clause-kept
-side_is_right-requires-clause-kept c =
+pub block_is_right-requires-clause-kept : goal.block_is_right-requires-clause-kept
+block_is_right-requires-clause-kept c =
     (kept_there c.args.four.now.own.class (column_score c.args.four.now.own) c.args.men.now c.with_kings-there.result c.in-Some.here.white c.in-Some.here.black (other_side c.args.side) c.args.keys.now c.args.blocks.now c.with_kings-there.ensures).0 c.requires.kept
 
 pub returns-clause-kept : goal.returns-clause-kept
 returns-clause-kept c = λ told.
-    (kept_there c.args.four.now.own.class (column_score c.args.four.now.own) c.args.men.now c.with_kings-there.result c.in-Some.here.white c.in-Some.here.black (other_side c.args.side) c.side_is_right.new.keys c.side_is_right.new.blocks c.with_kings-there.ensures).1 (c.side_is_right.ensures.kept told)
+    (kept_there c.args.four.now.own.class (column_score c.args.four.now.own) c.args.men.now c.with_kings-there.result c.in-Some.here.white c.in-Some.here.black (other_side c.args.side) c.block_is_right.new.keys c.block_is_right.new.blocks c.with_kings-there.ensures).1 (c.block_is_right.ensures.kept told)

@@ -1,6 +1,7 @@
 use Rattle.egt_check.specs.Prelude.{◌≡◌, ◌∙◌, ◌<◌, ◌*◌, ◌/◌, ◌%◌, inl, inr, arith, ap, subst, cases_lt, code_of, places}
 use Rattle.egt_check.specs.Prelude.{number_in, size_of, TellsVoid}
-use Rattle.egt_check.proofs.Marks.{all_told, whole_shelves}
+use Rattle.egt_check.proofs.ScoreRowsRead.{whole_class}
+use Rattle.egt_check.proofs.ScoresDrawn.{of_code}
 use Rattle.egt_check.proofs.voids.tells_voids.Goals as goal
 
 pub loop-shelf-preserved : goal.loop-shelf-preserved
@@ -23,8 +24,9 @@ returns c = λ _.
     let digits = c.last_digits.ensures.is ∙ ap (λ k. places k) class in
     let size = c.size.ensures ∙ ap (λ k. size_of k) class in
     let whole = subst (λ k. size_of k % (2 * places k) ≡ 0) class c.last_digits.ensures.whole in
-    let shelves = whole_shelves t.class c.size.result c.last_digits.result size digits whole in
+    let shelves = whole_class t.class c.size.result c.last_digits.result size digits whole in
     let some = c.last_digits.ensures.some in
-    let end = c.loop-shelf-test.false in
-    all_told t (λ code below. (laws.code t.class code few below, laws.within t.class code few below)) (c.size.result / (2 * c.last_digits.result)) shelves (omega (arith, some, digits))
-    (λ shelf lt side k k_in. c.loop-shelf.invariant.told shelf (omega (arith, lt, end)) side k k_in)
+    let end = c.loop-shelf-test.false in λ code below.
+    of_code t.class (c.size.result / (2 * c.last_digits.result)) (TellsVoid t) (omega (arith, some, digits)) shelves
+    (λ shelf lt side k k_in. c.loop-shelf.invariant.told shelf (omega (arith, lt, end)) side k k_in) code
+    (laws.code t.class code few below) (laws.within t.class code few below)

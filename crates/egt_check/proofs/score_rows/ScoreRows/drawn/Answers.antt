@@ -1,4 +1,4 @@
-use Rattle.egt_check.specs.Prelude.{◌≡◌, ◌∙◌, ◌<◌, ◌+◌, ◌*◌, ◌/◌, ℕ, arith, below_more, sym, subst, Side, IsVoid}
+use Rattle.egt_check.specs.Prelude.{◌≡◌, ◌∙◌, ◌<◌, ◌*◌, ◌/◌, ℕ, arith, below_more, subst, Side, IsVoid}
 use Rattle.egt_check.specs.Prelude.{code_of, places, number_in, CodeScores, IsDrawnIndex}
 use Rattle.egt_check.proofs.ScoreRowsRead.{whole_class}
 use Rattle.egt_check.proofs.ScoresDrawn.{of_code}

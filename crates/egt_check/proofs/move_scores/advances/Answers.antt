@@ -1,7 +1,6 @@
 use Rattle.egt_check.specs.Prelude.{◌≡◌, ℕ, ◌<◌, List, false, sym, subst, other_side, Side, IsSomeTurnedCode, ShelfMen}
 use Rattle.egt_check.specs.Prelude.{at, IsRaised, TableValue, Column, stand_on, AreKept, AreStill, column_score, IsRead}
-use Rattle.egt_check.proofs.Exits.{zeroing_of}
-use Rattle.egt_check.proofs.move_scores.zeroing_moves.Goals as goal
+use Rattle.egt_check.proofs.move_scores.advances.Goals as goal
 
 -- ---- the men where they stand
 
@@ -12,13 +11,8 @@ still_of t column men side other is low high none raised = λ a b a_in b_in.
     (subst (λ n. IsRaised n (λ code. IsSomeTurnedCode t.class code false (stand_on men a b) other) (column_score t column) (at high a b)) (none a b a_in b_in) (raised a b a_in b_in))
 
 pub raise_kept-requires-clause-kept : goal.raise_kept-requires-clause-kept
-raise_kept-requires-clause-kept c = subst (λ (s : Side). AreKept c.args.four.now.own.class (column_score c.args.four.now.own) c.args.men.now s c.args.keys.now c.args.blocks.now) (sym c.other.ensures) c.requires.kept
+raise_kept-requires-clause-kept c = subst (λ (s : Side). AreKept c.args.own.now.class (column_score c.args.own.now) c.args.men.now s c.args.keys.now c.args.blocks.now) (sym c.other.ensures) c.requires.kept
 
-pub raise_own_pawns-requires-clause-still : goal.raise_own_pawns-requires-clause-still
-raise_own_pawns-requires-clause-still c =
-    still_of c.args.four.now.own c.args.column c.args.men.now c.args.side c.other.result c.other.ensures c.nothing-still.result c.raise_kept.new.out c.nothing-still.ensures (c.raise_kept.ensures.raised c.if-not-raise_kept.false)
-
-pub returns-clause-scores : goal.returns-clause-scores
-returns-clause-scores c = λ told a b a_in b_in.
-    let pawns = c.raise_own_pawns.ensures told a b a_in b_in in
-    zeroing_of c.args.column c.args.four.now c.args.men.now c.args.side a b (at c.args.leaving.now a b) pawns.0 (at c.raise_own_pawns.new.out a b) (c.requires.leaving a b a_in b_in) pawns.1 pawns.2
+pub own_pawn_moves-requires-clause-still : goal.own_pawn_moves-requires-clause-still
+own_pawn_moves-requires-clause-still c =
+    still_of c.args.own.now c.args.column c.args.men.now c.args.side c.other.result c.other.ensures c.nothing-still.result c.raise_kept.new.out c.nothing-still.ensures (c.raise_kept.ensures.raised c.if-not-raise_kept.false)
