@@ -17,6 +17,7 @@ use egt_blocks::men::men_on;
 use egt_board::{Side, Square};
 use egt_index::ShelfMen;
 use egt_index::laws::{a_code_is_an_index_or_void, numbers_stand_for_codes};
+use egt_index::nearer::is_void_after;
 use egt_lanes::Block;
 use egt_table::Table;
 
@@ -131,7 +132,10 @@ pub(crate) fn block_is_right(
     entries_due_to_all_moves_are_right();
     a_code_is_an_index_or_void();
     let column = column_of(part);
-    if side_is_blank(&four.own, column, men, first, half, side) {
+    // Elsewhere some entry has a score, and its row need not be read to see that.
+    if is_void_after(four.own.class(), men.white, men.black, 0)
+        && side_is_blank(&four.own, column, men, first, half, side)
+    {
         return true;
     }
     let Some(table) = four.own.table() else {

@@ -30,9 +30,11 @@ pub(crate) fn entries_at(table: &Table, index: u32) -> ByMetric
 
 /// Where a position's entries stand: in the table of a class, at an index there.
 #[derive(Clone, Copy)]
-struct Place {
-    class: Class,
-    index: u32,
+pub struct Place {
+    /// The position's class.
+    pub class: Class,
+    /// Its index there.
+    pub index: u32,
 }
 
 /// The table of a class: this one, or one of the library.
@@ -89,7 +91,7 @@ fn place_by_men(men: &Men) -> Place
 }
 
 /// The place of the entries of where a legal move leads. The position there is not made where the men tell the place.
-fn place_after(position: &Position, men: &Men, chess_move: &Move) -> Place
+pub fn place_after(position: &Position, men: &Men, chess_move: &Move) -> Place
     requires legal { IsLegal position.now chess_move.now }
     requires men { AreMenOf position.now men.now }
     ensures { (q : Setup) → Leads position.now chess_move.now q → IsPlaceOf result q }

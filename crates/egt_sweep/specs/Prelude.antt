@@ -15,6 +15,7 @@ pub use Rattle.egt_board.specs.declared.man.Kind.{Kind}
 pub use Rattle.egt_board.specs.declared.man.Kind.TheVariants.{B, K, N, P, Q, R}
 pub use Rattle.egt_board.specs.declared.man.Man.{Man}
 pub use Rattle.egt_check.proofs.BelowTrue.{reaches_below, values_below}
+pub use Rattle.egt_check.specs.Place.{IsPlaceOf}
 pub use Rattle.egt_check.specs.Reading.{in_range, read, read_shown}
 unfoldable pub use Rattle.egt_class.specs.Children.{children_of}
 unfoldable pub use Rattle.egt_class.specs.Material.{material_of}
@@ -40,6 +41,7 @@ pub use Rattle.egt_index.specs.Code.{Spells, SpellsBy}
 pub use Rattle.egt_index.specs.DecidedSpelled.{decided_spelled}
 pub use Rattle.egt_index.specs.Index.{IsIndex, IsVoid}
 unfoldable pub use Rattle.egt_index.specs.Size.{size_of}
+pub use Rattle.egt_moves.specs.AllMen.{AreMenOf}
 pub use Rattle.egt_moves.specs.Arena.{AvoidsMateFor, CannotMateWithin, Draw, HasMove, HasValue, IsLost, IsMatedWithin}
 pub use Rattle.egt_moves.specs.Arena.{IsStalemate, IsWon, Loss, MatesWithin, SomeMove, Value, Win}
 pub use Rattle.egt_moves.specs.Chess.{IsPawnOn, Zeroes, chess}

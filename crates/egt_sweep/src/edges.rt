@@ -1,40 +1,36 @@
 //! The moves that go on in a class's game.
 ghost use Rattle.egt_sweep.specs.Prelude.{◌≡◌, ◌↔◌, ◌+◌, ◌≤◌, ◌<◌, ◌⊎◌, ℕ, Bool, IsTrue, Contains};
-ghost use Rattle.egt_sweep.specs.Prelude.{IsStrictlyIncreasing, array_vec_len, IsOf, Leads, IsLegal, IsAt, GoesOn};
-ghost use Rattle.egt_sweep.specs.Prelude.{LeadsOn, Connects};
+ghost use Rattle.egt_sweep.specs.Prelude.{IsStrictlyIncreasing, array_vec_len, AreMenOf, Setup, IsOf, Leads};
+ghost use Rattle.egt_sweep.specs.Prelude.{IsLegal, IsAt, GoesOn, LeadsOn, Connects};
 
 use crate::ascending::put;
 use crate::laws::laws;
 use arrayvec::ArrayVec;
 use egt_board::Position;
 use egt_check::Metric;
-use egt_class::{Class, of};
-use egt_index::index;
-use egt_moves::{Move, legal_moves, play_legal, zeroing};
+use egt_check::successors::place_after;
+use egt_class::Class;
+use egt_moves::{Men, Move, legal_moves, zeroing};
 
-/// Whether the move from a position of the class to the next goes on in the game: it stays in the class, or does not zero. One that does not
-/// zero stays in the class.
+/// Whether the move from a position of the class to one of the class `after` goes on in the game: it stays in the class, or does not zero.
+/// One that does not zero stays in the class.
 pub(crate) fn goes_on(
     metric: Metric,
     class: Class,
     position: &Position,
     chess_move: &Move,
-    next: &Position,
+    after: Class,
 ) -> bool
-    requires of { (flipped : Bool) × IsOf class flipped position.now }
-    requires leads { Leads position.now chess_move.now next.now }
-    ensures on { IsTrue result ↔ GoesOn metric class position.now chess_move.now next.now }
-    ensures class { IsTrue result → (flipped : Bool) × IsOf class flipped next.now }
+    requires { (flipped : Bool) × IsOf class flipped position.now }
+    ensures on { (q : Setup) (flipped : Bool) → Leads position.now chess_move.now q → IsOf after flipped q → IsTrue result ↔ GoesOn metric class position.now chess_move.now q }
+    ensures class { (q : Setup) (flipped : Bool) → Leads position.now chess_move.now q → IsOf after flipped q → IsTrue result → after ≡ class }
 {
     laws();
-    let _sides = (position.side(), next.side());
+    let _side = position.side();
     let _number = class.number();
+    let _number_after = after.number();
     match metric {
-        Metric::Mate => {
-            let (own, _flipped) = of(next);
-            let _own_number = own.number();
-            own == class
-        }
+        Metric::Mate => after == class,
         Metric::Zeroing => !zeroing(position, *chess_move),
     }
 }
@@ -44,10 +40,12 @@ fn add_edge(
     metric: Metric,
     class: Class,
     position: &Position,
+    men: &Men,
     chess_move: &Move,
     list: &mut ArrayVec<u32, 64>,
 )
     requires of { (flipped : Bool) × IsOf class flipped position.now }
+    requires men { AreMenOf position.now men.now }
     requires legal { IsLegal position.now chess_move.now }
     requires ascending { IsStrictlyIncreasing list.old.items }
     requires room { array_vec_len list.old < 64 }
@@ -57,9 +55,11 @@ fn add_edge(
 {
     laws();
     let _side = position.side();
-    let next = play_legal(position, *chess_move);
-    if goes_on(metric, class, position, chess_move, &next) {
-        put(list, index(class, &next));
+    let place = place_after(position, men, chess_move);
+    let after = place.class;
+    let index = place.index;
+    if goes_on(metric, class, position, chess_move, after) {
+        put(list, index);
     }
 }
 
@@ -71,10 +71,11 @@ pub(crate) fn edges(metric: Metric, class: Class, position: &Position) -> ArrayV
 {
     laws();
     let _side = position.side();
+    let men = Men::of(position);
     let moves = legal_moves(position);
     let mut list = ArrayVec::new();
     for chess_move in moves.as_slice() {
-        add_edge(metric, class, position, chess_move, &mut list);
+        add_edge(metric, class, position, &men, chess_move, &mut list);
     }
     list
 }

@@ -1,19 +1,20 @@
 //! What the moves that leave a game are worth in it.
 ghost use Rattle.egt_sweep.specs.Prelude.{◌≡◌, ◌+◌, ◌++◌, ◌≤◌, ◌<◌, ℕ, Bool, Some, IsSome, IfSome, option_to_list};
-ghost use Rattle.egt_sweep.specs.Prelude.{array_vec_len, IsOf, Value, IsLegal, played, Mate, Shows, near_tables, read};
-ghost use Rattle.egt_sweep.specs.Prelude.{table_at, entry_at, HasChildren, metric_of, known, Knows, IsIndexed};
-ghost use Rattle.egt_sweep.specs.Prelude.{plies_left, exit_of, shown_below, exit_by, exits_from};
+ghost use Rattle.egt_sweep.specs.Prelude.{array_vec_len, AreMenOf, Setup, IsAdmissible, IsOf, IsIndex, Value, IsLegal};
+ghost use Rattle.egt_sweep.specs.Prelude.{played, Mate, Shows, near_tables, read, table_at, entry_at, HasChildren};
+ghost use Rattle.egt_sweep.specs.Prelude.{metric_of, known, Knows, IsIndexed, plies_left, exit_of, shown_below, exit_by};
+ghost use Rattle.egt_sweep.specs.Prelude.{exits_from};
 
 use crate::edges::goes_on;
 use crate::laws::laws;
 use crate::objective::Objective;
 use arrayvec::ArrayVec;
 use egt_board::Position;
+use egt_check::successors::place_after;
 use egt_check::{Library, Metric};
-use egt_class::{Class, of};
+use egt_class::Class;
 use egt_graph::Exit;
-use egt_index::index;
-use egt_moves::{Move, legal_moves, play_legal, zeroing};
+use egt_moves::{Men, Move, legal_moves, zeroing};
 use egt_table::Column;
 
 /// The plies of an exit: in the game of zeroing moves none are left.
@@ -93,17 +94,23 @@ fn mate_entry(
     }
 }
 
-/// The exit of a move that leads to the position, whose class has its table.
-fn exit_at(objective: &Objective<'_>, own: Class, library: &Library, next: &Position) -> Exit
+/// The exit of a move that leads to the position at the index in the class, which has its table.
+fn exit_at(
+    objective: &Objective<'_>,
+    own: Class,
+    library: &Library,
+    class: Class,
+    index: u32,
+) -> Exit
     requires knows { Knows (table_at library.now) own objective.now }
-    requires there { (c : ℕ) (flipped : Bool) → c < 36 → IsOf c flipped next.now → IsSome (known (table_at library.now) own objective.now c) }
-    ensures { result ≡ exit_of (metric_of objective.now) (shown_below (known (table_at library.now) own objective.now) 36 next.now) }
+    requires there { IsSome (known (table_at library.now) own objective.now class) }
+    requires indexed { IsIndexed class index }
+    ensures { (q : Setup) (flipped : Bool) → IsAdmissible q → IsOf class flipped q → IsIndex class q index →
+        result ≡ exit_of (metric_of objective.now) (shown_below (known (table_at library.now) own objective.now) 36 q) }
 {
     laws();
-    let (class, _flipped) = of(next);
-    let _side = next.side();
     let _number = class.number();
-    let entry = mate_entry(objective, own, library, class, index(class, next));
+    let entry = mate_entry(objective, own, library, class, index);
     exit_shown(objective.metric(), entry)
 }
 
@@ -113,12 +120,14 @@ fn add_exit(
     class: Class,
     library: &Library,
     position: &Position,
+    men: &Men,
     chess_move: &Move,
     list: &mut ArrayVec<Exit, 64>,
 )
     requires knows { Knows (table_at library.now) class objective.now }
     requires children { HasChildren (table_at library.now) class }
     requires of { (flipped : Bool) × IsOf class flipped position.now }
+    requires men { AreMenOf position.now men.now }
     requires legal { IsLegal position.now chess_move.now }
     requires room { array_vec_len list.old < 64 }
     ensures items { list.new.items ≡ list.old.items ++ option_to_list (exit_by (known (table_at library.now) class objective.now) (metric_of objective.now) class position.now chess_move.now (played position.now chess_move.now)) }
@@ -131,12 +140,14 @@ fn add_exit(
     if !zeroing(position, *chess_move) {
         return;
     }
-    let next = play_legal(position, *chess_move);
+    let place = place_after(position, men, chess_move);
+    let after = place.class;
+    let index = place.index;
     let metric = objective.metric();
-    if goes_on(metric, class, position, chess_move, &next) {
+    if goes_on(metric, class, position, chess_move, after) {
         return;
     }
-    let exit = exit_at(objective, class, library, &next);
+    let exit = exit_at(objective, class, library, after, index);
     list.push(exit);
 }
 
@@ -152,10 +163,13 @@ pub(crate) fn exits_of(
     requires of { (flipped : Bool) × IsOf class flipped position.now }
     ensures { result.items ≡ exits_from (known (table_at library.now) class objective.now) (metric_of objective.now) class (Some position.now) }
 {
+    let men = Men::of(position);
     let moves = legal_moves(position);
     let mut list = ArrayVec::new();
     for chess_move in moves.as_slice() {
-        add_exit(objective, class, library, position, chess_move, &mut list);
+        add_exit(
+            objective, class, library, position, &men, chess_move, &mut list,
+        );
     }
     list
 }
