@@ -1,7 +1,10 @@
 -- The machine values of a handle. Assumes `Logic`.
 --     handle_out, handle_in     a handle is what it owns
 --     either                    it is closed, or owns a box
-use Rattle.egt_c.specs.Prelude.{◌≡◌, ℕ, List, [], ◌∷◌, ◌++◌, refl, subst, lit<, Al, Good, ghosts, shared_row, owned}
+use Rattle.egt_c.specs.Prelude.{◌≡◌, ℕ, List, [], ◌∷◌, ◌++◌, refl, subst, lit<, shared_row, owned}
+use Rattle.std.proofs.alloc.Calls.{Al}
+use Rattle.std.proofs.cell.Inside.{Good}
+use Rattle.std.specs.contracts.impls.GlobalAllocator.TheImpl.{ghosts}
 use mathlib.Core.Bool.{Bool, true, false}
 use seplogic.Ra.Ura.{Ura}
 use lib.Dec.{T}

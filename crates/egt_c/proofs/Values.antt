@@ -1,7 +1,9 @@
 -- The machine values of a `Loose`. Assumes `Logic`.
 --     loose_out, loose_in     it is the box that it owns and its handle of the heap
-use Rattle.egt_c.specs.Prelude.{◌≡◌, ℕ, List, [], ◌∷◌, ◌++◌, refl, subst, Ghosts, Al, handle_tells, Good, box_owns}
-use Rattle.egt_c.specs.Prelude.{and_tt}
+use Rattle.egt_c.specs.Prelude.{◌≡◌, ℕ, List, [], ◌∷◌, ◌++◌, refl, subst, Ghosts, box_owns}
+use Rattle.std.proofs.alloc.Calls.{Al, handle_tells}
+use Rattle.std.proofs.cell.Inside.{Good}
+use Rattle.std.proofs.ResultValues.{and_tt}
 use mathlib.Core.Bool.{true, ◌&&◌}
 use lib.Dec.{T}
 use seplogic.Ra.Ura.{Ura}

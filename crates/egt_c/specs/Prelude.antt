@@ -16,8 +16,6 @@ pub use Rattle.egt_c.specs.Owned.{heap, owned}
 pub use Rattle.egt_c.specs.Places.{column_place, rule_place, winner_number}
 pub use Rattle.egt_c.specs.RootMoves.{shown_root}
 pub use Rattle.egt_c.specs.Shared.{Shared, shared_coded, shared_row}
-pub use Rattle.egt_c.specs.contracts.handle.EgtbLibrary.{the_row, the_type}
-pub use Rattle.egt_c.specs.contracts.loose.Loose.of.{clauses, ended}
 pub use Rattle.egt_c.specs.declared.handle.EgtbLibrary.{EgtbLibrary}
 pub use Rattle.egt_c.specs.declared.men.EgtbMan.{EgtbMan}
 unfoldable pub use Rattle.egt_class.specs.Children.{children_of}
@@ -32,18 +30,10 @@ pub use Rattle.egt_table.specs.File.{IsAnswer}
 pub use Rattle.egt_table.specs.Reading.{CountsFault}
 pub use Rattle.egt_table.specs.declared.fault.FileFault.{FileFault}
 pub use Rattle.egt_table.specs.declared.fault.FileFault.TheVariants.{Device}
-pub use Rattle.std.proofs.BoxSteps.Steps.{box_in, box_out}
 pub use Rattle.std.proofs.Common.{IfSome, List, Some, [], ap, arith, get_or, length, length-set, lit<, map, refl, rules}
 pub use Rattle.std.proofs.Common.{subst, suc, sym, take, zero, ℕ, ◌++◌, ◌+◌, ◌<◌, ◌∙◌, ◌∷◌, ◌≡◌, ◌≢◌}
-pub use Rattle.std.proofs.ResultValues.{and_tt}
-pub use Rattle.std.proofs.alloc.Calls.{Al, Goes-blank, handle_tells}
-pub use Rattle.std.proofs.alloc.Shapes.{after}
-pub use Rattle.std.proofs.boxed.Box.into_raw_with_allocator.Met.{met}
-pub use Rattle.std.proofs.cell.Inside.{Good}
-pub use Rattle.std.proofs.option.Made.{Some-of, none_of}
-pub use Rattle.std.proofs.raw_atomic.Walks.{leaves, proved_at}
 pub use Rattle.std.specs.Arc.{arc_value}
 pub use Rattle.std.specs.Box.Ownership.{box_owns}
-pub use Rattle.std.specs.Prelude.{Bool, IfErr, IfNone, IfOk, IsTrue, None, Option, false, option_map, true, ◌↔◌, ◌≤◌}
-pub use Rattle.std.specs.contracts.impls.GlobalAllocator.TheImpl.{ghosts}
+pub use Rattle.std.specs.Prelude.{Bool, IfErr, IfNone, IfOk, IsTrue, MatchResult, None, Option, false, option_map, true}
+pub use Rattle.std.specs.Prelude.{◌↔◌, ◌≤◌}
 pub use Rattle.std.specs.declared.alloc.Allocator.{Ghosts}

@@ -1,5 +1,7 @@
 //! What C keeps of a library. Raw pointers stand in this file and in `loose.rt` alone.
-ghost use Rattle.egt_c.specs.Prelude.{◌≡◌, arc_value, Shared, shared_coded};
+ghost use Rattle.std.specs.Prelude.{◌≡◌};
+ghost use Rattle.std.specs.Arc.{arc_value};
+ghost use Rattle.egt_c.specs.Shared.{Shared, shared_coded};
 
 use crate::loose::Loose;
 use egt_check::Library;

@@ -1,6 +1,6 @@
 //! What is asked of positions, each given by its FEN or by its men.
-ghost use Rattle.egt_c.specs.Prelude.{◌≡◌, IfSome, IfNone, IfOk, IfErr, loaded_in, IsOfText, IsTextFault, OfText};
-ghost use Rattle.egt_c.specs.Prelude.{OfMen, TellsVerdict, TellsMove, TellsRoot, TellsMoves, closed, held};
+ghost use Rattle.egt_c.specs.Prelude.{◌≡◌, IfSome, IfNone, IfOk, IfErr, MatchResult, loaded_in, IsOfText, IsTextFault};
+ghost use Rattle.egt_c.specs.Prelude.{OfText, OfMen, TellsVerdict, TellsMove, TellsRoot, TellsMoves, closed, held};
 
 use crate::fault::EgtbFault;
 use crate::handle::EgtbLibrary;
@@ -25,51 +25,68 @@ fn position_in(fen: &[u8]) -> Result<Position, EgtbFault>
     }
 }
 
-/// Tells the verdict of a position.
-fn tell_verdict(library: &Library, position: &Position, answer: &mut EgtbAnswer) -> EgtbFault
-    ensures { TellsVerdict (loaded_in library.now) position.now result answer.old answer.new }
+/// Tells the verdict of the position, where there is one.
+fn tell_verdict(
+    library: &Library,
+    position: Result<Position, EgtbFault>,
+    answer: &mut EgtbAnswer,
+) -> EgtbFault
+    ensures { MatchResult position
+        (λ p. TellsVerdict (loaded_in library.now) p result answer.old answer.new)
+        (λ fault. (result ≡ fault) × (answer.new ≡ answer.old)) }
 {
-    match verdict(library, position) {
-        Ok(told) => {
-            *answer = EgtbAnswer::of(&told);
-            EgtbFault::none()
-        }
-        Err(missing) => EgtbFault::missing(missing.class),
+    match position {
+        Ok(position) => match verdict(library, &position) {
+            Ok(told) => {
+                *answer = EgtbAnswer::of(&told);
+                EgtbFault::none()
+            }
+            Err(missing) => EgtbFault::missing(missing.class),
+        },
+        Err(fault) => fault,
     }
 }
 
-/// Tells the move that a side does best to make in the position.
-fn tell_move(library: &Library, position: &Position, best: &mut EgtbMove) -> EgtbFault
-    ensures { TellsMove (loaded_in library.now) position.now result best.old best.new }
+/// Tells the move that a side does best to make in the position, where there is one.
+fn tell_move(
+    library: &Library,
+    position: Result<Position, EgtbFault>,
+    best: &mut EgtbMove,
+) -> EgtbFault
+    ensures { MatchResult position
+        (λ p. TellsMove (loaded_in library.now) p result best.old best.new)
+        (λ fault. (result ≡ fault) × (best.new ≡ best.old)) }
 {
-    match best_move(library, position) {
-        Ok(told) => {
-            *best = EgtbMove::of_option(told);
-            EgtbFault::none()
-        }
-        Err(missing) => EgtbFault::missing(missing.class),
+    match position {
+        Ok(position) => match best_move(library, &position) {
+            Ok(told) => {
+                *best = EgtbMove::of_option(told);
+                EgtbFault::none()
+            }
+            Err(missing) => EgtbFault::missing(missing.class),
+        },
+        Err(fault) => fault,
     }
 }
 
-/// Tells each move of the position.
-fn tell_root(library: &Library, position: &Position, moves: &mut EgtbRootMoves) -> EgtbFault
-    ensures { TellsRoot (loaded_in library.now) position.now result moves.old moves.new }
+/// Tells each move of the position, where there is one.
+fn tell_root(
+    library: &Library,
+    position: Result<Position, EgtbFault>,
+    moves: &mut EgtbRootMoves,
+) -> EgtbFault
+    ensures { MatchResult position
+        (λ p. TellsRoot (loaded_in library.now) p result moves.old moves.new)
+        (λ fault. (result ≡ fault) × (moves.new ≡ moves.old)) }
 {
-    match root(library, position) {
-        Ok(told) => {
-            *moves = EgtbRootMoves::of(told.as_slice());
-            EgtbFault::none()
-        }
-        Err(missing) => EgtbFault::missing(missing.class),
-    }
-}
-
-/// Of the position that the FEN spells.
-fn verdict_by_text(library: &Library, fen: &[u8], answer: &mut EgtbAnswer) -> EgtbFault
-    ensures { OfText (TellsVerdict (loaded_in library.now)) fen.now result answer.old answer.new }
-{
-    match position_in(fen) {
-        Ok(position) => tell_verdict(library, &position, answer),
+    match position {
+        Ok(position) => match root(library, &position) {
+            Ok(told) => {
+                *moves = EgtbRootMoves::of(told.as_slice());
+                EgtbFault::none()
+            }
+            Err(missing) => EgtbFault::missing(missing.class),
+        },
         Err(fault) => fault,
     }
 }
@@ -87,18 +104,8 @@ pub extern "C" fn egtb_verdict(
     ensures kept { held library.new ≡ held library.old }
 {
     match library.owner() {
-        Some(owner) => verdict_by_text(owner, fen, answer),
+        Some(owner) => tell_verdict(owner, position_in(fen), answer),
         None => EgtbFault::closed(),
-    }
-}
-
-/// Of the position that the men make.
-fn verdict_by_men(library: &Library, position: &EgtbPosition, answer: &mut EgtbAnswer) -> EgtbFault
-    ensures { OfMen (TellsVerdict (loaded_in library.now)) position.now result answer.old answer.new }
-{
-    match position_of(position) {
-        Ok(position) => tell_verdict(library, &position, answer),
-        Err(fault) => fault,
     }
 }
 
@@ -115,18 +122,8 @@ pub extern "C" fn egtb_verdict_of(
     ensures kept { held library.new ≡ held library.old }
 {
     match library.owner() {
-        Some(owner) => verdict_by_men(owner, position, answer),
+        Some(owner) => tell_verdict(owner, position_of(position), answer),
         None => EgtbFault::closed(),
-    }
-}
-
-/// Of the position that the FEN spells.
-fn move_by_text(library: &Library, fen: &[u8], best: &mut EgtbMove) -> EgtbFault
-    ensures { OfText (TellsMove (loaded_in library.now)) fen.now result best.old best.new }
-{
-    match position_in(fen) {
-        Ok(position) => tell_move(library, &position, best),
-        Err(fault) => fault,
     }
 }
 
@@ -140,18 +137,8 @@ pub extern "C" fn egtb_move(library: &mut EgtbLibrary, fen: &[u8], best: &mut Eg
     ensures kept { held library.new ≡ held library.old }
 {
     match library.owner() {
-        Some(owner) => move_by_text(owner, fen, best),
+        Some(owner) => tell_move(owner, position_in(fen), best),
         None => EgtbFault::closed(),
-    }
-}
-
-/// Of the position that the men make.
-fn move_by_men(library: &Library, position: &EgtbPosition, best: &mut EgtbMove) -> EgtbFault
-    ensures { OfMen (TellsMove (loaded_in library.now)) position.now result best.old best.new }
-{
-    match position_of(position) {
-        Ok(position) => tell_move(library, &position, best),
-        Err(fault) => fault,
     }
 }
 
@@ -169,18 +156,8 @@ pub extern "C" fn egtb_move_of(
     ensures kept { held library.new ≡ held library.old }
 {
     match library.owner() {
-        Some(owner) => move_by_men(owner, position, best),
+        Some(owner) => tell_move(owner, position_of(position), best),
         None => EgtbFault::closed(),
-    }
-}
-
-/// Of the position that the FEN spells.
-fn root_by_text(library: &Library, fen: &[u8], moves: &mut EgtbRootMoves) -> EgtbFault
-    ensures { OfText (TellsRoot (loaded_in library.now)) fen.now result moves.old moves.new }
-{
-    match position_in(fen) {
-        Ok(position) => tell_root(library, &position, moves),
-        Err(fault) => fault,
     }
 }
 
@@ -198,18 +175,8 @@ pub extern "C" fn egtb_root(
     ensures kept { held library.new ≡ held library.old }
 {
     match library.owner() {
-        Some(owner) => root_by_text(owner, fen, moves),
+        Some(owner) => tell_root(owner, position_in(fen), moves),
         None => EgtbFault::closed(),
-    }
-}
-
-/// Of the position that the men make.
-fn root_by_men(library: &Library, position: &EgtbPosition, moves: &mut EgtbRootMoves) -> EgtbFault
-    ensures { OfMen (TellsRoot (loaded_in library.now)) position.now result moves.old moves.new }
-{
-    match position_of(position) {
-        Ok(position) => tell_root(library, &position, moves),
-        Err(fault) => fault,
     }
 }
 
@@ -227,7 +194,7 @@ pub extern "C" fn egtb_root_of(
     ensures kept { held library.new ≡ held library.old }
 {
     match library.owner() {
-        Some(owner) => root_by_men(owner, position, moves),
+        Some(owner) => tell_root(owner, position_of(position), moves),
         None => EgtbFault::closed(),
     }
 }

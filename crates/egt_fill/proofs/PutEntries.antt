@@ -1,9 +1,9 @@
 -- Tables with some entries put anew.
-use Rattle.egt_fill.specs.Prelude.{◌≡◌, ◌≢◌, ◌⊎◌, ℕ, ◌*◌, ◌-◌, ◌%◌, ◌<◌, Option, arith, refl, sym, ap, ◌∙◌, inl, inr}
-use Rattle.egt_fill.specs.Prelude.{slice_index, subst, List, cases_eq, Spells, IsVoid, size_of, HasColumn, TableValue}
-use Rattle.egt_fill.specs.Prelude.{entries_of, entries_or_none, Column, entry_at, reach_at, Metric, Mate, Zeroing}
-use Rattle.egt_fill.specs.Prelude.{byte_score, reach_score, AreAlike, IsKnown, table_in, IsRightEndOf, HasBytes, Part}
-use Rattle.egt_fill.specs.Prelude.{near_at, IsMendedAt, IsPutAt}
+use Rattle.egt_fill.specs.Prelude.{◌≡◌, ℕ, ◌*◌, ◌-◌, ◌%◌, refl, ap, ◌∙◌, inl, inr}
+use Rattle.egt_fill.specs.Prelude.{slice_index, subst, Spells, TableValue}
+use Rattle.egt_fill.specs.Prelude.{entries_of, Column}
+use Rattle.egt_fill.specs.Prelude.{byte_score, reach_score, table_in, IsRightEndOf, HasBytes, Part}
+use Rattle.egt_fill.specs.Prelude.{IsMendedAt, IsPutAt}
 use Rattle.egt_table.specs.declared.column.Column.TheVariants as columns
 use Rattle.egt_check.specs.declared.part.Part.TheVariants as parts
 

@@ -53,7 +53,7 @@ pub use Rattle.egt_entries.specs.Tables.{HasChildren, HasReachChildren, Tables, 
 pub use Rattle.egt_entries.specs.Truth.{HasTrueChildren, IsTrueReach, IsTrueTable}
 pub use Rattle.egt_entries.specs.declared.metric.Metric.{Metric}
 pub use Rattle.egt_entries.specs.declared.metric.Metric.TheVariants.{Mate, Zeroing}
-pub use Rattle.egt_fill.specs.Begun.{AreNumbered}
+pub use Rattle.egt_fill.specs.Begun.{AreNumbered, place_of}
 pub use Rattle.egt_fill.specs.Covered.{AreAllJudged, IsDueItem, tables_with}
 pub use Rattle.egt_fill.specs.Ends.{AreOfEnd, IsEndScore}
 pub use Rattle.egt_fill.specs.Filled.{IsDrawn, IsDrawnAt, IsReached, IsWithReach}
@@ -68,7 +68,7 @@ pub use Rattle.egt_fill.specs.Rounds.{AreAllKept, AreFreshItems, IsFreshItem, Is
 pub use Rattle.egt_fill.specs.Settled.{AreAllDue, AreDue, AreScoresIn, IsFilling}
 pub use Rattle.egt_fill.specs.Stamps.{IsFresh, stamp_place}
 pub use Rattle.egt_fill.specs.Turns.{TakesKings, TurnsTo}
-pub use Rattle.egt_fill.specs.UnderWay.{IsLookedAt, IsStamped, IsUnderWay, place_of}
+pub use Rattle.egt_fill.specs.UnderWay.{IsLookedAt, IsStamped, IsUnderWay}
 pub use Rattle.egt_fill.specs.declared.filling.Filling.{Filling}
 pub use Rattle.egt_fill.specs.declared.items.Item.{Item}
 pub use Rattle.egt_fill.specs.declared.looking.Scores.{Scores}

@@ -2,15 +2,13 @@
 use Rattle.std.specs.Prelude.{◌≡◌, ◌≢◌, ℕ, ◌+◌, ◌<◌, ◌≤◌, ◌⊎◌, List, length, slice_index, slice_index_or}
 use Rattle.std.specs.List.{All}
 use Rattle.egt_table.specs.Table.{TableValue}
+use Rattle.egt_fill.specs.Begun.{place_of}
 use Rattle.egt_fill.specs.Covered.{IsDueItem}
 use Rattle.egt_fill.specs.Items.{IsItem, IsSeenItem, men_of}
 use Rattle.egt_fill.specs.Mended.{IsMended}
-use Rattle.egt_fill.specs.Stamps.{IsFresh, stamp_place}
+use Rattle.egt_fill.specs.Stamps.{IsFresh}
 use Rattle.egt_fill.specs.declared.filling.Filling.{Filling}
 use Rattle.egt_fill.specs.declared.items.Item.{Item}
-
-abbrev pub place_of : Item → ℕ
-place_of item = stamp_place item.side item.white item.black
 
 -- each item is of its own kings and side, and where none of what it reads has changed since it was looked at, its entries are due
 pub record IsUnderWay (f : Filling) (t : TableValue) (items : List Item) (places stamps : List ℕ) (tick : ℕ) : Type 0 where

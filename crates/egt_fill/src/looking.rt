@@ -47,8 +47,6 @@ fn item_scores(
 {
     let side = item.side;
     let four = beside_found(table, &f.children);
-    let mut plain = nothing();
-    let mut clocks = nothing();
     if !part_scores(
         &four,
         men,
@@ -57,13 +55,11 @@ fn item_scores(
         &item.leaving,
         keys,
         blocks,
-        &mut plain,
-        &mut clocks,
+        &mut out.plain,
+        &mut out.clocks,
     ) {
         return false;
     }
-    *out.plain = plain;
-    *out.clocks = clocks;
     if f.half == 0 {
         return true;
     }
@@ -71,9 +67,17 @@ fn item_scores(
     if !passing_captures(&f.children, column_of(f.part), men, side, &mut passing) {
         return false;
     }
-    raise_part_passed(&four, men, f.part, side, &passing, &mut plain, &mut clocks);
-    *out.passed = plain;
-    *out.passed_clocks = clocks;
+    *out.passed = *out.plain;
+    *out.passed_clocks = *out.clocks;
+    raise_part_passed(
+        &four,
+        men,
+        f.part,
+        side,
+        &passing,
+        &mut out.passed,
+        &mut out.passed_clocks,
+    );
     true
 }
 

@@ -2,14 +2,14 @@
 use Rattle.egt_graph.specs.Prelude.{◌≡◌, ℕ, ◌+◌, ◌<◌, ◌≤◌, ◌^◌, Bool, true, false, cond, not, ◌&&◌, eqb, ltb, List, []}
 use Rattle.egt_graph.specs.Prelude.{◌∷◌, ◌++◌, length, slice_index, slice_index_or, get_or, take, refl, sym, ap, ap₂}
 use Rattle.egt_graph.specs.Prelude.{◌∙◌, inl, inr, arith, count_by, replicate, list_any, cases_Bool, cases_eq, cases_lt}
-use Rattle.egt_graph.specs.Prelude.{eq-eqb, ne_eqb, and_left, and_right, le-ltb, or_from, eqb-true, get_or_append_left}
+use Rattle.egt_graph.specs.Prelude.{eq-eqb, ne_eqb, and_left, and_right, le-ltb, or_from, get_or_append_left}
 use Rattle.egt_graph.specs.Prelude.{get_or_push, get_or_past, length_push, length-replicate, sum_by_more, Graph}
 use Rattle.egt_graph.specs.Prelude.{is_empty, is_lost_before, is_won_before, mated_within, Adds, IsFilled, IsBegun}
 use Rattle.egt_graph.specs.Prelude.{outs, leaves, has_moves, count_of, decided, entry_at, later_at, is_loss, is_win_of}
 use Rattle.egt_graph.specs.Prelude.{is_loss_of, waits_at, is_winning, is_win_from, done_of, Amid, Await, Exit, Win}
 use Rattle.egt_graph.specs.Prelude.{Loss, Draw, is_node, blocks_of, IsRun, IsSchedule, Running}
 use Rattle.egt_graph.proofs.Lists.{all_count, count_by-cons}
-use Rattle.egt_graph.proofs.Holding.{decided_open, decided_shut}
+use Rattle.egt_graph.proofs.Holding.{decided_none}
 use Rattle.egt_graph.proofs.Nodes.{outs_none, leaves_none}
 use Rattle.egt_graph.proofs.Closing.{entry_none}
 use Rattle.egt_graph.proofs.Running.{none_done}
@@ -109,12 +109,6 @@ begun_waits g done i = ap₂ (λ a b. a + b) (all_count _ (λ x. refl) (outs g i
 begun_winning : (g : Graph) (done : ℕ → Bool) → ((j : ℕ) → done j ≡ false) → (i : ℕ) → is_winning g 0 done 0 i ≡ false
 begun_winning g done none i = or_from _ _ (none_passes _ (λ x. and_right (mated_within g 0 x) (done x) (none x)) (outs g i)) (none_passes _ not_lost_yet (leaves g i))
 
-same_draw : (b n : ℕ) → b ≡ decided b false false n
-same_draw b n = elim (cases_Bool (eqb b 1)) [
-  | inl t ↦ eqb-true b 1 t ∙ sym (decided_open b n false false t)
-  | inr f ↦ sym (decided_shut b n false false f)
-]
-
 pub begun_amid : (g : Graph) (es ws ls : List ℕ) (fs : List Bool) (ld wd : List (List ℕ)) → IsBegun g g.size es ws ls fs ld wd
     → (done : ℕ → Bool) → ((j : ℕ) → done j ≡ false) → Amid g 0 done 0 0 es ws
 begun_amid g es ws ls fs ld wd h done none = record { entry = entry; waiting = waiting }
@@ -135,7 +129,7 @@ begun_amid g es ws ls fs ld wd h done none = record { entry = entry; waiting = w
 
     entry : (i : ℕ) → slice_index es i ≡ decided (entry_at g 0 i) (is_winning g 0 done 0 i) (has_moves g i && eqb (waits_at g 0 done 0 i) 0) (0 + 1)
     entry i =
-        base i ∙ same_draw (entry_at g 0 i) (0 + 1)
+        base i ∙ decided_none (entry_at g 0 i) (0 + 1)
         ∙ ap₂ (λ w l. decided (entry_at g 0 i) w l (0 + 1)) (sym (begun_winning g done none i))
         (sym (ap (λ k. has_moves g i && eqb k 0) (begun_waits g done i) ∙ some_wait (outs g i) (leaves g i)))
 

@@ -13,7 +13,7 @@ use Rattle.egt_graph.specs.declared.game.Exit.TheVariants.{Win, Loss, Draw}
 use Rattle.egt_graph.proofs.Lists.{count_yes, count_no, count_by-cons, any_same_on, count_same_on}
 use Rattle.egt_graph.proofs.Values.{never_both_ever, mates_before_lt, mated_before_lt}
 use Rattle.egt_graph.proofs.Holding.{decided_open, decided_shut, win_is_no_draw, loss_is_no_draw, Hold-same}
-use Rattle.egt_graph.proofs.Nodes.{node_from_test, test_from_node, outs_are_nodes, with_node}
+use Rattle.egt_graph.proofs.Nodes.{node_from_test, or_false, test_from_node, outs_are_nodes, with_node}
 use Rattle.egt_graph.proofs.Closing.{entry_none}
 use Rattle.egt_graph.proofs.Ranking.{spelled, Spells}
 use Rattle.egt_graph.proofs.Ending.{draw_of_no_round, void_of_no_round, of_round_win, of_round_loss}
@@ -231,10 +231,6 @@ Amid_redone g law r done done' due won es ws same h =
     losses : (x : ℕ) → IsNode g x → is_known_loss g r done x ≡ is_known_loss g r done' x
     losses x node = known (mated_before g r x) (mated_within g r x) (done x) (done' x)
         (λ w b. same x (and_from _ _ (test_from_node g x node) (or_right (mates_within g r x && not (mates_before g r x)) _ (and_from _ _ w (not_from_false _ b)))))
-
-or_false : (b : Bool) → b ≡ (b || false)
-or_false true = refl
-or_false false = refl
 
 pub done_by_none : (posted : List Bool) (nodes : List ℕ) (x : ℕ) → done_of posted x ≡ done_by posted nodes 0 x
 done_by_none posted nodes x = or_false (done_of posted x)

@@ -1,6 +1,6 @@
 -- From one round to the next.
 use Rattle.egt_graph.specs.Prelude.{◌≡◌, ℕ, zero, suc, ◌+◌, Bool, true, false, cond, not, ◌&&◌, ◌||◌, eqb, List}
-use Rattle.egt_graph.specs.Prelude.{slice_index, refl, sym, ap, ap₂, subst, ◌∙◌, inl, inr, arith, count_by, list_any}
+use Rattle.egt_graph.specs.Prelude.{slice_index, refl, sym, ap, ap₂, ◌∙◌, inl, inr, arith, count_by, list_any}
 use Rattle.egt_graph.specs.Prelude.{list_all, cases_Bool, ne_eqb, Graph, IsNode, IsGame, is_empty, has_move}
 use Rattle.egt_graph.specs.Prelude.{is_lost_before, is_won_before, mated_within, mates_within, mated_before}
 use Rattle.egt_graph.specs.Prelude.{mates_before, is_node, outs, leaves, has_moves, decided, entry_at, is_known_win}
@@ -83,11 +83,8 @@ pub next_round : (g : Graph) → IsGame g → (r : ℕ) (done none : ℕ → Boo
     → ((j : ℕ) → IsNode g j → done j ≡ true) → ((j : ℕ) → IsNode g j → none j ≡ false) → (es ws : List ℕ)
     → (n : ℕ) → n ≡ suc r → Hold (entry_at g r) (has_moves g) (is_winning g r done n) (waits_at g r done n) n es ws
     → Amid g n none n n es ws
-next_round g law r done none all fresh es ws n e = subst P (sym e) at_next
+next_round g law r done none all fresh es ws n e h = rw e (at_next (rw e at h))
   where
-    P : ℕ → Type 0
-    P n = Hold (entry_at g r) (has_moves g) (is_winning g r done n) (waits_at g r done n) n es ws → Amid g n none n n es ws
-
     winning : (i : ℕ) → is_winning g r done (suc r) i ≡ is_winning g (suc r) none (suc r) i
     winning i = ap (λ b. b || list_any (is_lost_before (suc r)) (leaves g i))
         (any_same_on (IsNode g) _ _ (λ j node. loss_known_all g r done j (all j node) ∙ sym (known_none (mated_within g r j) (mated_within g (suc r) j) (none j) (fresh j node))) (outs g i) (outs_are_nodes g law i))
@@ -96,7 +93,7 @@ next_round g law r done none all fresh es ws n e = subst P (sym e) at_next
     waiting i = ap (λ k. k + count_by (λ x. not (is_won_before (suc r) x)) (leaves g i))
         (count_same_on (IsNode g) _ _ (λ j node. ap not (win_known_all g r done j (all j node) ∙ sym (known_none (mates_within g r j) (mates_within g (suc r) j) (none j) (fresh j node)))) (outs g i) (outs_are_nodes g law i))
 
-    at_next : P (suc r)
+    at_next : Hold (entry_at g r) (has_moves g) (is_winning g r done (suc r)) (waits_at g r done (suc r)) (suc r) es ws → Amid g (suc r) none (suc r) (suc r) es ws
     at_next h = record {
       entry = λ i.
           h.entry i
@@ -110,7 +107,4 @@ next_round g law r done none all fresh es ws n e = subst P (sym e) at_next
 pub closed_entries : (g : Graph) → IsGame g → (r : ℕ) (done : ℕ → Bool) → ((j : ℕ) → IsNode g j → done j ≡ true) → (es ws : List ℕ)
     → (n : ℕ) → n ≡ suc r → Hold (entry_at g r) (has_moves g) (is_winning g r done n) (waits_at g r done n) n es ws
     → (i : ℕ) → slice_index es i ≡ entry_at g n i
-closed_entries g law r done all es ws n e = subst P (sym e) (λ h i. h.entry i ∙ entry_next g law r done all i)
-  where
-    P : ℕ → Type 0
-    P n = Hold (entry_at g r) (has_moves g) (is_winning g r done n) (waits_at g r done n) n es ws → (i : ℕ) → slice_index es i ≡ entry_at g n i
+closed_entries g law r done all es ws n e h i = rw e (let h = rw e at h in h.entry i ∙ entry_next g law r done all i)

@@ -1,5 +1,5 @@
 -- When a run is over: no node is open once a round is closed exactly where no node has a rank above it.
-use Rattle.std.proofs.Common.{◌≡◌, ◌≢◌, ℕ, zero, suc, ◌+◌, ◌*◌, ◌<◌, ◌≤◌, Bool, true, false, cond, not, ◌&&◌, ◌||◌, eqb, ltb, List, [], ◌∷◌, slice_index, slice_index_or, refl, sym, ap, ap₂, subst, ◌∙◌, inl, inr, ◌⊎◌, ⊎_elim, arith, count_by, IsTrue}
+use Rattle.std.proofs.Common.{◌≡◌, ◌≢◌, ℕ, zero, suc, ◌+◌, ◌*◌, ◌<◌, ◌≤◌, Bool, true, false, cond, not, ◌&&◌, ◌||◌, eqb, ltb, List, [], ◌∷◌, slice_index, slice_index_or, refl, sym, ap, ap₂, ◌∙◌, inl, inr, ◌⊎◌, ⊎_elim, arith, count_by, IsTrue}
 use Rattle.std.specs.List.{list_any, list_all}
 use Rattle.std.proofs.lemmas.Bool.{false≢true, cases_Bool, eq-eqb, ne_eqb, eqb-true, eqb-false, both_ways, or_cases, or_left, or_right, or_parts, or_from, and_parts, and_from, lt-ltb, le-ltb, le-leb, lt-leb, ltb-true, cases_order, false_from_ne_true}
 use Rattle.egt_graph.specs.Graph.{Graph, IsNode, IsGame, HasShortDistance}
@@ -8,7 +8,7 @@ use Rattle.egt_graph.specs.Frontier.{is_node, is_entry_of_round}
 use Rattle.egt_graph.specs.Columns.{outs, leaves, has_moves, entry_at, waits_at, later_at, is_win_from, is_loss, is_open, is_open_at, Await}
 use Rattle.egt_graph.specs.declared.game.Exit.{Exit}
 use Rattle.egt_graph.specs.declared.game.Exit.TheVariants.{Win, Loss, Draw}
-use Rattle.egt_graph.proofs.Lists.{all_weaker, all_weaker_on, any_weaker, any_weaker_on, count_same_on, count_split, none_fails}
+use Rattle.egt_graph.proofs.Lists.{all_weaker, all_weaker_on, any_weaker, any_weaker_on, count_same, count_same_on, count_split, none_fails}
 use Rattle.egt_graph.proofs.Values.{never_both_ever, mates_le, mated_le, mates_more, mated_more}
 use Rattle.egt_graph.proofs.Nodes.{test_from_node, node_from_test, outs_at, leaves_at, outs_are_nodes}
 use Rattle.egt_graph.proofs.Exits.{left_has_moves}
@@ -88,13 +88,12 @@ not_yet g r i a b = or_from _ _ (false_from_ne_true _ (λ t. both_ways _ a (mate
 all_waits_are_wins : (a b c l : ℕ) → a + b ≡ l → b ≡ l + c → (a ≡ 0) × (c ≡ 0)
 all_waits_are_wins a b c l p q = (omega arith, omega arith)
 
-twice : (e : Exit) → not (not (is_no_win e)) ≡ is_no_win e
-twice (Win k) = refl
-twice (Loss k) = refl
-twice Draw = refl
+twice : (b : Bool) → not (not b) ≡ b
+twice true = refl
+twice false = refl
 
 twice_not : (xs : List Exit) → count_by (λ e. not (not (is_no_win e))) xs ≡ count_by is_no_win xs
-twice_not xs = count_same_on (λ _. Unit {0}) _ _ (λ e u. twice e) xs (λ k d lt. tt)
+twice_not xs = count_same _ _ (λ e. twice (is_no_win e)) xs
 
 settled : (w l a b c z : ℕ) → w ≡ a + b → l ≡ c → b ≡ c + z → a ≡ 0 → z ≡ 0 → b ≢ 0 → (0 < w) × (w ≡ l)
 settled w l a b c z p q r s t n = (omega arith, omega arith)
@@ -171,39 +170,29 @@ open_none m w l f h = ⊎_elim (both_ways _ (void_of_no_round m)) (λ b. false�
 
 pub some_above : (g : Graph) → IsGame g → (r : ℕ) (done : ℕ → Bool) → ((j : ℕ) → IsNode g j → done j ≡ true)
     → (es ws ls : List ℕ) (fs : List Bool) (n : ℕ) → n ≡ suc r → IsClosed g r done n es ws ls fs → (i : ℕ) → is_open_at n es ws ls fs i ≡ true → SomeAbove g r
-some_above g law r done all es ws ls fs n e = subst P (sym e) go
-  where
-    P : ℕ → Type 0
-    P n = IsClosed g r done n es ws ls fs → (i : ℕ) → is_open_at n es ws ls fs i ≡ true → SomeAbove g r
-
-    go : P (suc r)
-    go h i is =
-        let o = sym (open_test g r done (suc r) es ws ls fs h i) ∙ is in
-        elim (cases_Bool (is_node g i)) [
-          | inl t ↦ let node = node_from_test g i t in let s = spelled g i node (suc r) in above g law r done all i node s.0 s.1 o
-          | inr f ↦ absurd (open_none (suc r) (waits_at g r done (suc r) i) (later_at g (suc r) i) (list_any is_loss (leaves g i)) (rw (entry_none g (suc r) i f) at o))
-        ]
+some_above g law r done all es ws ls fs n e h i is =
+    let o = rw e at (sym (open_test g r done n es ws ls fs h i) ∙ is) in
+    elim (cases_Bool (is_node g i)) [
+      | inl t ↦ let node = node_from_test g i t in let s = spelled g i node (suc r) in above g law r done all i node s.0 s.1 o
+      | inr f ↦ absurd (open_none (suc r) (waits_at g r done (suc r) i) (later_at g (suc r) i) (list_any is_loss (leaves g i)) (rw (entry_none g (suc r) i f) at o))
+    ]
 
 -- ---- where no node is open, none has a rank above r
+
+less_of : (n r : ℕ) → (n < suc r) ⊎ (suc r < n) → n ≤ suc r → n ≤ r
+less_of n r (inl a) b = omega arith
+less_of n r (inr a) b = absurd (omega arith)
 
 now_or_never : (g : Graph) (r : ℕ) (i : ℕ) (w l : ℕ) (f : Bool) (v : Exit) → Spells g (suc r) i v → is_open (suc r) (entry_at g (suc r) i) w l f ≡ false
     → (decided_within g r i ≡ true) ⊎ ((mates_within g (suc r) i ≡ false) × (mated_within g (suc r) i ≡ false) × (is_open (suc r) 1 w l f ≡ false))
 now_or_never g r i w l f (Win n) s h = elim (cases_order n (suc r)) [
   | inl e ↦ absurd (both_ways _ (or_parts (is_entry_of_round (suc r) (2 + 2 * n)) _ (rw s.entry at h)).0 (or_left _ _ (eq-eqb (2 + 2 * n) (2 + 2 * suc r) (ap (λ k. 2 + 2 * k) e))))
-  | inr o ↦ let le : n ≤ suc r = s.within in inl (or_left _ _ (mates_le g i n r (let d = o in less_of d le) s.known.0))
+  | inr o ↦ let le : n ≤ suc r = s.within in inl (or_left _ _ (mates_le g i n r (less_of n r o le) s.known.0))
 ]
-  where
-    less_of : (n < suc r) ⊎ (suc r < n) → n ≤ suc r → n ≤ r
-    less_of (inl a) b = omega arith
-    less_of (inr a) b = absurd (omega arith)
 now_or_never g r i w l f (Loss n) s h = elim (cases_order n (suc r)) [
   | inl e ↦ absurd (both_ways _ (or_parts (is_entry_of_round (suc r) (3 + 2 * n)) _ (rw s.entry at h)).0 (or_right (eqb (3 + 2 * n) (2 + 2 * suc r)) _ (eq-eqb (3 + 2 * n) (3 + 2 * suc r) (ap (λ k. 3 + 2 * k) e))))
-  | inr o ↦ let le : n ≤ suc r = s.within in inl (or_right (mates_within g r i) _ (mated_le g i n r (less_of o le) s.known.0))
+  | inr o ↦ let le : n ≤ suc r = s.within in inl (or_right (mates_within g r i) _ (mated_le g i n r (less_of n r o le) s.known.0))
 ]
-  where
-    less_of : (n < suc r) ⊎ (suc r < n) → n ≤ suc r → n ≤ r
-    less_of (inl a) b = omega arith
-    less_of (inr a) b = absurd (omega arith)
 now_or_never g r i w l f Draw s h = inr (s.known.0, s.known.1, rw s.entry at h)
 
 -- one ply more decides nothing new, where none of m plies does
@@ -270,10 +259,5 @@ none_above g law r done all shut (suc m) i node h = no_more g law r done all shu
 pub none_open : (g : Graph) → IsGame g → (r : ℕ) (done : ℕ → Bool) → ((j : ℕ) → IsNode g j → done j ≡ true)
     → (es ws ls : List ℕ) (fs : List Bool) (n : ℕ) → n ≡ suc r → IsClosed g r done n es ws ls fs
     → ((i : ℕ) → i < g.size → is_open_at n es ws ls fs i ≡ false) → NoneAbove g r
-none_open g law r done all es ws ls fs n e = subst P (sym e) go
-  where
-    P : ℕ → Type 0
-    P n = IsClosed g r done n es ws ls fs → ((i : ℕ) → i < g.size → is_open_at n es ws ls fs i ≡ false) → NoneAbove g r
-
-    go : P (suc r)
-    go h shut i node m d = none_above g law r done all (λ k q. sym (open_test g r done (suc r) es ws ls fs h k) ∙ shut k q.in_range) m i node d
+none_open g law r done all es ws ls fs n e h shut i node m d =
+    none_above g law r done all (λ k q. rw e at (sym (open_test g r done n es ws ls fs h k) ∙ shut k q.in_range)) m i node d

@@ -1,14 +1,14 @@
 -- Exits that fall due: those of number r count from the end of round r on.
-use Rattle.egt_graph.specs.Prelude.{◌≡◌, ℕ, ◌+◌, ◌<◌, ◌≤◌, Bool, true, false, cond, not, ◌||◌, eqb, ltb, List, [], ◌∷◌}
+use Rattle.egt_graph.specs.Prelude.{◌≡◌, ℕ, ◌+◌, ◌<◌, ◌≤◌, Bool, true, false, cond, not, ◌||◌, eqb, ltb, List}
 use Rattle.egt_graph.specs.Prelude.{refl, sym, ap, ◌∙◌, inl, inr, arith, count_by, list_any, false≢true, lt-ltb, le-ltb}
 use Rattle.egt_graph.specs.Prelude.{le-leb, lt-leb, eq-eqb, ne_eqb, and_right, not_from_false, cases_order, Graph}
 use Rattle.egt_graph.specs.Prelude.{is_empty, is_lost_before, is_won_before, outs, leaves, has_moves, count_of}
 use Rattle.egt_graph.specs.Prelude.{is_known_loss, waits_at, is_winning, is_win_of, is_loss_of, is_win_from, later_at}
 use Rattle.egt_graph.specs.Prelude.{Amid, Marks, TakesBack, Exit, Win, Loss, Draw}
-use Rattle.egt_graph.proofs.Lists.{count_split, count_weaker, any_or, some_counts}
+use Rattle.egt_graph.proofs.Lists.{counted_some, count_split, count_weaker, any_or, some_counts}
 use Rattle.egt_graph.proofs.Holding.{Hold-mark, Hold-take}
 
-below_next : (k r : ℕ) → ltb k (r + 1) ≡ (ltb k r || eqb k r)
+pub below_next : (k r : ℕ) → ltb k (r + 1) ≡ (ltb k r || eqb k r)
 below_next k r = elim (cases_order k r) [
   | inl e ↦ rw (lt-ltb k (r + 1) (omega arith), le-ltb k r (omega arith), eq-eqb k r e) refl
   | inr o ↦ elim o [
@@ -50,11 +50,7 @@ later_step r (Win k) = elim (cases_order k r) [
 ]
 
 pub left_has_moves : (g : Graph) (p : Exit → Bool) (i : ℕ) → 0 < count_by p (leaves g i) → has_moves g i ≡ true
-left_has_moves g p i h = not_from_false _ (and_right (is_empty (outs g i)) _ (not_empty (leaves g i) h))
-  where
-    not_empty : (xs : List Exit) → 0 < count_by p xs → is_empty xs ≡ false
-    not_empty [] h = absurd (omega arith)
-    not_empty (x ∷ xs) h = refl
+left_has_moves g p i h = not_from_false _ (and_right (is_empty (outs g i)) _ (counted_some p (leaves g i) h))
 
 or_group : (a b c : Bool) → (a || (b || c)) ≡ ((a || b) || c)
 or_group true b c = refl

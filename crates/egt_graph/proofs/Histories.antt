@@ -1,7 +1,7 @@
 -- Any list of events.
 use Rattle.egt_graph.specs.Prelude.{◌≡◌, ℕ, zero, suc, ◌+◌, ◌<◌, Bool, true, false, cond, not, ◌&&◌, ◌||◌, eqb, List}
 use Rattle.egt_graph.specs.Prelude.{[], ◌∷◌, ◌++◌, length, slice_index_or, set, refl, sym, ap, ap₂, subst, ◌∙◌, inl}
-use Rattle.egt_graph.specs.Prelude.{inr, ◌⊎◌, arith, count_by, list_any, list_all, cases_Bool, cases_eq, cases_order}
+use Rattle.egt_graph.specs.Prelude.{inr, ◌⊎◌, arith, count_by, list_any, list_all, cases_eq, cases_order}
 use Rattle.egt_graph.specs.Prelude.{eq-eqb, ne_eqb, both_ways, or_left, true≢false, length-set, length-replicate}
 use Rattle.egt_graph.specs.Prelude.{get_or-replicate, get_or-set_same, get_or-set_other, Graph, IsNode, IsGame, IsAlike}
 use Rattle.egt_graph.specs.Prelude.{AreRanks, SomeAbove, NoneAbove, mated_within, mates_within, mated_before}
@@ -42,22 +42,16 @@ over_stays b c e = e ∙ sym (ap (λ x. x && c) e)
 -- nothing changes
 stays : (g : Graph) (limit : ℕ) (v w : State) (event : Event) → Sound g limit v → w ≡ v → is_next event ≡ false → v.phase ≡ phase_by v.phase event
     → is_running v.phase ≡ (is_running v.phase && not (is_end event)) → ((b : ℕ) (flag : Bool) → ticked_by b flag event ≡ flag) → Stepped g limit v event w
-stays g limit v w event s e next phase running ticks = subst P (sym e) go
+stays g limit v w event s e next phase running ticks = rw e (record {
+  sound = s;
+  round = plus_none v.round _ (ap (λ (c : Bool). cond {A = ℕ} c 1 0) next);
+  phase = phase;
+  running = running;
+  ticks = λ b lt r. sym (ticks b (slice_index_or v.posted b false));
+})
   where
-    P : State → Type 0
-    P x = Stepped g limit v event x
-
     plus_none : (a b : ℕ) → b ≡ 0 → a ≡ a + b
     plus_none a b q = omega arith
-
-    go : P v
-    go = record {
-      sound = s;
-      round = plus_none v.round _ (ap (λ (c : Bool). cond {A = ℕ} c 1 0) next);
-      phase = phase;
-      running = running;
-      ticks = λ b lt r. sym (ticks b (slice_index_or v.posted b false));
-    }
 
 ticked : (flags : List Bool) (block b : ℕ) → b < length flags → slice_index_or (set flags block true) b false ≡ (eqb block b || slice_index_or flags b false)
 ticked flags block b lt = elim (cases_eq block b) [
@@ -67,103 +61,64 @@ ticked flags block b lt = elim (cases_eq block b) [
 
 step_posted : (g : Graph) (limit : ℕ) (v w : State) (round block : ℕ) (nodes : List ℕ) → Sound g limit v → w ≡ record v { posted = set v.posted block true }
     → Stepped g limit v (Received round block nodes Posted) w
-step_posted g limit v w round block nodes s e = subst P (sym e) go
-  where
-    P : State → Type 0
-    P x = Stepped g limit v (Received round block nodes Posted) x
-
-    go : P (record v { posted = set v.posted block true })
-    go = record {
-      sound = record {
-        limited = s.limited;
-        long = length-set v.posted block true ∙ s.long;
-        reached = s.reached;
-        finished = s.finished;
-        too_deep = s.too_deep;
-      };
-      round = omega arith;
-      phase = refl;
-      running = stays_running (is_running v.phase) false refl;
-      ticks = λ b lt r. ticked v.posted block b (let l = s.long in omega arith);
-    }
+step_posted g limit v w round block nodes s e = rw e (record {
+  sound = record {
+    limited = s.limited;
+    long = length-set v.posted block true ∙ s.long;
+    reached = s.reached;
+    finished = s.finished;
+    too_deep = s.too_deep;
+  };
+  round = omega arith;
+  phase = refl;
+  running = stays_running (is_running v.phase) false refl;
+  ticks = λ b lt r. ticked v.posted block b (let l = s.long in omega arith);
+})
 
 step_next : (g : Graph) (limit : ℕ) (v w : State) → Sound g limit v → v.phase ≡ Running → SomeAbove g v.round
     → w ≡ record v { round = v.round + 1; posted = none_posted g } → Stepped g limit v (Closed Next) w
-step_next g limit v w s run some e = subst P (sym e) go
-  where
-    P : State → Type 0
-    P x = Stepped g limit v (Closed Next) x
+step_next g limit v w s run some e = rw e (record {
+  sound = record {
+    limited = s.limited;
+    long = length-replicate (blocks_of g.size) false;
+    reached = λ n lt. elim (cases_eq n v.round) [ inl q ↦ let Q : ℕ → Type 0 = λ m. SomeAbove g m in subst Q (sym q) some | inr ne ↦ s.reached n (omega arith) ];
+    finished = λ q. absurd (true≢false (ap is_running (sym run ∙ q)));
+    too_deep = λ q. absurd (true≢false (ap is_running (sym run ∙ q)));
+  };
+  round = refl;
+  phase = refl;
+  running = stays_running (is_running v.phase) false refl;
+  ticks = λ b lt r. get_or-replicate (blocks_of g.size) b false false lt;
+})
 
-    go : P (record v { round = v.round + 1; posted = none_posted g })
-    go = record {
-      sound = record {
-        limited = s.limited;
-        long = length-replicate (blocks_of g.size) false;
-        reached = λ n lt. elim (cases_eq n v.round) [ inl q ↦ let Q : ℕ → Type 0 = λ m. SomeAbove g m in subst Q (sym q) some | inr ne ↦ s.reached n (omega arith) ];
-        finished = λ q. absurd (true≢false (ap is_running (sym run ∙ q)));
-        too_deep = λ q. absurd (true≢false (ap is_running (sym run ∙ q)));
-      };
-      round = refl;
-      phase = refl;
-      running = stays_running (is_running v.phase) false refl;
-      ticks = λ b lt r. get_or-replicate (blocks_of g.size) b false false lt;
-    }
+-- a run that has ended goes on no more
+no_more : (b : Bool) → false ≡ (b && false)
+no_more true = refl
+no_more false = refl
 
 step_finished : (g : Graph) (limit : ℕ) (v w : State) → Sound g limit v → NoneAbove g v.round → w ≡ record v { phase = IsOver } → Stepped g limit v (Closed Finished) w
-step_finished g limit v w s none e = subst P (sym e) go
-  where
-    P : State → Type 0
-    P x = Stepped g limit v (Closed Finished) x
-
-    no_more : (b : Bool) → false ≡ (b && false)
-    no_more true = refl
-    no_more false = refl
-
-    go : P (record v { phase = IsOver })
-    go = record {
-      sound = record {
-        limited = s.limited;
-        long = s.long;
-        reached = s.reached;
-        finished = λ q. none;
-        too_deep = λ q. absurd (over_is_over q);
-      };
-      round = omega arith;
-      phase = refl;
-      running = no_more (is_running v.phase);
-      ticks = λ b lt r. refl;
-    }
-      where
-        over_is_over : IsOver ≡ IsPastLimit → ⊥
-        over_is_over q = cc
+step_finished g limit v w s none e = rw e (record {
+  sound = record { limited = s.limited; long = s.long; reached = s.reached; finished = λ q. none; too_deep = λ q. cc };
+  round = omega arith;
+  phase = refl;
+  running = no_more (is_running v.phase);
+  ticks = λ b lt r. refl;
+})
 
 step_past : (g : Graph) (limit : ℕ) (v w : State) → Sound g limit v → SomeAbove g v.round → v.round ≡ v.limit → w ≡ record v { phase = IsPastLimit } → Stepped g limit v (Closed TooDeep) w
-step_past g limit v w s some at e = subst P (sym e) go
-  where
-    P : State → Type 0
-    P x = Stepped g limit v (Closed TooDeep) x
-
-    no_more : (b : Bool) → false ≡ (b && false)
-    no_more true = refl
-    no_more false = refl
-
-    go : P (record v { phase = IsPastLimit })
-    go = record {
-      sound = record {
-        limited = s.limited;
-        long = s.long;
-        reached = s.reached;
-        finished = λ q. absurd (past_is_past q);
-        too_deep = λ q. let Q : ℕ → Type 0 = λ m. SomeAbove g m in subst Q (at ∙ s.limited) some;
-      };
-      round = omega arith;
-      phase = refl;
-      running = no_more (is_running v.phase);
-      ticks = λ b lt r. refl;
-    }
-      where
-        past_is_past : IsPastLimit ≡ IsOver → ⊥
-        past_is_past q = cc
+step_past g limit v w s some at e = rw e (record {
+  sound = record {
+    limited = s.limited;
+    long = s.long;
+    reached = s.reached;
+    finished = λ q. cc;
+    too_deep = λ q. let Q : ℕ → Type 0 = λ m. SomeAbove g m in subst Q (at ∙ s.limited) some;
+  };
+  round = omega arith;
+  phase = refl;
+  running = no_more (is_running v.phase);
+  ticks = λ b lt r. refl;
+})
 
 step_close_running : (g : Graph) (limit : ℕ) (v w : State) (answer : Close) → Sound g limit v → v.phase ≡ Running → ClosesRunning g v answer w → Stepped g limit v (Closed answer) w
 step_close_running g limit v w NotAll s run h = stays g limit v w (Closed NotAll) s h.1 refl refl (stays_running (is_running v.phase) false refl) (λ b flag. refl)
@@ -215,13 +170,7 @@ plus_nothing : (a : ℕ) → a ≡ a + 0
 plus_nothing a = omega arith
 
 went : (g : Graph) (limit : ℕ) (v w : State) (events : List Event) → Sound g limit v → Runs g v events w → Went g limit v events w
-went g limit v w [] s e = subst P (sym e) go
-  where
-    P : State → Type 0
-    P x = Went g limit v [] x
-
-    go : P v
-    go = record { sound = s; round = plus_nothing v.round; phase = refl; running = stays_running (is_running v.phase) false refl; ticks = λ b lt r. refl }
+went g limit v w [] s e = rw e (record { sound = s; round = plus_nothing v.round; phase = refl; running = stays_running (is_running v.phase) false refl; ticks = λ b lt r. refl })
 went g limit v w (event ∷ events) s h =
     let a = step g limit v h.0 event s h.1 in
     let b = went g limit h.0 w events a.sound h.2 in
@@ -242,22 +191,22 @@ sound_begun g limit = record {
   too_deep = λ e. absurd (true≢false (ap is_running e));
 }
 
+-- a run goes on exactly where no event was its end
+ended : (running end : Bool) → running ≡ not end → running ≡ false → end ≡ true
+ended running true is f = refl
+ended running false is f = absurd (both_ways running f is)
+
+going : (running end : Bool) → running ≡ not end → running ≡ true → end ≡ false
+going running true is t = absurd (both_ways running is t)
+going running false is t = refl
+
 posted_while : (g : Graph) (limit : ℕ) (events : List Event) (v : State) → Went g limit (begun g limit) events v → (b : ℕ) → b < blocks_of g.size
     → (p : Phase) → v.phase ≡ p → is_posted_in p v.posted b ≡ (list_any is_end events || ticked_after b false events)
-posted_while g limit events v h b lt p e = go p e
-  where
-    ended : is_running v.phase ≡ false → list_any is_end events ≡ true
-    ended f = elim (cases_Bool (list_any is_end events)) [ inl t ↦ t | inr u ↦ absurd (both_ways _ f (h.running ∙ ap not u)) ]
-
-    going : is_running v.phase ≡ true → list_any is_end events ≡ false
-    going t = elim (cases_Bool (list_any is_end events)) [ inl u ↦ absurd (both_ways _ (h.running ∙ ap not u) t) | inr f ↦ f ]
-
-    go : (p : Phase) → v.phase ≡ p → is_posted_in p v.posted b ≡ (list_any is_end events || ticked_after b false events)
-    go Running e =
-        h.ticks b lt (ap is_running e) ∙ ap (λ f. ticked_after b f events) (get_or-replicate (blocks_of g.size) b false false lt)
-        ∙ sym (ap (λ x. x || ticked_after b false events) (going (ap is_running e)))
-    go IsOver e = sym (or_left _ _ (ended (ap is_running e)))
-    go IsPastLimit e = sym (or_left _ _ (ended (ap is_running e)))
+posted_while g limit events v h b lt Running e =
+    h.ticks b lt (ap is_running e) ∙ ap (λ f. ticked_after b f events) (get_or-replicate (blocks_of g.size) b false false lt)
+    ∙ sym (ap (λ x. x || ticked_after b false events) (going _ _ h.running (ap is_running e)))
+posted_while g limit events v h b lt IsOver e = sym (or_left _ _ (ended _ _ h.running (ap is_running e)))
+posted_while g limit events v h b lt IsPastLimit e = sym (or_left _ _ (ended _ _ h.running (ap is_running e)))
 
 pub events_leave : EventsLeave
 events_leave g limit events v runs =
@@ -288,18 +237,9 @@ each_round_is_of_its_rank g limit before after block nodes v runs =
   where
     go : (u : State) → AfterEvents g limit before u → nodes ≡ listed g u block → (p : Phase) → u.phase ≡ p
         → ((list_any is_end before ≡ false) × (nodes ≡ front g (count_by is_next before) block)) ⊎ ((list_any is_end before ≡ true) × (nodes ≡ []))
-    go u h is Running e = inl (going u h (ap is_running e), is ∙ ap (λ p. listed_in g p u.round block) e ∙ ap (λ r. front g r block) h.round)
-      where
-        going : (u : State) → AfterEvents g limit before u → is_running u.phase ≡ true → list_any is_end before ≡ false
-        going u h t = elim (cases_Bool (list_any is_end before)) [ inl x ↦ absurd (both_ways _ (h.running ∙ ap not x) t) | inr f ↦ f ]
-    go u h is IsOver e = inr (ended u h (ap is_running e), is ∙ ap (λ p. listed_in g p u.round block) e)
-      where
-        ended : (u : State) → AfterEvents g limit before u → is_running u.phase ≡ false → list_any is_end before ≡ true
-        ended u h f = elim (cases_Bool (list_any is_end before)) [ inl t ↦ t | inr x ↦ absurd (both_ways _ f (h.running ∙ ap not x)) ]
-    go u h is IsPastLimit e = inr (ended u h (ap is_running e), is ∙ ap (λ p. listed_in g p u.round block) e)
-      where
-        ended : (u : State) → AfterEvents g limit before u → is_running u.phase ≡ false → list_any is_end before ≡ true
-        ended u h f = elim (cases_Bool (list_any is_end before)) [ inl t ↦ t | inr x ↦ absurd (both_ways _ f (h.running ∙ ap not x)) ]
+    go u h is Running e = inl (going _ _ h.running (ap is_running e), is ∙ ap (λ p. listed_in g p u.round block) e ∙ ap (λ r. front g r block) h.round)
+    go u h is IsOver e = inr (ended _ _ h.running (ap is_running e), is ∙ ap (λ p. listed_in g p u.round block) e)
+    go u h is IsPastLimit e = inr (ended _ _ h.running (ap is_running e), is ∙ ap (λ p. listed_in g p u.round block) e)
 
 -- ---- games whose calls all answer alike
 

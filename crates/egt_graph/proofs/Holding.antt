@@ -1,6 +1,6 @@
 -- Entries and counters as moves are taken back, over any account of what they hold.
 use Rattle.std.proofs.Common.{◌≡◌, ℕ, ◌+◌, ◌*◌, ◌<◌, Bool, true, false, cond, ◌&&◌, ◌||◌, eqb, ltb, List, slice_index, refl, sym, ap, ap₂, ◌∙◌, inl, inr, arith}
-use Rattle.std.proofs.lemmas.Bool.{false≢true, cases_Bool, ltb-true, ltb-false, ne_eqb, and_right}
+use Rattle.std.proofs.lemmas.Bool.{false≢true, cases_Bool, ltb-true, ltb-false, ne_eqb, eqb-true, and_right}
 use Rattle.egt_graph.specs.Columns.{count_of, decided, Hold, Marks, TakesBack}
 
 pub decided_open : (b n : ℕ) (win loss : Bool) → eqb b 1 ≡ true → decided b win loss n ≡ cond win (2 + 2 * n) (cond loss (3 + 2 * n) 1)
@@ -9,6 +9,12 @@ decided_open b n win loss e = ap (λ t. cond t (cond win (2 + 2 * n) (cond loss 
 pub decided_shut : (b n : ℕ) (win loss : Bool) → eqb b 1 ≡ false → decided b win loss n ≡ b
 decided_shut b n win loss e = ap (λ t. cond t (cond win (2 + 2 * n) (cond loss (3 + 2 * n) 1)) b) e
 
+pub decided_none : (b n : ℕ) → b ≡ decided b false false n
+decided_none b n = elim (cases_Bool (eqb b 1)) [
+  | inl t ↦ eqb-true b 1 t ∙ sym (decided_open b n false false t)
+  | inr f ↦ sym (decided_shut b n false false f)
+]
+
 pub win_is_no_draw : (n : ℕ) → eqb (2 + 2 * n) 1 ≡ false
 win_is_no_draw n = ne_eqb (2 + 2 * n) 1 (λ e. absurd (omega arith))
 
@@ -16,13 +22,10 @@ pub loss_is_no_draw : (n : ℕ) → eqb (3 + 2 * n) 1 ≡ false
 loss_is_no_draw n = ne_eqb (3 + 2 * n) 1 (λ e. absurd (omega arith))
 
 mark_open : (b n : ℕ) → eqb b 1 ≡ true → (win c loss : Bool) → (c ≡ true → loss ≡ false) → decided (decided b win loss n) c false n ≡ decided b (win || c) loss n
-mark_open b n o true c loss h =
-    ap (λ e. decided e c false n) (decided_open b n true loss o) ∙ decided_shut (2 + 2 * n) n c false (win_is_no_draw n) ∙ sym (decided_open b n true loss o)
+mark_open b n o true c loss h = rw (o, win_is_no_draw n) refl
 mark_open b n o false true true h = absurd (false≢true (sym (h refl)))
-mark_open b n o false false true h =
-    ap (λ e. decided e false false n) (decided_open b n false true o) ∙ decided_shut (3 + 2 * n) n false false (loss_is_no_draw n) ∙ sym (decided_open b n false true o)
-mark_open b n o false c false h =
-    ap (λ e. decided e c false n) (decided_open b n false false o) ∙ sym (decided_open b n c false o)
+mark_open b n o false false true h = rw (o, loss_is_no_draw n) refl
+mark_open b n o false c false h = rw o refl
 
 pub decided_mark : (b n : ℕ) (win c loss : Bool) → (c ≡ true → loss ≡ false) → decided (decided b win loss n) c false n ≡ decided b (win || c) loss n
 decided_mark b n win c loss h = elim (cases_Bool (eqb b 1)) [
@@ -32,16 +35,10 @@ decided_mark b n win c loss h = elim (cases_Bool (eqb b 1)) [
 
 take_open : (b n : ℕ) → eqb b 1 ≡ true → (win c loss z loss' : Bool) → (c ≡ true → loss ≡ false) → (c ≡ true → loss' ≡ z) → (c ≡ false → loss' ≡ loss)
     → decided (decided b win loss n) false (c && z) n ≡ decided b win loss' n
-take_open b n o true c loss z loss' h k m =
-    ap (λ e. decided e false (c && z) n) (decided_open b n true loss o) ∙ decided_shut (2 + 2 * n) n false (c && z) (win_is_no_draw n) ∙ sym (decided_open b n true loss' o)
-take_open b n o false false true z loss' h k m =
-    ap (λ e. decided e false false n) (decided_open b n false true o) ∙ decided_shut (3 + 2 * n) n false false (loss_is_no_draw n)
-    ∙ sym (decided_open b n false true o) ∙ ap (λ l. decided b false l n) (sym (m refl))
-take_open b n o false false false z loss' h k m =
-    ap (λ e. decided e false false n) (decided_open b n false false o) ∙ sym (decided_open b n false false o) ∙ ap (λ l. decided b false l n) (sym (m refl))
-take_open b n o false true loss z loss' h k m =
-    ap (λ e. decided e false z n) (ap (λ l. decided b false l n) (h refl) ∙ decided_open b n false false o)
-    ∙ sym (decided_open b n false z o) ∙ ap (λ l. decided b false l n) (sym (k refl))
+take_open b n o true c loss z loss' h k m = rw (o, win_is_no_draw n) refl
+take_open b n o false false true z loss' h k m = rw (m refl, o, loss_is_no_draw n) refl
+take_open b n o false false false z loss' h k m = rw (m refl, o) refl
+take_open b n o false true loss z loss' h k m = rw (h refl, k refl, o) refl
 
 pub decided_take : (b n : ℕ) (win c loss z loss' : Bool) → (c ≡ true → loss ≡ false) → (c ≡ true → loss' ≡ z) → (c ≡ false → loss' ≡ loss)
     → decided (decided b win loss n) false (c && z) n ≡ decided b win loss' n
@@ -52,12 +49,9 @@ decided_take b n win c loss z loss' h k m = elim (cases_Bool (eqb b 1)) [
 
 -- what was decided stays, whatever is said of it again
 again_open : (b n m : ℕ) → eqb b 1 ≡ true → (win loss : Bool) → decided (decided b win loss n) win loss m ≡ decided b win loss n
-again_open b n m o true loss =
-    ap (λ e. decided e true loss m) (decided_open b n true loss o) ∙ decided_shut (2 + 2 * n) m true loss (win_is_no_draw n) ∙ sym (decided_open b n true loss o)
-again_open b n m o false true =
-    ap (λ e. decided e false true m) (decided_open b n false true o) ∙ decided_shut (3 + 2 * n) m false true (loss_is_no_draw n) ∙ sym (decided_open b n false true o)
-again_open b n m o false false =
-    ap (λ e. decided e false false m) (decided_open b n false false o) ∙ sym (decided_open b n false false o)
+again_open b n m o true loss = rw (o, win_is_no_draw n) refl
+again_open b n m o false true = rw (o, loss_is_no_draw n) refl
+again_open b n m o false false = rw o refl
 
 pub decided_again : (b n m : ℕ) (win loss : Bool) → decided (decided b win loss n) win loss m ≡ decided b win loss n
 decided_again b n m win loss = elim (cases_Bool (eqb b 1)) [

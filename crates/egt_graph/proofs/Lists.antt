@@ -1,20 +1,13 @@
 -- Counts and tests over lists.
 use Rattle.egt_graph.specs.Prelude.{◌≡◌, ℕ, zero, suc, ◌+◌, ◌<◌, ◌≤◌, Bool, true, false, cond, not, ◌&&◌, ◌||◌, eqb}
-use Rattle.egt_graph.specs.Prelude.{ltb, List, [], ◌∷◌, length, get_or, refl, sym, ap, ap₂, ◌∙◌, inl, inr, ⊎_elim}
+use Rattle.egt_graph.specs.Prelude.{ltb, List, [], ◌∷◌, length, get_or, refl, sym, ap, ap₂, ◌∙◌, inl, inr}
 use Rattle.egt_graph.specs.Prelude.{arith, count_by, All, Contains, list_any, list_all, IsStrictlyIncreasing, count_of}
-use Rattle.egt_graph.specs.Prelude.{or_cases, or_left, or_right, and_parts, and_from, false≢true, cases_Bool, lt-ltb}
+use Rattle.egt_graph.specs.Prelude.{is_empty}
+use Rattle.egt_graph.specs.Prelude.{or_left, or_right, false≢true, cases_Bool, lt-ltb}
 use Rattle.egt_graph.specs.Prelude.{eqb-true, eq-eqb, ne_eqb, AllPass-from_list_all, list_all-from_AllPass, sum_by-cons}
 use Rattle.egt_graph.specs.Prelude.{All-contains, All-contains_itself, All-head, All-tail, All-weaker}
 
 -- ---- tests of each and of some element
-
-pub any_weaker : {X : Type 0} (p q : X → Bool) → ((x : X) → p x ≡ true → q x ≡ true) → (xs : List X) → list_any p xs ≡ true → list_any q xs ≡ true
-any_weaker p q w [] h = h
-any_weaker p q w (x ∷ xs) h = ⊎_elim (λ a. or_left _ _ (w x a)) (λ b. or_right (q x) _ (any_weaker p q w xs b)) (or_cases (p x) _ h)
-
-pub all_weaker : {X : Type 0} (p q : X → Bool) → ((x : X) → p x ≡ true → q x ≡ true) → (xs : List X) → list_all p xs ≡ true → list_all q xs ≡ true
-all_weaker p q w [] h = h
-all_weaker p q w (x ∷ xs) h = let t = and_parts (p x) (list_all p xs) h in and_from _ _ (w x t.0) (all_weaker p q w xs t.1)
 
 -- a list has an element that passes, or each that it contains does
 pub any_contains : {X : Type 0} (p : X → Bool) (xs : List X) → list_any p xs ≡ true → (x : X) × Contains xs x × (p x ≡ true)
@@ -35,16 +28,20 @@ all_contains p xs x all has = All-contains (λ y. p y ≡ true) xs x (AllPass-fr
 pub contains_all : {X : Type 0} (p : X → Bool) (xs : List X) → ((x : X) → Contains xs x → p x ≡ true) → list_all p xs ≡ true
 contains_all p xs each = list_all-from_AllPass p xs (All-weaker (Contains xs) (λ x. p x ≡ true) each xs (All-contains_itself xs))
 
+pub any_weaker : {X : Type 0} (p q : X → Bool) → ((x : X) → p x ≡ true → q x ≡ true) → (xs : List X) → list_any p xs ≡ true → list_any q xs ≡ true
+any_weaker p q w xs h = let (x, has, t) = any_contains p xs h in contains_any q xs x has (w x t)
+
+pub all_weaker : {X : Type 0} (p q : X → Bool) → ((x : X) → p x ≡ true → q x ≡ true) → (xs : List X) → list_all p xs ≡ true → list_all q xs ≡ true
+all_weaker p q w xs h = contains_all q xs (λ x has. w x (all_contains p xs x h has))
+
 pub any_same : {X : Type 0} (p q : X → Bool) → ((x : X) → p x ≡ q x) → (xs : List X) → list_any p xs ≡ list_any q xs
 any_same p q e [] = refl
 any_same p q e (x ∷ xs) = ap₂ (λ a b. a || b) (e x) (any_same p q e xs)
 
 -- some element passes p, and each passes q
 pub any_all_clash : {X : Type 0} (P : X → Type 0) (p q : X → Bool) → ((x : X) → P x → p x ≡ true → q x ≡ true → ⊥) → (xs : List X) → All P xs → list_any p xs ≡ true → list_all q xs ≡ true → ⊥
-any_all_clash P p q clash [] each some all = false≢true some
-any_all_clash P p q clash (x ∷ xs) each some all =
-    let t = and_parts (q x) (list_all q xs) all in
-    ⊎_elim (λ a. clash x (All-head P x xs each) a t.0) (λ b. any_all_clash P p q clash xs (All-tail P x xs each) b t.1) (or_cases (p x) _ some)
+any_all_clash P p q clash xs each some all =
+    let (x, has, t) = any_contains p xs some in clash x (All-contains P xs x each has) t (all_contains q xs x all has)
 
 or_swap : (a b c d : Bool) → ((a || b) || (c || d)) ≡ ((a || c) || (b || d))
 or_swap true b c d = refl
@@ -103,6 +100,10 @@ some_counts p (x ∷ xs) = elim (cases_Bool (p x)) [
   | inl t ↦ rw (count_yes p x xs t, t) (sym (lt-ltb _ _ (omega arith)))
   | inr f ↦ rw (count_no p x xs f, f) (some_counts p xs)
 ]
+
+pub counted_some : {X : Type 0} (p : X → Bool) (xs : List X) → 0 < count_by p xs → is_empty xs ≡ false
+counted_some p [] h = absurd (omega arith)
+counted_some p (x ∷ xs) h = refl
 
 pub counted_contains : (x : ℕ) (xs : List ℕ) → 0 < count_of x xs → Contains xs x
 counted_contains x [] h = absurd (omega arith)
@@ -172,14 +173,10 @@ any_same_on P p q e [] each = refl
 any_same_on P p q e (x ∷ xs) each = ap₂ (λ a b. a || b) (e x (All-head P x xs each)) (any_same_on P p q e xs (All-tail P x xs each))
 
 pub any_weaker_on : {X : Type 0} (P : X → Type 0) (p q : X → Bool) → ((x : X) → P x → p x ≡ true → q x ≡ true) → (xs : List X) → All P xs → list_any p xs ≡ true → list_any q xs ≡ true
-any_weaker_on P p q w [] each h = h
-any_weaker_on P p q w (x ∷ xs) each h =
-    ⊎_elim (λ a. or_left _ _ (w x (All-head P x xs each) a)) (λ b. or_right (q x) _ (any_weaker_on P p q w xs (All-tail P x xs each) b)) (or_cases (p x) _ h)
+any_weaker_on P p q w xs each h = let (x, has, t) = any_contains p xs h in contains_any q xs x has (w x (All-contains P xs x each has) t)
 
 pub all_weaker_on : {X : Type 0} (P : X → Type 0) (p q : X → Bool) → ((x : X) → P x → p x ≡ true → q x ≡ true) → (xs : List X) → All P xs → list_all p xs ≡ true → list_all q xs ≡ true
-all_weaker_on P p q w [] each h = h
-all_weaker_on P p q w (x ∷ xs) each h =
-    let t = and_parts (p x) (list_all p xs) h in and_from _ _ (w x (All-head P x xs each) t.0) (all_weaker_on P p q w xs (All-tail P x xs each) t.1)
+all_weaker_on P p q w xs each h = contains_all q xs (λ x has. w x (All-contains P xs x each has) (all_contains p xs x h has))
 
 pub all_same_on : {X : Type 0} (P : X → Type 0) (p q : X → Bool) → ((x : X) → P x → p x ≡ q x) → (xs : List X) → All P xs → list_all p xs ≡ list_all q xs
 all_same_on P p q e [] each = refl

@@ -2,7 +2,7 @@
 use Rattle.egt_graph.specs.Prelude.{◌≡◌, ◌≢◌, ℕ, zero, suc, ◌+◌, ◌*◌, ◌/◌, ◌<◌, ◌≤◌, ◌⊎◌, Bool, true, false, cond, ◌||◌}
 use Rattle.egt_graph.specs.Prelude.{eqb, ltb, List, [], ◌∷◌, ◌++◌, length, slice_index, slice_index_or, get_or, refl}
 use Rattle.egt_graph.specs.Prelude.{sym, ap, ◌∙◌, subst, inl, inr, ⊎_elim, arith, All, Contains, count_by, Option, Some}
-use Rattle.egt_graph.specs.Prelude.{None, list_any, false≢true, cases_Bool, cases_lt, cases_eq, cases_order, or_cases}
+use Rattle.egt_graph.specs.Prelude.{None, list_any, false≢true, cases_Bool, cases_lt, cases_eq, or_cases}
 use Rattle.egt_graph.specs.Prelude.{or_left, or_right, ltb-true, lt-ltb, le-ltb, eq-eqb, ne_eqb, both_ways, get_or_past}
 use Rattle.egt_graph.specs.Prelude.{get_or_default, length_push, All-head, All-tail, All-contains, Contains-append_left}
 use Rattle.egt_graph.specs.Prelude.{Contains-append_right, Contains-append_cases, Graph, IsNode, IsGame}
@@ -12,9 +12,11 @@ use Rattle.egt_graph.specs.Prelude.{IsShort, AreNears, SomeFar, near_at, IsNeari
 use Rattle.egt_graph.specs.Prelude.{Finds, AreFound, NoneLater, near_of_entry, AreTold, IsOver, Exit, Win, Loss, Draw}
 use Rattle.egt_graph.specs.Prelude.{Nearing}
 use Rattle.egt_graph.proofs.Beginning.{Filled_more, pushed, outside}
+use Rattle.egt_graph.proofs.Exits.{below_next}
+use Rattle.egt_graph.proofs.Values.{stays_later}
 use Rattle.egt_graph.proofs.Holding.{decided_open, decided_shut, decided_mark, win_is_no_draw}
 use Rattle.egt_graph.proofs.Lists.{any_weaker, any_or, some_counts, counted_contains, contains_counted}
-use Rattle.egt_graph.proofs.Nodes.{node_from_test, test_from_node, leaves_at, leaves_none}
+use Rattle.egt_graph.proofs.Nodes.{node_from_test, test_from_node, leaves_at, leaves_none, or_false}
 use Rattle.egt_graph.proofs.Lists.{any_contains, contains_any}
 
 pub same_both : (a b : Bool) → (a ≡ true → b ≡ true) → (b ≡ true → a ≡ true) → a ≡ b
@@ -24,10 +26,10 @@ same_both false false there back = refl
 
 -- ---- more plies
 
-near_exit_more : (n : ℕ) (e : Exit) → is_near_exit n e ≡ true → is_near_exit (suc n) e ≡ true
-near_exit_more n (Win k) h = let l = ltb-true k n h in lt-ltb _ _ (omega arith)
-near_exit_more n (Loss k) h = let l = ltb-true k n h in lt-ltb _ _ (omega arith)
-near_exit_more n Draw h = h
+near_exit_more : (n m : ℕ) → n ≤ m → (e : Exit) → is_near_exit n e ≡ true → is_near_exit m e ≡ true
+near_exit_more n m le (Win k) h = let l = ltb-true k n h in lt-ltb _ _ (omega arith)
+near_exit_more n m le (Loss k) h = let l = ltb-true k n h in lt-ltb _ _ (omega arith)
+near_exit_more n m le Draw h = h
 
 near_more : (g : Graph) (n i : ℕ) → near_within g n i ≡ true → near_within g (suc n) i ≡ true
 near_more g zero i h = or_left _ _ h
@@ -35,16 +37,12 @@ near_more g (suc n) i h = ⊎_elim
     (λ m. or_left _ _ m)
     (λ r. or_right (g.mated i) _ (⊎_elim
     (λ a. or_left _ _ (any_weaker (near_within g n) (near_within g (suc n)) (near_more g n) (g.out i) a))
-    (λ b. or_right (list_any (near_within g (suc n)) (g.out i)) _ (any_weaker (is_near_exit (suc n)) (is_near_exit (suc (suc n))) (near_exit_more (suc n)) (g.exits i) b))
+    (λ b. or_right (list_any (near_within g (suc n)) (g.out i)) _ (any_weaker (is_near_exit (suc n)) (is_near_exit (suc (suc n))) (near_exit_more (suc n) (suc (suc n)) (omega arith)) (g.exits i) b))
     (or_cases (list_any (near_within g n) (g.out i)) _ r)))
     (or_cases (g.mated i) _ h)
 
 pub near_le : (g : Graph) (i n m : ℕ) → n ≤ m → near_within g n i ≡ true → near_within g m i ≡ true
-near_le g i n zero le h = let e : n ≡ 0 = omega arith in rw e at h
-near_le g i n (suc m) le h = elim (cases_order n (suc m)) [
-  | inl e ↦ rw e at h
-  | inr o ↦ elim o [ inl lt ↦ near_more g m i (near_le g i n m (omega arith) h) | inr gt ↦ absurd (omega arith) ]
-]
+near_le g i = stays_later (λ n. near_within g n i) (λ n. near_more g n i)
 
 -- the parts of it
 pub near_by_move : (g : Graph) (n i j : ℕ) → Contains (g.out i) j → near_within g n j ≡ true → near_within g (suc n) i ≡ true
@@ -99,26 +97,8 @@ at_round g r i node near none = elim (near_known g r i node) [
 -- ---- exits of each number
 
 near_exit_next : (r : ℕ) (e : Exit) → is_near_exit (suc r) e ≡ (is_near_exit r e || (is_loss_of r e || is_win_of r e))
-near_exit_next r (Win k) = below k r
-  where
-    below : (k r : ℕ) → ltb k (suc r) ≡ (ltb k r || eqb k r)
-    below k r = elim (cases_order k r) [
-      | inl e ↦ rw (lt-ltb k (suc r) (omega arith), le-ltb k r (omega arith), eq-eqb k r e) refl
-      | inr o ↦ elim o [
-        | inl lt ↦ rw (lt-ltb k (suc r) (omega arith), lt-ltb k r lt) refl
-        | inr gt ↦ rw (le-ltb k (suc r) (omega arith), le-ltb k r (omega arith), ne_eqb k r (λ e. absurd (omega arith))) refl
-      ]
-    ]
-near_exit_next r (Loss k) = below k r
-  where
-    below : (k r : ℕ) → ltb k (suc r) ≡ (ltb k r || (eqb k r || false))
-    below k r = elim (cases_order k r) [
-      | inl e ↦ rw (lt-ltb k (suc r) (omega arith), le-ltb k r (omega arith), eq-eqb k r e) refl
-      | inr o ↦ elim o [
-        | inl lt ↦ rw (lt-ltb k (suc r) (omega arith), lt-ltb k r lt) refl
-        | inr gt ↦ rw (le-ltb k (suc r) (omega arith), le-ltb k r (omega arith), ne_eqb k r (λ e. absurd (omega arith))) refl
-      ]
-    ]
+near_exit_next r (Win k) = let e : suc r ≡ r + 1 = omega arith in rw e (below_next k r)
+near_exit_next r (Loss k) = let e : suc r ≡ r + 1 = omega arith in rw e (below_next k r) ∙ ap (λ b. ltb k r || b) (or_false (eqb k r))
 near_exit_next r Draw = refl
 
 pub exits_next : (r : ℕ) (es : List Exit) → list_any (is_near_exit (suc r)) es ≡ (list_any (is_near_exit r) es || (list_any (is_loss_of r) es || list_any (is_win_of r) es))
@@ -264,12 +244,7 @@ module _ (g : Graph) (law : IsGame g) (r : ℕ) (run : Nearing) (known : IsNeari
       ]
 
       up : n ≤ r → list_any (is_near_exit (suc r)) (g.exits i) ≡ true
-      up le = any_weaker (is_near_exit (suc n)) (is_near_exit (suc r)) (λ e h. more (suc n) (suc r) (omega (arith, le)) e h) (g.exits i) t
-        where
-          more : (a b : ℕ) → a ≤ b → (e : Exit) → is_near_exit a e ≡ true → is_near_exit b e ≡ true
-          more a b ab (Win k) h = let l = ltb-true k a h in lt-ltb _ _ (omega arith)
-          more a b ab (Loss k) h = let l = ltb-true k a h in lt-ltb _ _ (omega arith)
-          more a b ab Draw h = h
+      up le = any_weaker (is_near_exit (suc n)) (is_near_exit (suc r)) (near_exit_more (suc n) (suc r) (omega (arith, le))) (g.exits i) t
 
       now : list_any (is_loss_of n) (g.exits i) || list_any (is_win_of n) (g.exits i) ≡ true → list_any (is_near_exit (suc r)) (g.exits i) ≡ true
       now u = up (⊎_elim (late is_loss_of run.lost_due known.lost over.lost) (late is_win_of run.won_due known.won over.won) (or_cases (list_any (is_loss_of n) (g.exits i)) _ u))

@@ -1,13 +1,13 @@
 -- The moves of a game, counted, and what one node changes whose moves are taken back.
-use Rattle.std.proofs.Common.{◌≡◌, ◌≢◌, ℕ, ◌+◌, ◌<◌, ◌≤◌, Bool, true, false, cond, not, ◌&&◌, ◌||◌, eqb, ltb, List, [], ◌∷◌, refl, sym, ap, ap₂, ◌∙◌, inl, inr, ⊎_elim, arith, All, count_by}
+use Rattle.std.proofs.Common.{◌≡◌, ◌≢◌, ℕ, ◌+◌, ◌<◌, ◌≤◌, Bool, true, false, cond, not, ◌&&◌, ◌||◌, eqb, ltb, List, [], refl, sym, ap, ap₂, ◌∙◌, inl, inr, ⊎_elim, arith, All, count_by}
 use Rattle.std.specs.List.{list_any}
 use Rattle.std.proofs.lemmas.Bool.{cases_Bool, lt-ltb, ltb-true, eqb-true, eq-eqb, ne_eqb, and_parts, and_from, and_left, not-true, not_from_false, or_cases, or_right, cases_eq, false_from_ne_true, both_ways}
 use Rattle.std.proofs.lemmas.List.Elements.{All-contains, All-nil}
 use Rattle.egt_graph.specs.Graph.{Graph, IsNode, IsGame}
-use Rattle.egt_graph.specs.Value.{mated_within, mates_within, mated_before, mates_before, is_empty, is_lost_before, is_won_before}
+use Rattle.egt_graph.specs.Value.{mated_within, mates_within, mated_before, mates_before, is_lost_before, is_won_before}
 use Rattle.egt_graph.specs.Frontier.{is_node}
 use Rattle.egt_graph.specs.Columns.{outs, ins, leaves, has_moves, count_of, is_known_win, is_known_loss, waits_at, is_winning, Amid, Marks, TakesBack}
-use Rattle.egt_graph.proofs.Lists.{counted_contains, contains_counted, count_ascending, count_split, count_same, count_weaker, any_same, any_or, some_counts}
+use Rattle.egt_graph.proofs.Lists.{counted_some, counted_contains, contains_counted, count_ascending, count_split, count_same, count_weaker, any_same, any_or, some_counts}
 use Rattle.egt_graph.proofs.Values.{mates_before_within, never_both}
 use Rattle.egt_graph.proofs.Holding.{Hold-mark, Hold-take, Hold-same}
 
@@ -75,11 +75,7 @@ moves_match g law i j = elim (cases_Bool (is_node g i)) [
 
 -- a node that a move leads from has moves
 pub moved_has_moves : (g : Graph) (i j : ℕ) → 0 < count_of j (outs g i) → has_moves g i ≡ true
-moved_has_moves g i j h = not_from_false _ (and_left _ _ (not_empty (outs g i) h))
-  where
-    not_empty : (xs : List ℕ) → 0 < count_of j xs → is_empty xs ≡ false
-    not_empty [] h = absurd (omega arith)
-    not_empty (x ∷ xs) h = refl
+moved_has_moves g i j h = not_from_false _ (and_left _ _ (counted_some (λ x. eqb x j) (outs g i) h))
 
 -- ---- one more node done
 
@@ -113,7 +109,7 @@ known_not b w t p q = rw (p, q) (and_right_false w)
     and_right_false true = refl
     and_right_false false = refl
 
-or_false : (b : Bool) → b ≡ (b || false)
+pub or_false : (b : Bool) → b ≡ (b || false)
 or_false true = refl
 or_false false = refl
 

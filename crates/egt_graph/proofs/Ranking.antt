@@ -1,10 +1,10 @@
 -- What entries say of ranks, and when no further rank can come.
 use Rattle.egt_graph.specs.Prelude.{◌≡◌, ℕ, zero, suc, ◌+◌, ◌*◌, ◌<◌, ◌≤◌, Bool, true, false, cond, eqb, List, length}
-use Rattle.egt_graph.specs.Prelude.{slice_index, refl, sym, ap, ap₂, subst, ◌∙◌, inl, inr, ⊎_elim, arith, IsFalse}
+use Rattle.egt_graph.specs.Prelude.{slice_index, refl, sym, ap, ap₂, ◌∙◌, inl, inr, ⊎_elim, arith, IsFalse}
 use Rattle.egt_graph.specs.Prelude.{cases_Bool, eq-eqb, both_ways, or_cases, or_left, or_right, cases_order}
 use Rattle.egt_graph.specs.Prelude.{false_from_ne_true, ext_get_or, Graph, IsNode, IsGame, mated_within, mates_within}
 use Rattle.egt_graph.specs.Prelude.{decided_within, HasRank, IsWithin, entry_of, AreRanks, NoneAbove, is_node, entry_at}
-use Rattle.egt_graph.specs.Prelude.{Exit, Win, Loss, Draw}
+use Rattle.egt_graph.specs.Prelude.{Exit, Win, Loss, Draw, mated_before, mates_before}
 use Rattle.egt_graph.proofs.Values.{never_both_ever, mates_before_lt, mated_before_lt}
 use Rattle.egt_graph.proofs.Nodes.{test_from_node, node_from_test}
 use Rattle.egt_graph.proofs.Holding.{decided_open, decided_shut, win_is_no_draw, loss_is_no_draw}
@@ -65,44 +65,31 @@ void_is_no_node g i v = false_from_ne_true _ (λ t. let node = node_from_test g 
 
 pub final_ranks : (g : Graph) (r limit : ℕ) → r ≤ limit → NoneAbove g r → (es : List ℕ) → length es ≡ g.size
     → (n : ℕ) → n ≡ suc r → ((i : ℕ) → slice_index es i ≡ entry_at g n i) → AreRanks g limit es
-final_ranks g r limit le none es long n e = subst P (sym e) go
-  where
-    P : ℕ → Type 0
-    P n = ((i : ℕ) → slice_index es i ≡ entry_at g n i) → AreRanks g limit es
-
-    go : P (suc r)
-    go are = record {
-      all = long;
-      voids = λ i in_range v. are i ∙ entry_none g (suc r) i (void_is_no_node g i v);
-      ranks = λ i node.
-          let s = spelled g i node r in
-          let f = final g r limit i le none node s.0 s.1 in
-          (f.0, f.1, f.2, are i ∙ f.3);
-    }
+final_ranks g r limit le none es long n e are = record {
+  all = long;
+  voids = λ i in_range v. are i ∙ entry_none g n i (void_is_no_node g i v);
+  ranks = λ i node.
+      let s = spelled g i node r in
+      let f = final g r limit i le none node s.0 s.1 in
+      (f.0, f.1, f.2, are i ∙ ap (λ m. entry_at g m i) e ∙ f.3);
+}
 
 -- ---- a node has one value
 
-one_win : (g : Graph) (i n m : ℕ) → HasRank g i (Win n) → HasRank g i (Win m) → n ≡ m
-one_win g i n m a b = elim (cases_order n m) [
+-- what holds within a number of plies, and not before it, does so at one number alone
+one_first : (within before : ℕ → Bool) → ((n m : ℕ) → n < m → within n ≡ true → before m ≡ true) → (n m : ℕ)
+    → (within n ≡ true) × (before n ≡ false) → (within m ≡ true) × (before m ≡ false) → n ≡ m
+one_first within before later n m a b = elim (cases_order n m) [
   | inl e ↦ e
   | inr o ↦ elim o [
-    | inl lt ↦ absurd (both_ways _ b.1 (mates_before_lt g i n m lt a.0))
-    | inr gt ↦ absurd (both_ways _ a.1 (mates_before_lt g i m n gt b.0))
-  ]
-]
-
-one_loss : (g : Graph) (i n m : ℕ) → HasRank g i (Loss n) → HasRank g i (Loss m) → n ≡ m
-one_loss g i n m a b = elim (cases_order n m) [
-  | inl e ↦ e
-  | inr o ↦ elim o [
-    | inl lt ↦ absurd (both_ways _ b.1 (mated_before_lt g i n m lt a.0))
-    | inr gt ↦ absurd (both_ways _ a.1 (mated_before_lt g i m n gt b.0))
+    | inl lt ↦ absurd (both_ways _ b.1 (later n m lt a.0))
+    | inr gt ↦ absurd (both_ways _ a.1 (later m n gt b.0))
   ]
 ]
 
 pub one_value : (g : Graph) → IsGame g → (i : ℕ) → IsNode g i → (v w : Exit) → HasRank g i v → HasRank g i w → v ≡ w
-one_value g law i node (Win n) (Win m) a b = ap Win (one_win g i n m a b)
-one_value g law i node (Loss n) (Loss m) a b = ap Loss (one_loss g i n m a b)
+one_value g law i node (Win n) (Win m) a b = ap Win (one_first (λ k. mates_within g k i) (λ k. mates_before g k i) (mates_before_lt g i) n m a b)
+one_value g law i node (Loss n) (Loss m) a b = ap Loss (one_first (λ k. mated_within g k i) (λ k. mated_before g k i) (mated_before_lt g i) n m a b)
 one_value g law i node Draw Draw a b = refl
 one_value g law i node (Win n) (Loss m) a b = absurd (never_both_ever g law n m i node a.0 b.0)
 one_value g law i node (Loss n) (Win m) a b = absurd (never_both_ever g law m n i node b.0 a.0)

@@ -77,56 +77,64 @@ due_nodes g test rounds h n m e = λ k d lt. rw e (within (get_or (slice_index_o
 pub all_done : (g : Graph) (posted : List Bool) → length posted ≡ blocks_of g.size → All IsTrue posted → (j : ℕ) → IsNode g j → done_of posted j ≡ true
 all_done g posted long all j node = let lt = node.in_range in all (j / 4096) false (omega arith)
 
--- the columns once the exits of the round have fallen due
-pub record Falls (g : Graph) (v : State) (es ws ls : List ℕ) (fs : List Bool) : Type 0 where
-  pub hold : Amid g v.round (done_of v.posted) (v.round + 1) (v.round + 1) es ws
-  pub closed : IsClosed g v.round (done_of v.posted) (v.round + 1) es ws ls fs
+-- the columns once all blocks were posted and the exits of the round have fallen due
+pub record Falls (g : Graph) (v : State) (es ws ls es' ws' ls' : List ℕ) (fs : List Bool) : Type 0 where
+  pub all : All IsTrue v.posted
+  pub hold : Amid g v.round (done_of v.posted) (v.round + 1) (v.round + 1) es' ws'
+  pub closed : IsClosed g v.round (done_of v.posted) (v.round + 1) es' ws' ls' fs
+  pub entries_long : length es' ≡ length es
+  pub waits_long : length ws' ≡ length ws
+  pub later_long : length ls' ≡ length ls
 
 pub falls : (g : Graph) → IsGame g → (v : State) (es ws ls : List ℕ) (fs : List Bool) (ld wd : List (List ℕ)) → IsRun g v es ws ls fs ld wd → v.phase ≡ Running
-    → All IsTrue v.posted → (middle es' ws' ls' : List ℕ)
-    → Marks es (slice_index_or ld v.round []) (v.round + 1) middle
-    → TakesBack middle ws (slice_index_or wd v.round []) (v.round + 1) es' ws'
-    → ((i : ℕ) → slice_index ls' i + count_of i (slice_index_or wd v.round []) ≡ slice_index ls i)
-    → Falls g v es' ws' ls' fs
-falls g law v es ws ls fs ld wd h e all middle es' ws' ls' marks takes counts = record { hold = hold; closed = closed }
+    → All IsTrue v.posted → (es' ws' ls' es0 ws0 ls0 losses wins : List ℕ)
+    → es0 ≡ es → ws0 ≡ ws → ls0 ≡ ls → losses ≡ slice_index_or ld v.round [] → wins ≡ slice_index_or wd v.round []
+    → ((middle : List ℕ) × Marks es0 losses (v.round + 1) middle × TakesBack middle ws0 wins (v.round + 1) es' ws')
+    → ((i : ℕ) → slice_index ls' i + count_of i wins ≡ slice_index ls0 i)
+    → length es' ≡ length es0 → length ws' ≡ length ws0 → length ls' ≡ length ls0 → Falls g v es ws ls es' ws' ls' fs
+falls g law v es ws ls fs ld wd h e all es' ws' ls' es0 ws0 ls0 losses wins a b c d f columns counts entries waits later = record {
+  all = all;
+  hold = hold;
+  closed = record {
+    entry = closed_entries g law v.round (done_of v.posted) (all_done g v.posted h.flags all) es' ws' (v.round + 1) (omega arith) hold;
+    waiting = hold.waiting;
+    exits = record {
+      wins = λ i.
+          let counted = rw (c, f) at counts i in
+          let awaited = before.1.wins i in
+          let next = later_next g v.round (slice_index_or wd v.round []) (h.wins v.round) i in
+          omega arith;
+      losses = before.1.losses;
+    };
+  };
+  entries_long = entries ∙ ap length a;
+  waits_long = waits ∙ ap length b;
+  later_long = later ∙ ap length c;
+}
   where
     before : Amid g v.round (done_of v.posted) v.round v.round es ws × Await g v.round ls fs
     before = amid_of g v es ws ls fs ld wd h e
 
     hold : Amid g v.round (done_of v.posted) (v.round + 1) (v.round + 1) es' ws'
     hold =
-        won_exits_take g v.round (done_of v.posted) (v.round + 1) middle ws (slice_index_or wd v.round []) es' ws' (h.wins v.round)
-        (lost_exits_mark g v.round (done_of v.posted) v.round es ws (slice_index_or ld v.round []) middle (h.losses v.round) before.0 marks) takes
+        won_exits_take g v.round (done_of v.posted) (v.round + 1) columns.0 ws (slice_index_or wd v.round []) es' ws' (h.wins v.round)
+        (lost_exits_mark g v.round (done_of v.posted) v.round es ws (slice_index_or ld v.round []) columns.0 (h.losses v.round) before.0 (rw (a, d) at columns.1))
+        (rw (b, f) at columns.2)
 
-    closed : IsClosed g v.round (done_of v.posted) (v.round + 1) es' ws' ls' fs
-    closed = record {
-      entry = closed_entries g law v.round (done_of v.posted) (all_done g v.posted h.flags all) es' ws' (v.round + 1) (omega arith) hold;
-      waiting = hold.waiting;
-      exits = record {
-        wins = λ i.
-            let a = counts i in
-            let b = before.1.wins i in
-            let c = later_next g v.round (slice_index_or wd v.round []) (h.wins v.round) i in
-            omega arith;
-        losses = before.1.losses;
-      };
-    }
-
-pub finished_run : (g : Graph) → IsGame g → (v : State) (es ws ls : List ℕ) (fs : List Bool) (ld wd : List (List ℕ)) → IsRun g v es ws ls fs ld wd
-    → (es' ws' ls' : List ℕ) → Falls g v es' ws' ls' fs → NoneAbove g v.round → length es' ≡ length es → length ws' ≡ length ws → length ls' ≡ length ls
-    → IsRun g (record v { phase = Finished }) es' ws' ls' fs ld wd
-finished_run g law v es ws ls fs ld wd h es' ws' ls' f none a b c = record {
+pub finished_run : (g : Graph) (v : State) (es ws ls : List ℕ) (fs : List Bool) (ld wd : List (List ℕ)) → IsRun g v es ws ls fs ld wd
+    → (es' ws' ls' : List ℕ) → Falls g v es ws ls es' ws' ls' fs → NoneAbove g v.round → IsRun g (record v { phase = Finished }) es' ws' ls' fs ld wd
+finished_run g v es ws ls fs ld wd h es' ws' ls' f none = record {
   small = h.small;
   short = h.short;
   in_limit = h.in_limit;
   flags = h.flags;
-  entries_long = a ∙ h.entries_long;
-  waits_long = b ∙ h.waits_long;
-  later_long = c ∙ h.later_long;
+  entries_long = f.entries_long ∙ h.entries_long;
+  waits_long = f.waits_long ∙ h.waits_long;
+  later_long = f.later_long ∙ h.later_long;
   lost_long = h.lost_long;
   losses = h.losses;
   wins = h.wins;
-  columns = final_ranks g v.round v.limit h.in_limit none es' (a ∙ h.entries_long) (v.round + 1) (omega arith) f.closed.entry;
+  columns = final_ranks g v.round v.limit h.in_limit none es' (f.entries_long ∙ h.entries_long) (v.round + 1) (omega arith) f.closed.entry;
 }
 
 pub none_done : (g : Graph) (n : ℕ) → (j : ℕ) → done_of (replicate n false) j ≡ false
@@ -136,48 +144,35 @@ none_done g n j = elim (cases_lt (j / 4096) n) [
 ]
 
 pub next_run : (g : Graph) → IsGame g → (v : State) (es ws ls : List ℕ) (fs : List Bool) (ld wd : List (List ℕ)) → IsRun g v es ws ls fs ld wd → v.phase ≡ Running
-    → All IsTrue v.posted → (es' ws' ls' : List ℕ) → Falls g v es' ws' ls' fs → v.round ≢ v.limit
-    → length es' ≡ length es → length ws' ≡ length ws → length ls' ≡ length ls
-    → (posted : List Bool) → posted ≡ replicate (blocks_of g.size) false
+    → (es' ws' ls' : List ℕ) → Falls g v es ws ls es' ws' ls' fs → v.round ≢ v.limit → (posted : List Bool) → posted ≡ replicate (blocks_of g.size) false
     → IsRun g (record v { round = v.round + 1; posted = posted }) es' ws' ls' fs ld wd
-next_run g law v es ws ls fs ld wd h e all es' ws' ls' f ne a b c posted is = record {
+next_run g law v es ws ls fs ld wd h e es' ws' ls' f ne posted is = record {
   small = h.small;
   short = h.short;
   in_limit = let le = h.in_limit in omega arith;
   flags = ap length is ∙ length-replicate (blocks_of g.size) false;
-  entries_long = a ∙ h.entries_long;
-  waits_long = b ∙ h.waits_long;
-  later_long = c ∙ h.later_long;
+  entries_long = f.entries_long ∙ h.entries_long;
+  waits_long = f.waits_long ∙ h.waits_long;
+  later_long = f.later_long ∙ h.later_long;
   lost_long = h.lost_long;
   losses = h.losses;
   wins = h.wins;
   columns = at_phase g Running v.phase v.limit (v.round + 1) posted es' ws' ls' fs (sym e) (
-    next_round g law v.round (done_of v.posted) (done_of posted) (all_done g v.posted h.flags all) (λ j node. ap (λ p. done_of p j) is ∙ none_done g (blocks_of g.size) j)
+    next_round g law v.round (done_of v.posted) (done_of posted) (all_done g v.posted h.flags f.all) (λ j node. ap (λ p. done_of p j) is ∙ none_done g (blocks_of g.size) j)
         es' ws' (v.round + 1) (omega arith) f.hold,
     f.closed.exits,
   );
 }
 
 -- what a close finds
-pub found_open : (g : Graph) → IsGame g → (v : State) (es ws ls : List ℕ) (fs : List Bool) → length v.posted ≡ blocks_of g.size → All IsTrue v.posted
-    → Falls g v es ws ls fs → (i : ℕ) × IsTrue (is_open_at (v.round + 1) es ws ls fs i) → SomeAbove g v.round
-found_open g law v es ws ls fs long all f is =
-    some_above g law v.round (done_of v.posted) (all_done g v.posted long all) es ws ls fs (v.round + 1) (omega arith) f.closed is.0 is.1
+module _ (g : Graph) (law : IsGame g) (v : State) (es ws ls : List ℕ) (fs : List Bool) (ld wd : List (List ℕ)) (h : IsRun g v es ws ls fs ld wd) (es' ws' ls' : List ℕ) (f : Falls g v es ws ls es' ws' ls' fs) where
+  pub found_open : (i : ℕ) × IsTrue (is_open_at (v.round + 1) es' ws' ls' fs i) → SomeAbove g v.round
+  found_open is = some_above g law v.round (done_of v.posted) (all_done g v.posted h.flags f.all) es' ws' ls' fs (v.round + 1) (omega arith) f.closed is.0 is.1
 
-pub found_shut : (g : Graph) → IsGame g → (v : State) (es ws ls : List ℕ) (fs : List Bool) → length v.posted ≡ blocks_of g.size → All IsTrue v.posted
-    → Falls g v es ws ls fs → length es ≡ g.size → ((i : ℕ) → i < length es → IsFalse (is_open_at (v.round + 1) es ws ls fs i)) → NoneAbove g v.round
-found_shut g law v es ws ls fs long all f size shut =
-    none_open g law v.round (done_of v.posted) (all_done g v.posted long all) es ws ls fs (v.round + 1) (omega arith) f.closed (λ i lt. shut i (omega arith))
-
--- the same, from what a close has in hand
-pub falls_from : (g : Graph) → IsGame g → (v : State) (es ws ls : List ℕ) (fs : List Bool) (ld wd : List (List ℕ)) → IsRun g v es ws ls fs ld wd → v.phase ≡ Running
-    → All IsTrue v.posted → (es' ws' ls' es0 ws0 ls0 losses wins : List ℕ)
-    → es0 ≡ es → ws0 ≡ ws → ls0 ≡ ls → losses ≡ slice_index_or ld v.round [] → wins ≡ slice_index_or wd v.round []
-    → ((middle : List ℕ) × Marks es0 losses (v.round + 1) middle × TakesBack middle ws0 wins (v.round + 1) es' ws')
-    → ((i : ℕ) → slice_index ls' i + count_of i wins ≡ slice_index ls0 i)
-    → Falls g v es' ws' ls' fs
-falls_from g law v es ws ls fs ld wd h e all es' ws' ls' es0 ws0 ls0 losses wins a b c d f columns counts =
-    falls g law v es ws ls fs ld wd h e all columns.0 es' ws' ls' (rw (a, d) at columns.1) (rw (b, f) at columns.2) (rw (c, f) at counts)
+  pub found_shut : ((i : ℕ) → i < length es' → IsFalse (is_open_at (v.round + 1) es' ws' ls' fs i)) → NoneAbove g v.round
+  found_shut shut =
+      none_open g law v.round (done_of v.posted) (all_done g v.posted h.flags f.all) es' ws' ls' fs (v.round + 1) (omega arith) f.closed
+      (λ i lt. shut i (let entries = f.entries_long in let size = h.entries_long in omega arith))
 
 pub due_waited : (g : Graph) (v : State) (es ws ls : List ℕ) (fs : List Bool) (ld wd : List (List ℕ)) → IsRun g v es ws ls fs ld wd → v.phase ≡ Running
     → (i : ℕ) → count_of i (slice_index_or wd v.round []) ≤ slice_index ws i

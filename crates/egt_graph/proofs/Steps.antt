@@ -1,10 +1,10 @@
 -- One node more, in the loops over columns.
 use Rattle.std.proofs.Common.{◌≡◌, ◌≢◌, ℕ, ◌+◌, ◌-◌, ◌<◌, ◌≤◌, true, false, cond, ◌&&◌, eqb, ltb, List, length, slice_index, get_or, set, take, refl, sym, ap, ap₂, ◌∙◌, inl, inr, arith}
-use Rattle.std.proofs.lemmas.Bool.{cases_Bool, cases_eq, eq-eqb, ne_eqb, lt-ltb, and_right, eqb-true, true≢false}
+use Rattle.std.proofs.lemmas.Bool.{cases_eq, eq-eqb, ne_eqb, lt-ltb, and_right, true≢false}
 use Rattle.std.proofs.lemmas.List.{get_or-set_same, get_or-set_other}
 use Rattle.std.proofs.lemmas.List.Sums.{sum_by_more, sum_by-take-le}
 use Rattle.egt_graph.specs.Columns.{count_of, decided, Marks, TakesBack}
-use Rattle.egt_graph.proofs.Holding.{decided_take, decided_open, decided_shut}
+use Rattle.egt_graph.proofs.Holding.{decided_take, decided_none}
 
 pub counted_more : (i : ℕ) (xs : List ℕ) (k : ℕ) → k < length xs → count_of i (take (k + 1) xs) ≡ count_of i (take k xs) + cond (eqb (get_or xs k 0) i) 1 0
 counted_more i xs k h = sum_by_more (λ y. cond (eqb y i) 1 0) xs k 0 h
@@ -19,17 +19,8 @@ counted_past i xs k h ne =
 pub counted_le : (i : ℕ) (xs : List ℕ) (k : ℕ) → count_of i (take k xs) ≤ count_of i xs
 counted_le i xs k = sum_by-take-le (λ y. cond (eqb y i) 1 0) xs k
 
-nothing : (b n : ℕ) → b ≡ decided b false false n
-nothing b n = elim (cases_Bool (eqb b 1)) [
-  | inl t ↦ let e = decided_open b n false false t in let q = eq_one t in q ∙ sym e
-  | inr f ↦ sym (decided_shut b n false false f)
-]
-  where
-    eq_one : eqb b 1 ≡ true → b ≡ 1
-    eq_one t = eqb-true b 1 t
-
 pub Marks_none : (es : List ℕ) (xs : List ℕ) (n : ℕ) → Marks es (take 0 xs) n es
-Marks_none es xs n i = nothing (slice_index es i) n
+Marks_none es xs n i = decided_none (slice_index es i) n
 
 pub TakesBack_more : (es0 ws0 es ws xs : List ℕ) (n k : ℕ) → TakesBack es0 ws0 (take k xs) n es ws → k < length xs
     → get_or xs k 0 < length es → get_or xs k 0 < length ws → 0 < get_or ws (get_or xs k 0) 0

@@ -76,19 +76,19 @@ never_both g law (suc n) i node a b =
 
 -- ---- any number of plies more
 
-pub mates_le : (g : Graph) (i n m : ℕ) → n ≤ m → mates_within g n i ≡ true → mates_within g m i ≡ true
-mates_le g i n zero le h = let e : n ≡ 0 = omega arith in rw e at h
-mates_le g i n (suc m) le h = elim (cases_order n (suc m)) [
+-- what stays true at the next number stays so at each later one
+pub stays_later : (p : ℕ → Bool) → ((n : ℕ) → p n ≡ true → p (suc n) ≡ true) → (n m : ℕ) → n ≤ m → p n ≡ true → p m ≡ true
+stays_later p more n zero le h = let e : n ≡ 0 = omega arith in rw e at h
+stays_later p more n (suc m) le h = elim (cases_order n (suc m)) [
   | inl e ↦ rw e at h
-  | inr o ↦ elim o [ inl lt ↦ mates_more g m i (mates_le g i n m (omega arith) h) | inr gt ↦ absurd (omega arith) ]
+  | inr o ↦ elim o [ inl lt ↦ more m (stays_later p more n m (omega arith) h) | inr gt ↦ absurd (omega arith) ]
 ]
 
+pub mates_le : (g : Graph) (i n m : ℕ) → n ≤ m → mates_within g n i ≡ true → mates_within g m i ≡ true
+mates_le g i = stays_later (λ n. mates_within g n i) (λ n. mates_more g n i)
+
 pub mated_le : (g : Graph) (i n m : ℕ) → n ≤ m → mated_within g n i ≡ true → mated_within g m i ≡ true
-mated_le g i n zero le h = let e : n ≡ 0 = omega arith in rw e at h
-mated_le g i n (suc m) le h = elim (cases_order n (suc m)) [
-  | inl e ↦ rw e at h
-  | inr o ↦ elim o [ inl lt ↦ mated_more g m i (mated_le g i n m (omega arith) h) | inr gt ↦ absurd (omega arith) ]
-]
+mated_le g i = stays_later (λ n. mated_within g n i) (λ n. mated_more g n i)
 
 pub never_both_ever : (g : Graph) → IsGame g → (n m i : ℕ) → IsNode g i → mates_within g n i ≡ true → mated_within g m i ≡ true → ⊥
 never_both_ever g law n m i node a b =

@@ -1,8 +1,10 @@
 use Rattle.egt_c.specs.Prelude.{refl, NotLoaded, Best}
 use Rattle.egt_c.proofs.position_calls.tell_move.Goals as goal
 
-pub returns-in-Ok : goal.returns-in-Ok
-returns-in-Ok c = Best c.in-Ok.told c.in-Ok.ensures.best c.none.ensures c.of_option.ensures
+pub returns-in-Ok-best_move : goal.returns-in-Ok-best_move
+returns-in-Ok-best_move c =
+    rw c.in-Ok.is (Best c.in-Ok-best_move.told c.in-Ok-best_move.ensures.best c.none.ensures c.of_option.ensures)
 
-pub returns-in-Err : goal.returns-in-Err
-returns-in-Err c = NotLoaded c.in-Err.missing.class c.in-Err.ensures.missing c.missing.ensures refl
+pub returns-in-Err-best_move : goal.returns-in-Err-best_move
+returns-in-Err-best_move c =
+    rw c.in-Ok.is (NotLoaded c.in-Err-best_move.missing.class c.in-Err-best_move.ensures.missing c.missing.ensures refl)

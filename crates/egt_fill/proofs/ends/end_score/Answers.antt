@@ -1,4 +1,4 @@
-use Rattle.egt_fill.specs.Prelude.{◌≡◌, ◌∙◌, ℕ, inl, inr, refl, subst, sym, Setup, IsAtEnd}
+use Rattle.egt_fill.specs.Prelude.{inl, inr, refl, subst, Setup, IsAtEnd}
 use Rattle.egt_fill.proofs.ends.end_score.Goals as goal
 
 pub returns-in-3 : goal.returns-in-3

@@ -1,6 +1,8 @@
 use Rattle.egt_fill.specs.Prelude.{◌∙◌, false, true, sym, subst, ShelfMen, at, TableValue, Column, AreChildren}
-use Rattle.egt_fill.specs.Prelude.{AreFourMen, IsOwnTable, column_of, children_there, four_there}
+use Rattle.egt_fill.specs.Prelude.{AreFourMen, IsOwnTable, column_of, children_there, four_there, ◌≡◌, AreBlockScores}
+use Rattle.std.proofs.Common.{rules}
 use Rattle.egt_fill.proofs.ScoresThrough.{scores_same}
+use Rattle.egt_fill.proofs.looking.item_scores.Goals.{After-part_scores}
 use Rattle.egt_fill.proofs.looking.item_scores.Goals as goal
 
 pub part_scores-requires-clause-men : goal.part_scores-requires-clause-men
@@ -18,23 +20,26 @@ passing_captures-requires c =
     subst (λ (column : Column). AreChildren column f.children c.args.men.now) (sym c.column_of.ensures)
     (subst (λ (m : ShelfMen). AreChildren (column_of f.part) f.children m) (sym c.requires.men) (children_there f.men item.white item.black (column_of f.part) f.children c.requires.filling.children))
 
+-- the scores without a target, by the table itself
+plain_scores : (c : After-part_scores) → c.part_scores.result ≡ true
+    → AreBlockScores c.args.f.now.part false c.args.table.now c.args.f.now.children c.args.men.now c.args.item.now.side c.part_scores.new.scores c.part_scores.new.zeroing
+plain_scores c told a b a_in b_in next own same =
+    scores_same c.args.f.now.part c.beside_found-four.result next (own ∙ sym c.beside_found-four.ensures.own) (same ∙ sym c.beside_found-four.ensures.children)
+    false c.args.men.now c.args.item.now.side a b (at c.part_scores.new.scores a b) (at c.part_scores.new.zeroing a b) (c.part_scores.ensures.scores told a b a_in b_in)
+
 pub returns-clause-scores : goal.returns-clause-scores
 returns-clause-scores c = λ told. record {
-  plain = λ a b a_in b_in next own same.
-      let four = c.beside_found-four.result in
-      scores_same c.args.f.now.part four next (own ∙ sym c.beside_found-four.ensures.own) (same ∙ sym c.beside_found-four.ensures.children) false c.args.men.now c.args.item.now.side a b (at c.part_scores.new.scores a b) (at c.part_scores.new.zeroing a b)
-      (c.part_scores.ensures.scores c.if-not-part_scores.false a b a_in b_in);
+  plain = plain_scores (goal.at.returns-clause-scores c).After-part_scores c.if-not-part_scores.false;
   passed = λ some a b a_in b_in next own same.
       let four = c.beside_found-four.result in
+      let scores : c.deref_mut-5.result.now ≡ c.part_scores.new.scores = first_of (cc, search rules) in
+      let clocks : c.deref_mut-6.result.now ≡ c.part_scores.new.zeroing = first_of (cc, search rules) in
       scores_same c.args.f.now.part four next (own ∙ sym c.beside_found-four.ensures.own) (same ∙ sym c.beside_found-four.ensures.children) true c.args.men.now c.args.item.now.side a b (at c.raise_part_passed.new.scores a b) (at c.raise_part_passed.new.zeroing a b)
-      (c.raise_part_passed.ensures a b a_in b_in (c.part_scores.ensures.scores c.if-not-part_scores.false a b a_in b_in));
+      (c.raise_part_passed.ensures a b a_in b_in (rw (scores, clocks) (c.part_scores.ensures.scores c.if-not-part_scores.false a b a_in b_in)));
 }
 
 pub returns-then-f-eq0-clause-scores : goal.returns-then-f-eq0-clause-scores
 returns-then-f-eq0-clause-scores c = λ told. record {
-  plain = λ a b a_in b_in next own same.
-      let four = c.beside_found-four.result in
-      scores_same c.args.f.now.part four next (own ∙ sym c.beside_found-four.ensures.own) (same ∙ sym c.beside_found-four.ensures.children) false c.args.men.now c.args.item.now.side a b (at c.part_scores.new.scores a b) (at c.part_scores.new.zeroing a b)
-      (c.part_scores.ensures.scores c.if-not-part_scores.false a b a_in b_in);
+  plain = plain_scores (goal.at.returns-then-f-eq0-clause-scores c).After-part_scores c.if-not-part_scores.false;
   passed = λ some. absurd (some c.if-f-eq0.true);
 }

@@ -1,37 +1,47 @@
 use Rattle.egt_fill.specs.Prelude.{◌+◌, ℕ, List, true, false, subst, sym, kind_digits, ShelfMen, AllEnded, AreRightRows}
-use Rattle.egt_fill.specs.Prelude.{IsCodeIn, IsMendedAt}
+use Rattle.egt_fill.specs.Prelude.{IsCodeIn, IsMendedAt, passed_shelves_of, shelves_of}
 use Rattle.egt_fill.proofs.ItemMended.{both_mended, lower_ended, lower_mended, lower_right, upper_ended}
+use Rattle.egt_fill.proofs.looking.mend_item.Goals.{After-mend_shelves-lower, After-mend_shelves-upper}
 use Rattle.egt_fill.proofs.looking.mend_item.Goals as goal
 
-pub returns-then-f-eq0-clause-mended : goal.returns-then-f-eq0-clause-mended
-returns-then-f-eq0-clause-mended c =
+-- what was put at the item's shelves without a target, and at those with one
+lower : (c : After-mend_shelves-lower) → let f = c.args.f.now in let old = c.args.table.now in
+    IsMendedAt f.part (IsCodeIn old.class (shelves_of f c.args.item.now)) old c.mend_shelves-lower.new.table
+lower c =
     let f = c.args.f.now in
     let item = c.args.item.now in
     let old = c.args.table.now in
     let mid = c.mend_shelves-lower.new.table in
-    lower_mended f old item c.requires.item c.requires.table.class_is mid
-    (subst (λ (m : ShelfMen). IsMendedAt f.part (IsCodeIn old.class (record { number = item.first; men = m; side = item.side; passed = false })) old mid) c.requires.men c.mend_shelves-lower.ensures.mended)
+    subst (λ (m : ShelfMen). IsMendedAt f.part (IsCodeIn old.class (record { number = item.first; men = m; side = item.side; passed = false })) old mid) c.requires.men c.mend_shelves-lower.ensures.mended
+
+upper : (c : After-mend_shelves-upper) → let f = c.args.f.now in let mid = c.mend_shelves-lower.new.table in
+    IsMendedAt f.part (IsCodeIn mid.class (passed_shelves_of f c.args.item.now)) mid c.mend_shelves-upper.new.table
+upper c =
+    let f = c.args.f.now in
+    let item = c.args.item.now in
+    let mid = c.mend_shelves-lower.new.table in
+    let new = c.mend_shelves-upper.new.table in
+    subst (λ (m : ShelfMen). IsMendedAt f.part (IsCodeIn mid.class (record { number = item.first + f.half; men = m; side = item.side; passed = true })) mid new) c.requires.men c.mend_shelves-upper.ensures.mended
+
+pub returns-then-f-eq0-clause-mended : goal.returns-then-f-eq0-clause-mended
+returns-then-f-eq0-clause-mended c =
+    lower_mended c.args.f.now c.args.table.now c.args.item.now c.requires.item c.requires.table.class_is _
+    (lower (goal.at.returns-then-f-eq0-clause-mended c).After-mend_shelves-lower)
 
 pub mend_shelves-upper-requires-clause-ended : goal.mend_shelves-upper-requires-clause-ended
 mend_shelves-upper-requires-clause-ended c =
     let f = c.args.f.now in
     let item = c.args.item.now in
-    let old = c.args.table.now in
     let mid = c.mend_shelves-lower.new.table in
     subst (λ (m : ShelfMen). AllEnded f.part mid (record { number = item.first + f.half; men = m; side = item.side; passed = true }) item.passed_ended) (sym c.requires.men)
-    (upper_ended f old item c.requires.item c.requires.table.class_is mid
-    (subst (λ (m : ShelfMen). IsMendedAt f.part (IsCodeIn old.class (record { number = item.first; men = m; side = item.side; passed = false })) old mid) c.requires.men c.mend_shelves-lower.ensures.mended) c.if-f-eq0.false)
+    (upper_ended f c.args.table.now item c.requires.item c.requires.table.class_is mid
+    (lower (goal.at.mend_shelves-upper-requires-clause-ended c).After-mend_shelves-lower) c.if-f-eq0.false)
 
 pub returns-clause-mended : goal.returns-clause-mended
 returns-clause-mended c =
-    let f = c.args.f.now in
-    let item = c.args.item.now in
-    let old = c.args.table.now in
-    let mid = c.mend_shelves-lower.new.table in
-    let new = c.mend_shelves-upper.new.table in
-    both_mended f old item c.requires.item c.requires.table.class_is mid
-    (subst (λ (m : ShelfMen). IsMendedAt f.part (IsCodeIn old.class (record { number = item.first; men = m; side = item.side; passed = false })) old mid) c.requires.men c.mend_shelves-lower.ensures.mended) c.if-f-eq0.false new
-    (subst (λ (m : ShelfMen). IsMendedAt f.part (IsCodeIn mid.class (record { number = item.first + f.half; men = m; side = item.side; passed = true })) mid new) c.requires.men c.mend_shelves-upper.ensures.mended)
+    let at = goal.at.returns-clause-mended c in
+    both_mended c.args.f.now c.args.table.now c.args.item.now c.requires.item c.requires.table.class_is _
+    (lower at.After-mend_shelves-lower) c.if-f-eq0.false _ (upper at.After-mend_shelves-upper)
 
 pub returns-clause-item : goal.returns-clause-item
 returns-clause-item c = λ told.
@@ -41,8 +51,8 @@ returns-clause-item c = λ told.
     let mid = c.mend_shelves-lower.new.table in
     let new = c.mend_shelves-upper.new.table in
     let both = c.together.ensures.told told in
-    let first = subst (λ (m : ShelfMen). IsMendedAt f.part (IsCodeIn old.class (record { number = item.first; men = m; side = item.side; passed = false })) old mid) c.requires.men c.mend_shelves-lower.ensures.mended in
-    let second = subst (λ (m : ShelfMen). IsMendedAt f.part (IsCodeIn mid.class (record { number = item.first + f.half; men = m; side = item.side; passed = true })) mid new) c.requires.men c.mend_shelves-upper.ensures.mended in
+    let first = lower (goal.at.returns-clause-item c).After-mend_shelves-lower in
+    let second = upper (goal.at.returns-clause-item c).After-mend_shelves-upper in
     record {
       room = c.requires.item.room;
       leaving = c.requires.item.leaving;
@@ -62,8 +72,8 @@ returns-clause-right c = λ told.
     let mid = c.mend_shelves-lower.new.table in
     let new = c.mend_shelves-upper.new.table in
     let both = c.together.ensures.told told in
-    let first = subst (λ (m : ShelfMen). IsMendedAt f.part (IsCodeIn old.class (record { number = item.first; men = m; side = item.side; passed = false })) old mid) c.requires.men c.mend_shelves-lower.ensures.mended in
-    let second = subst (λ (m : ShelfMen). IsMendedAt f.part (IsCodeIn mid.class (record { number = item.first + f.half; men = m; side = item.side; passed = true })) mid new) c.requires.men c.mend_shelves-upper.ensures.mended in
+    let first = lower (goal.at.returns-clause-right c).After-mend_shelves-lower in
+    let second = upper (goal.at.returns-clause-right c).After-mend_shelves-upper in
     record {
       plain = lower_right f old item c.requires.item c.requires.table.class_is mid first c.if-f-eq0.false new second scores.plain.value scores.clocks.value
           (subst (λ (m : ShelfMen). AreRightRows f.part mid (record { number = item.first; men = m; side = item.side; passed = false }) scores.plain.value scores.clocks.value (kind_digits m.one.kind)) c.requires.men

@@ -1,4 +1,3 @@
-use Rattle.std.proofs.Common.{ℕ}
 use Rattle.egt_fill.proofs.LanesPut.{lanes_mended, put_told}
 use Rattle.egt_fill.proofs.mending.put_lanes.Goals as goal
 

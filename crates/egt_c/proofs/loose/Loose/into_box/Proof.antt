@@ -1,6 +1,11 @@
 -- `into_box` makes the box again.
-use Rattle.egt_c.specs.Prelude.{◌≡◌, List, [], ◌∷◌, ◌++◌, refl, sym, ap, subst, Goes-blank, after, Good, box_out}
-use Rattle.egt_c.specs.Prelude.{box_in, proved_at, leaves, met}
+use Rattle.egt_c.specs.Prelude.{◌≡◌, List, [], ◌∷◌, ◌++◌, refl, sym, ap, subst}
+use Rattle.std.proofs.alloc.Calls.{Goes-blank}
+use Rattle.std.proofs.alloc.Shapes.{after}
+use Rattle.std.proofs.cell.Inside.{Good}
+use Rattle.std.proofs.BoxSteps.Steps.{box_in, box_out}
+use Rattle.std.proofs.raw_atomic.Walks.{proved_at, leaves}
+use Rattle.std.proofs.boxed.Box.from_raw.Met.{met}
 use mir.Syntax.{a_type, dcons, dnil}
 use mir.Val.{Val, vptr}
 use mir.MapTy.{inst_fn}

@@ -1,6 +1,10 @@
 -- `of` takes the box apart.
-use Rattle.egt_c.specs.Prelude.{◌≡◌, List, [], ◌∷◌, ◌++◌, refl, sym, ap, ◌∙◌, subst, Goes-blank, handle_tells, box_owns}
-use Rattle.egt_c.specs.Prelude.{box_out, box_in, proved_at, leaves, met, ended, clauses}
+use Rattle.egt_c.specs.Prelude.{◌≡◌, List, [], ◌∷◌, ◌++◌, refl, sym, ap, ◌∙◌, subst, box_owns}
+use Rattle.std.proofs.alloc.Calls.{Goes-blank, handle_tells}
+use Rattle.std.proofs.BoxSteps.Steps.{box_out, box_in}
+use Rattle.std.proofs.raw_atomic.Walks.{proved_at, leaves}
+use Rattle.egt_c.specs.contracts.loose.Loose.of.{ended, clauses}
+use Rattle.std.proofs.boxed.Box.into_raw_with_allocator.Met.{met}
 use mir.Syntax.{a_type, dcons, dnil}
 use mir.Raw.{raw as bare}
 use mir.Val.{Val, vptr, vstruct, of_list}
