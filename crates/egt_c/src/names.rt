@@ -49,46 +49,6 @@ fn file_name(number: u8) -> &'static str
     }
 }
 
-/// The name of a fault of family 3.
-fn check_name(number: u8) -> &'static str
-    ensures name { result.now ≡ check_name number }
-    ensures short { length result.now ≤ 15 }
-{
-    match number {
-        11 => "Missing",
-        12 => "Rejected",
-        13 => "AlreadyThere",
-        17 => "NoReach",
-        _ => "",
-    }
-}
-
-/// The name of a fault of family 4.
-fn probe_name(number: u8) -> &'static str
-    ensures name { result.now ≡ probe_name number }
-    ensures short { length result.now ≤ 15 }
-{
-    match number {
-        10 => "NoMemory",
-        11 => "Missing",
-        _ => "",
-    }
-}
-
-/// The name of a fault of family 5.
-fn call_name(number: u8) -> &'static str
-    ensures name { result.now ≡ call_name number }
-    ensures short { length result.now ≤ 15 }
-{
-    match number {
-        1 => "Closed",
-        2 => "NoClass",
-        3 => "Shared",
-        4 => "NoMan",
-        _ => "",
-    }
-}
-
 /// The name of a fault.
 fn fault_name(family: u8, number: u8) -> &'static str
     ensures name { result.now ≡ fault_name family number }
@@ -97,9 +57,25 @@ fn fault_name(family: u8, number: u8) -> &'static str
     match family {
         1 => fen_name(number),
         2 => file_name(number),
-        3 => check_name(number),
-        4 => probe_name(number),
-        5 => call_name(number),
+        3 => match number {
+            11 => "Missing",
+            12 => "Rejected",
+            13 => "AlreadyThere",
+            17 => "NoReach",
+            _ => "",
+        },
+        4 => match number {
+            10 => "NoMemory",
+            11 => "Missing",
+            _ => "",
+        },
+        5 => match number {
+            1 => "Closed",
+            2 => "NoClass",
+            3 => "Shared",
+            4 => "NoMan",
+            _ => "",
+        },
         _ => "",
     }
 }

@@ -103,6 +103,14 @@ some_wait (x ∷ xs) ys = ne_eqb _ _ (λ e. absurd (omega arith))
 pub outside : (g : Graph) (i : ℕ) → g.size ≤ i → is_node g i ≡ false
 outside g i le = and_left (ltb i g.size) (not (g.void i)) (le-ltb i g.size le)
 
+-- a column that holds a value of each place, and of none past the nodes, holds it at every number
+pub at_every : {A : Type 0} (g : Graph) (d : A) (f : ℕ → A) (xs : List A) → length xs ≡ g.size → ((i : ℕ) → i < g.size → get_or xs i d ≡ f i)
+    → ((i : ℕ) → is_node g i ≡ false → f i ≡ d) → (i : ℕ) → get_or xs i d ≡ f i
+at_every g d f xs long each none i = elim (cases_lt i g.size) [
+  | inl lt ↦ each i lt
+  | inr le ↦ get_or_past xs i d (omega (arith, long, le)) ∙ sym (none i (outside g i le))
+]
+
 begun_waits : (g : Graph) (done : ℕ → Bool) (i : ℕ) → waits_at g 0 done 0 i ≡ length (outs g i) + length (leaves g i)
 begun_waits g done i = ap₂ (λ a b. a + b) (all_count _ (λ x. refl) (outs g i)) (all_count _ not_won_yet (leaves g i))
 
@@ -114,18 +122,12 @@ pub begun_amid : (g : Graph) (es ws ls : List ℕ) (fs : List Bool) (ld wd : Lis
 begun_amid g es ws ls fs ld wd h done none = record { entry = entry; waiting = waiting }
   where
     waiting : (i : ℕ) → slice_index ws i ≡ waits_at g 0 done 0 i
-    waiting i = elim (cases_lt i g.size) [
-      | inl lt ↦ h.waiting i lt ∙ sym (begun_waits g done i)
-      | inr le ↦
-          get_or_past ws i 0 (let e = h.waits_long in omega arith)
-          ∙ sym (begun_waits g done i ∙ ap₂ (λ (a : List ℕ) (b : List Exit). length a + length b) (outs_none g i (outside g i le)) (leaves_none g i (outside g i le)))
-    ]
+    waiting i = at_every g 0 (λ k. length (outs g k) + length (leaves g k)) ws h.waits_long h.waiting
+        (λ k none. ap₂ (λ (a : List ℕ) (b : List Exit). length a + length b) (outs_none g k none) (leaves_none g k none)) i
+        ∙ sym (begun_waits g done i)
 
     base : (i : ℕ) → slice_index es i ≡ entry_at g 0 i
-    base i = elim (cases_lt i g.size) [
-      | inl lt ↦ h.entry i lt
-      | inr le ↦ get_or_past es i 0 (let e = h.entries_long in omega arith) ∙ sym (entry_none g 0 i (outside g i le))
-    ]
+    base = at_every g 0 (entry_at g 0) es h.entries_long h.entry (entry_none g 0)
 
     entry : (i : ℕ) → slice_index es i ≡ decided (entry_at g 0 i) (is_winning g 0 done 0 i) (has_moves g i && eqb (waits_at g 0 done 0 i) 0) (0 + 1)
     entry i =
@@ -135,14 +137,8 @@ begun_amid g es ws ls fs ld wd h done none = record { entry = entry; waiting = w
 
 pub begun_await : (g : Graph) (es ws ls : List ℕ) (fs : List Bool) (ld wd : List (List ℕ)) → IsBegun g g.size es ws ls fs ld wd → Await g 0 ls fs
 begun_await g es ws ls fs ld wd h = record {
-  wins = λ i. elim (cases_lt i g.size) [
-    | inl lt ↦ h.wins i lt
-    | inr le ↦ get_or_past ls i 0 (let e = h.later_long in omega arith) ∙ sym (ap (count_by (is_win_from 0)) (leaves_none g i (outside g i le)))
-  ];
-  losses = λ i. elim (cases_lt i g.size) [
-    | inl lt ↦ h.losses i lt
-    | inr le ↦ get_or_past fs i false (let e = h.lost_long in omega arith) ∙ sym (ap (list_any is_loss) (leaves_none g i (outside g i le)))
-  ];
+  wins = at_every g 0 (later_at g 0) ls h.later_long h.wins (λ i none. ap (count_by (is_win_from 0)) (leaves_none g i none));
+  losses = at_every g false (λ i. list_any is_loss (leaves g i)) fs h.lost_long h.losses (λ i none. ap (list_any is_loss) (leaves_none g i none));
 }
 
 pub begun_schedule : (g : Graph) (test : ℕ → Exit → Bool) (rounds : List (List ℕ)) → IsFilled g test g.size rounds → IsSchedule g test rounds

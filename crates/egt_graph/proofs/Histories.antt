@@ -273,17 +273,14 @@ alike_within g h law a (suc n) i node = (
 alike_decided : (g h : Graph) → IsGame g → IsAlike g h → (n i : ℕ) → IsNode g i → decided_within g n i ≡ decided_within h n i
 alike_decided g h law a n i node = let w = alike_within g h law a n i node in ap₂ (λ x y. x || y) w.0 w.1
 
-alike_mates_before : (g h : Graph) → IsGame g → IsAlike g h → (n i : ℕ) → IsNode g i → mates_before g n i ≡ mates_before h n i
-alike_mates_before g h law a zero i node = refl
-alike_mates_before g h law a (suc n) i node = (alike_within g h law a n i node).0
-
-alike_mated_before : (g h : Graph) → IsGame g → IsAlike g h → (n i : ℕ) → IsNode g i → mated_before g n i ≡ mated_before h n i
-alike_mated_before g h law a zero i node = refl
-alike_mated_before g h law a (suc n) i node = (alike_within g h law a n i node).1
+alike_before : (g h : Graph) → IsGame g → IsAlike g h → (n i : ℕ) → IsNode g i
+    → (mates_before g n i ≡ mates_before h n i) × (mated_before g n i ≡ mated_before h n i)
+alike_before g h law a zero i node = (refl, refl)
+alike_before g h law a (suc n) i node = alike_within g h law a n i node
 
 alike_rank : (g h : Graph) → IsGame g → IsAlike g h → (i : ℕ) → IsNode g i → (v : Exit) → HasRank h i v → HasRank g i v
-alike_rank g h law a i node (Win n) r = ((alike_within g h law a n i node).0 ∙ r.0, alike_mates_before g h law a n i node ∙ r.1)
-alike_rank g h law a i node (Loss n) r = ((alike_within g h law a n i node).1 ∙ r.0, alike_mated_before g h law a n i node ∙ r.1)
+alike_rank g h law a i node (Win n) r = ((alike_within g h law a n i node).0 ∙ r.0, (alike_before g h law a n i node).0 ∙ r.1)
+alike_rank g h law a i node (Loss n) r = ((alike_within g h law a n i node).1 ∙ r.0, (alike_before g h law a n i node).1 ∙ r.1)
 alike_rank g h law a i node Draw r = λ n. ((alike_within g h law a n i node).0 ∙ (r n).0, (alike_within g h law a n i node).1 ∙ (r n).1)
 
 pub alike_ranks : (g h : Graph) → IsGame g → IsAlike g h → (limit : ℕ) (entries : List ℕ) → AreRanks h limit entries → AreRanks g limit entries

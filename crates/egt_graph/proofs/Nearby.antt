@@ -3,7 +3,7 @@ use Rattle.egt_graph.specs.Prelude.{◌≡◌, ◌≢◌, ℕ, zero, suc, ◌+�
 use Rattle.egt_graph.specs.Prelude.{eqb, ltb, List, [], ◌∷◌, ◌++◌, length, slice_index, slice_index_or, get_or, refl}
 use Rattle.egt_graph.specs.Prelude.{sym, ap, ◌∙◌, subst, inl, inr, ⊎_elim, arith, All, Contains, count_by, Option, Some}
 use Rattle.egt_graph.specs.Prelude.{None, list_any, false≢true, cases_Bool, cases_lt, cases_eq, or_cases}
-use Rattle.egt_graph.specs.Prelude.{or_left, or_right, ltb-true, lt-ltb, le-ltb, eq-eqb, ne_eqb, both_ways, get_or_past}
+use Rattle.egt_graph.specs.Prelude.{or_left, or_right, ltb-true, lt-ltb, le-ltb, eq-eqb, ne_eqb, both_ways}
 use Rattle.egt_graph.specs.Prelude.{get_or_default, length_push, All-head, All-tail, All-contains, Contains-append_left}
 use Rattle.egt_graph.specs.Prelude.{Contains-append_right, Contains-append_cases, Graph, IsNode, IsGame}
 use Rattle.egt_graph.specs.Prelude.{HasShortDistance, is_node, leaves, count_of, decided, Marks, is_loss_of, is_win_of}
@@ -11,7 +11,7 @@ use Rattle.egt_graph.specs.Prelude.{Adds, IsFilled, is_near_exit, near_within, n
 use Rattle.egt_graph.specs.Prelude.{IsShort, AreNears, SomeFar, near_at, IsNearing, IsNearingTo, led_from, found_by}
 use Rattle.egt_graph.specs.Prelude.{Finds, AreFound, NoneLater, near_of_entry, AreTold, IsOver, Exit, Win, Loss, Draw}
 use Rattle.egt_graph.specs.Prelude.{Nearing}
-use Rattle.egt_graph.proofs.Beginning.{Filled_more, pushed, outside}
+use Rattle.egt_graph.proofs.Beginning.{at_every, Filled_more, pushed, outside}
 use Rattle.egt_graph.proofs.Exits.{below_next}
 use Rattle.egt_graph.proofs.Values.{stays_later}
 use Rattle.egt_graph.proofs.Holding.{decided_open, decided_shut, decided_mark, win_is_no_draw}
@@ -396,10 +396,7 @@ nearing_more g m run h e is run' items lost won = record {
 pub nearing_begun : (g : Graph) (m : ℕ) (run : Nearing) → m ≡ g.size → IsNearingTo g m run → IsNearing g 0 run
 nearing_begun g m run e h = record {
   long = h.long ∙ e;
-  entry = λ i. elim (cases_lt i m) [
-    | inl lt ↦ h.entry i lt
-    | inr ge ↦ get_or_past run.entries.items i 0 (omega (arith, h.long, ge)) ∙ sym (near_none g 0 i (outside g i (omega (arith, e, ge))))
-  ];
+  entry = at_every g 0 (near_at g 0) run.entries.items (h.long ∙ e) (λ i lt. h.entry i (omega (arith, e, lt))) (near_none g 0);
   lost = subst (λ n. IsFilled g is_loss_of n run.lost_due) e h.lost;
   won = subst (λ n. IsFilled g is_win_of n run.won_due) e h.won;
 }
