@@ -1,11 +1,11 @@
 -- Blocks of scores after a pawn's moves.
-use Rattle.egt_blocks.specs.Prelude.{◌≡◌, ◌≢◌, ℕ, ◌-◌, ◌<◌, ◌↔◌, Bool, true, false, cond, eqb, min, List, Option, Some}
-use Rattle.egt_blocks.specs.Prelude.{None, arith, refl, sym, ap, ◌∙◌, subst, bit_at, slice_index, bit_at_ones, Reaches}
-use Rattle.egt_blocks.specs.Prelude.{Rides-free, other_side, Advances, farthest_advance, forward, last_rank, pawn_of}
-use Rattle.egt_blocks.specs.Prelude.{rank_of, Kind, Man, Side, IsSomeTurnedCode, ShelfMen, kept_or_none, raised_among}
-use Rattle.egt_blocks.specs.Prelude.{at, IsRaised, FitsPromotion, IsOfficer, arriving, promotes, AreAdvancedCodes}
-use Rattle.egt_blocks.specs.Prelude.{ArePromotedCodes, officer_of, stand_after, IsClear, IsPastKings, left_of}
-use Rattle.egt_blocks.specs.Prelude.{stand_left, IsRead}
+use Rattle.std.proofs.Common.{◌≡◌, ◌≢◌, ℕ, ◌-◌, ◌<◌, ◌↔◌, Bool, true, false, cond, eqb, min, List, Option, Some, None}
+use Rattle.std.proofs.Common.{arith, refl, sym, ap, ◌∙◌, subst, slice_index}
+use Rattle.egt_blocks.specs.Prelude.{bit_at, bit_at_ones, Reaches, Rides-free, other_side, Advances, farthest_advance}
+use Rattle.egt_blocks.specs.Prelude.{forward, last_rank, pawn_of, rank_of, Kind, Man, Side, IsSomeTurnedCode, ShelfMen}
+use Rattle.egt_blocks.specs.Prelude.{kept_or_none, raised_among, at, IsRaised, FitsPromotion, IsOfficer, arriving}
+use Rattle.egt_blocks.specs.Prelude.{promotes, AreAdvancedCodes, ArePromotedCodes, officer_of, stand_after, IsClear}
+use Rattle.egt_blocks.specs.Prelude.{IsPastKings, left_of, stand_left, IsRead}
 use Rattle.egt_blocks.proofs.BlockRaising.{raised_alike}
 use Rattle.egt_blocks.proofs.QuietRaising.{left_without, raised_through}
 

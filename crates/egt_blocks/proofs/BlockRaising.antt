@@ -1,13 +1,13 @@
 -- Blocks raised turn by turn.
-use Rattle.egt_blocks.specs.Prelude.{◌≡◌, ◌≢◌, ℕ, ◌/◌, ◌%◌, ◌<◌, ◌⊎◌, ◌↔◌, max, not, cond, ltb, eqb, IsTrue, Bool, true}
-use Rattle.egt_blocks.specs.Prelude.{false, List, [], ◌∷◌, Option, Some, None, IfSome, arith, refl, sym, ap, ◌∙◌, inl}
-use Rattle.egt_blocks.specs.Prelude.{inr, subst, cases_eq, cases_lt, false≢true, ltb-true, bit_at_ones, bit_at}
-use Rattle.egt_blocks.specs.Prelude.{other_side, Has, turned_square, all_below, passes_below, Man, Side, White, Black}
-use Rattle.egt_blocks.specs.Prelude.{SquareSet, has_equal_sides, material_of, king_square, men_at, AreDigits, AreHome}
-use Rattle.egt_blocks.specs.Prelude.{IsTurnWith, has_pawns, king_base, men_bases, list_of, IsSomeTurnedCode}
-use Rattle.egt_blocks.specs.Prelude.{IsSomeTurnedCodeWith, swapped, turned_by, ShelfMen, Stand, at, IsRaised, Column}
-use Rattle.egt_blocks.specs.Prelude.{IsBesideKing, stand_on, with_king, AreKingCodes, IsCodeAfter, IsHomeCode}
-use Rattle.egt_blocks.specs.Prelude.{IsRaisedHome, men_across, settled_at, AreKept, IsReadWith, BlockKey}
+use Rattle.std.proofs.Common.{◌≡◌, ◌≢◌, ℕ, ◌/◌, ◌%◌, ◌<◌, ◌⊎◌, ◌↔◌, max, not, cond, ltb, eqb, IsTrue, Bool, true, false}
+use Rattle.std.proofs.Common.{List, [], ◌∷◌, Option, Some, None, IfSome, arith, refl, sym, ap, ◌∙◌, inl, inr, subst}
+use Rattle.egt_blocks.specs.Prelude.{cases_eq, cases_lt, false≢true, ltb-true, bit_at_ones, bit_at, other_side, Has}
+use Rattle.egt_blocks.specs.Prelude.{turned_square, all_below, passes_below, Man, Side, White, Black, SquareSet}
+use Rattle.egt_blocks.specs.Prelude.{has_equal_sides, material_of, king_square, men_at, AreDigits, AreHome, IsTurnWith}
+use Rattle.egt_blocks.specs.Prelude.{has_pawns, king_base, men_bases, list_of, IsSomeTurnedCode, IsSomeTurnedCodeWith}
+use Rattle.egt_blocks.specs.Prelude.{swapped, turned_by, ShelfMen, Stand, at, IsRaised, Column, IsBesideKing, stand_on}
+use Rattle.egt_blocks.specs.Prelude.{with_king, AreKingCodes, IsCodeAfter, IsHomeCode, IsRaisedHome, men_across}
+use Rattle.egt_blocks.specs.Prelude.{settled_at, AreKept, IsReadWith, BlockKey}
 use Rattle.egt_board.proofs.Parts.{heads}
 
 -- all squares are of the set of all

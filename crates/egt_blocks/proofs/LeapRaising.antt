@@ -1,12 +1,12 @@
 -- Blocks of scores after a pawn's advances, by whether they leave a target.
-use Rattle.egt_blocks.specs.Prelude.{◌≡◌, ◌≢◌, ℕ, ◌+◌, ◌-◌, ◌*◌, ◌/◌, ◌<◌, ◌↔◌, Bool, true, false, cond, eqb, min, List}
-use Rattle.egt_blocks.specs.Prelude.{None, arith, sym, ap, ◌∙◌, subst, inl, inr, bit_at, slice_index, cases_eq, ne_eqb}
-use Rattle.egt_blocks.specs.Prelude.{eqb_tells, bit_at-lt, bit_at_ones, other_side, Advances, IsBeside, last_rank}
-use Rattle.egt_blocks.specs.Prelude.{pawn_of, rank_of, Man, Side, White, Black, IsSomeTurnedCodeWith, ShelfMen}
-use Rattle.egt_blocks.specs.Prelude.{kept_or_none, one_or_two_squares, raised_among, AdvancesBy, at, IsRaised}
-use Rattle.egt_blocks.specs.Prelude.{FitsPromotion, promotes, AreLeapCodes, AreStepCodes, AreTwoRanksApart}
-use Rattle.egt_blocks.specs.Prelude.{LeavesTarget, IsBesideWhere, leap_rank, AreAdvancedCodes, IsAdvance, stand_after}
-use Rattle.egt_blocks.specs.Prelude.{IsClear, IsReadWith, one_off_home, unpromoted}
+use Rattle.std.proofs.Common.{◌≡◌, ◌≢◌, ℕ, ◌+◌, ◌-◌, ◌*◌, ◌/◌, ◌<◌, ◌↔◌, Bool, true, false, cond, eqb, min, List, None}
+use Rattle.std.proofs.Common.{arith, sym, ap, ◌∙◌, subst, inl, inr, slice_index}
+use Rattle.egt_blocks.specs.Prelude.{bit_at, cases_eq, ne_eqb, eqb_tells, bit_at-lt, bit_at_ones, other_side, Advances}
+use Rattle.egt_blocks.specs.Prelude.{IsBeside, last_rank, pawn_of, rank_of, Man, Side, White, Black}
+use Rattle.egt_blocks.specs.Prelude.{IsSomeTurnedCodeWith, ShelfMen, kept_or_none, one_or_two_squares, raised_among}
+use Rattle.egt_blocks.specs.Prelude.{AdvancesBy, at, IsRaised, FitsPromotion, promotes, AreLeapCodes, AreStepCodes}
+use Rattle.egt_blocks.specs.Prelude.{AreTwoRanksApart, LeavesTarget, IsBesideWhere, leap_rank, AreAdvancedCodes}
+use Rattle.egt_blocks.specs.Prelude.{IsAdvance, stand_after, IsClear, IsReadWith, one_off_home, unpromoted}
 use Rattle.egt_blocks.proofs.AdvanceRaising.{advances_free}
 use Rattle.egt_blocks.proofs.BlockRaising.{raised_alike, raised_both}
 use Rattle.egt_blocks.proofs.QuietRaising.{raised_through}

@@ -1,8 +1,9 @@
 -- What one man beside the kings is worth, by the codes of turns.
-use Rattle.egt_blocks.specs.Prelude.{◌≡◌, ℕ, ◌<◌, ◌&&◌, Bool, true, false, not, eqb, length, refl, sym, ap, ◌∙◌, inl}
-use Rattle.egt_blocks.specs.Prelude.{inr, subst, false≢true, Man, Side, all_below, passes_below, has_equal_sides}
-use Rattle.egt_blocks.specs.Prelude.{material_of, materials, IsLoneMan, lone_stand, men_beside, IsSomeTurnedCode}
-use Rattle.egt_blocks.specs.Prelude.{Stand, IsCodeAfter, IsHomeCode, IsRaisedHome, IsRead}
+use Rattle.std.proofs.Common.{◌≡◌, ℕ, ◌<◌, ◌&&◌, Bool, true, false, not, eqb, length, refl, sym, ap, ◌∙◌, inl, inr}
+use Rattle.std.proofs.Common.{subst}
+use Rattle.egt_blocks.specs.Prelude.{false≢true, Man, Side, all_below, passes_below, has_equal_sides, material_of}
+use Rattle.egt_blocks.specs.Prelude.{materials, IsLoneMan, lone_stand, men_beside, IsSomeTurnedCode, Stand, IsCodeAfter}
+use Rattle.egt_blocks.specs.Prelude.{IsHomeCode, IsRaisedHome, IsRead}
 use Rattle.egt_blocks.proofs.BlockRaising.{raised_alike}
 use Rattle.egt_board.proofs.Parts.{tails}
 

@@ -1,13 +1,14 @@
 -- Blocks of scores after a capture in passing.
-use Rattle.egt_blocks.specs.Prelude.{◌||◌, ◌≡◌, ℕ, ◌+◌, ◌/◌, ◌%◌, ◌<◌, Bool, true, false, not, ltb, eqb, List, []}
-use Rattle.egt_blocks.specs.Prelude.{if◌then◌else◌, length, get_or, get_or-set_other, arith, refl, sym, ap, ◌∙◌, inl}
-use Rattle.egt_blocks.specs.Prelude.{inr, subst, slice_index, list_any, cases_eq, cases_lt, false≢true, le-ltb, lt-ltb}
-use Rattle.egt_blocks.specs.Prelude.{get_or-set_at, set, length-set, Reaches, Reaches-on_board, other_side, MayStand}
-use Rattle.egt_blocks.specs.Prelude.{ahead, pawn_of, rank_of, turned_man, turned_square, P, Man, Side, all_below}
-use Rattle.egt_blocks.specs.Prelude.{passes_below, material_of, materials, symmetries, IsLoneMan, lone_stand}
-use Rattle.egt_blocks.specs.Prelude.{has_pawns, men_beside, IsListed, TellsMen, list_of, IsSomeTurnedCode, ShelfMen}
-use Rattle.egt_blocks.specs.Prelude.{Stand, at, IsRaised, is_pawn, ArePassingCodes, IsAtPassed, IsPastPawns}
-use Rattle.egt_blocks.specs.Prelude.{IsPastKings, left_of, stand_left, IsRead}
+use Rattle.std.proofs.Common.{◌||◌, ◌≡◌, ℕ, ◌+◌, ◌/◌, ◌%◌, ◌<◌, Bool, true, false, not, ltb, eqb, List, []}
+use Rattle.std.proofs.Common.{if◌then◌else◌, length, get_or, get_or-set_other, arith, refl, sym, ap, ◌∙◌, inl, inr}
+use Rattle.std.proofs.Common.{subst, slice_index}
+use Rattle.egt_blocks.specs.Prelude.{list_any, cases_eq, cases_lt, false≢true, le-ltb, lt-ltb, get_or-set_at, set}
+use Rattle.egt_blocks.specs.Prelude.{length-set, Reaches, Reaches-on_board, other_side, MayStand, ahead, pawn_of}
+use Rattle.egt_blocks.specs.Prelude.{rank_of, turned_man, turned_square, P, Man, Side, all_below, passes_below}
+use Rattle.egt_blocks.specs.Prelude.{material_of, materials, symmetries, IsLoneMan, lone_stand, has_pawns, men_beside}
+use Rattle.egt_blocks.specs.Prelude.{IsListed, TellsMen, list_of, IsSomeTurnedCode, ShelfMen, Stand, at, IsRaised}
+use Rattle.egt_blocks.specs.Prelude.{is_pawn, ArePassingCodes, IsAtPassed, IsPastPawns, IsPastKings, left_of}
+use Rattle.egt_blocks.specs.Prelude.{stand_left, IsRead}
 use Rattle.egt_blocks.proofs.BlockRaising.{raised_alike, raised_by_none}
 use Rattle.egt_blocks.proofs.LoneRead.{some_home}
 use Rattle.egt_blocks.proofs.QuietRaising.{raised_through}

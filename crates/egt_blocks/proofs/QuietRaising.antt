@@ -1,9 +1,9 @@
 -- Blocks raised to the scores after quiet steps.
-use Rattle.egt_blocks.specs.Prelude.{◌≡◌, ◌≢◌, ℕ, ◌<◌, ◌⊎◌, ◌↔◌, List, arith, refl, sym, ap, ◌∙◌, inl, inr, subst}
-use Rattle.egt_blocks.specs.Prelude.{false, bit_at, cases_eq, Reaches, Reaches-free, Reaches-on_board, other_side, Kind}
-use Rattle.egt_blocks.specs.Prelude.{Q, R, B, N, P, K, Man, Side, IsSomeTurnedCode, ShelfMen, Stand, IsPiece, IsOpen}
-use Rattle.egt_blocks.specs.Prelude.{at, IsRaised, IsBesideKing, stand_on, with_king, AreKingCodes, AreQuietCodes}
-use Rattle.egt_blocks.specs.Prelude.{IsClear, IsFirstStep, IsLastStep, IsRead}
+use Rattle.std.proofs.Common.{◌≡◌, ◌≢◌, ℕ, ◌<◌, ◌⊎◌, ◌↔◌, List, arith, refl, sym, ap, ◌∙◌, inl, inr, subst, false}
+use Rattle.egt_blocks.specs.Prelude.{bit_at, cases_eq, Reaches, Reaches-free, Reaches-on_board, other_side, Kind, Q, R}
+use Rattle.egt_blocks.specs.Prelude.{B, N, P, K, Man, Side, IsSomeTurnedCode, ShelfMen, Stand, IsPiece, IsOpen, at}
+use Rattle.egt_blocks.specs.Prelude.{IsRaised, IsBesideKing, stand_on, with_king, AreKingCodes, AreQuietCodes, IsClear}
+use Rattle.egt_blocks.specs.Prelude.{IsFirstStep, IsLastStep, IsRead}
 use Rattle.egt_blocks.proofs.BlockRaising.{raised_alike, raised_both}
 
 pub no_pawn : (kind : Kind) → IsPiece kind → kind ≢ P

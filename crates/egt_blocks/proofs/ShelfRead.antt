@@ -1,6 +1,6 @@
 -- What a row of a shelf tells, by the last man's square.
-use Rattle.egt_blocks.specs.Prelude.{◌≡◌, ℕ, ◌+◌, ◌-◌, ◌*◌, ◌/◌, ◌%◌, ◌<◌, ◌≤◌, ◌⊎◌, if◌then◌else◌, Bool, true, false}
-use Rattle.egt_blocks.specs.Prelude.{List, [], ◌∷◌, take, drop, arith, refl, sym, ap, ◌∙◌, inl, inr, subst, slice_index}
+use Rattle.std.proofs.Common.{◌≡◌, ℕ, ◌+◌, ◌-◌, ◌*◌, ◌/◌, ◌%◌, ◌<◌, ◌≤◌, ◌⊎◌, if◌then◌else◌, Bool, true, false, List}
+use Rattle.std.proofs.Common.{[], ◌∷◌, take, drop, arith, refl, sym, ap, ◌∙◌, inl, inr, subst, slice_index}
 use Rattle.egt_blocks.specs.Prelude.{cases_lt, false≢true, get_or-drop, get_or-take, side_number, MayStand, Kind, Q, R}
 use Rattle.egt_blocks.specs.Prelude.{B, N, P, K, Man, Side, White, Black, Material, material_of, number_from, product}
 use Rattle.egt_blocks.specs.Prelude.{code_of, half_of, places, digits_at, kind_digits, kind_less, last_of, IsShelfOf}

@@ -1,12 +1,12 @@
 -- Shelves that follow one another have the first man on the squares of digits that do.
-use Rattle.egt_blocks.specs.Prelude.{◌≡◌, ◌≢◌, ◌≤◌, ℕ, ◌+◌, ◌-◌, ◌*◌, ◌<◌, Bool, true, false, if◌then◌else◌, List, []}
-use Rattle.egt_blocks.specs.Prelude.{◌∷◌, map, arith, refl, sym, ap, ◌∙◌, inl, inr, subst, cases_lt, king_of}
-use Rattle.egt_blocks.specs.Prelude.{side_number, MayStand, rank_of, Kind, Q, R, B, N, P, K, Man, Side, White, Black}
-use Rattle.egt_blocks.specs.Prelude.{Material, material_of, placed, square_by_digit, square_of, AreDigits, number_from}
-use Rattle.egt_blocks.specs.Prelude.{number_of, code_of, half_of, places, kind_digits, kind_less, IsShelfOf, IsWithin}
-use Rattle.egt_blocks.specs.Prelude.{number_in, stand_with, base_by, base_of, has_pawns, has_target, men_bases}
-use Rattle.egt_blocks.specs.Prelude.{SpellsMen, TellsMen, list_of, ShelfMen, code_high, code_low, code_plain}
-use Rattle.egt_blocks.specs.Prelude.{of_targets, a_pawn_each, one_pawn_each, men_on, AreShelvesOf}
+use Rattle.std.proofs.Common.{◌≡◌, ◌≢◌, ◌≤◌, ℕ, ◌+◌, ◌-◌, ◌*◌, ◌<◌, Bool, true, false, if◌then◌else◌, List, [], ◌∷◌}
+use Rattle.std.proofs.Common.{map, arith, refl, sym, ap, ◌∙◌, inl, inr, subst}
+use Rattle.egt_blocks.specs.Prelude.{cases_lt, king_of, side_number, MayStand, rank_of, Kind, Q, R, B, N, P, K, Man}
+use Rattle.egt_blocks.specs.Prelude.{Side, White, Black, Material, material_of, placed, square_by_digit, square_of}
+use Rattle.egt_blocks.specs.Prelude.{AreDigits, number_from, number_of, code_of, half_of, places, kind_digits}
+use Rattle.egt_blocks.specs.Prelude.{kind_less, IsShelfOf, IsWithin, number_in, stand_with, base_by, base_of, has_pawns}
+use Rattle.egt_blocks.specs.Prelude.{has_target, men_bases, SpellsMen, TellsMen, list_of, ShelfMen, code_high, code_low}
+use Rattle.egt_blocks.specs.Prelude.{code_plain, of_targets, a_pawn_each, one_pawn_each, men_on, AreShelvesOf}
 use Rattle.egt_blocks.proofs.ShelfRead.{bit_few, bit_of, half_is, places_is, side_few}
 use Rattle.egt_board.proofs.Parts.{heads, tails}
 

@@ -1,7 +1,7 @@
 -- Blocks of scores after the last man beside the kings was taken.
-use Rattle.egt_blocks.specs.Prelude.{◌≡◌, ◌≢◌, ℕ, ◌<◌, ◌↔◌, Bool, cond, eqb, max, List, [], length, get_or}
-use Rattle.egt_blocks.specs.Prelude.{get_or-set_other, arith, refl, sym, ap, ◌∙◌, inl, inr, subst, bit_at, slice_index}
-use Rattle.egt_blocks.specs.Prelude.{cases_eq, ne_eqb, get_or-set_at, set, length-set, Reaches, Reaches-free}
+use Rattle.std.proofs.Common.{◌≡◌, ◌≢◌, ℕ, ◌<◌, ◌↔◌, Bool, cond, eqb, max, List, [], length, get_or, get_or-set_other}
+use Rattle.std.proofs.Common.{arith, refl, sym, ap, ◌∙◌, inl, inr, subst, slice_index}
+use Rattle.egt_blocks.specs.Prelude.{bit_at, cases_eq, ne_eqb, get_or-set_at, set, length-set, Reaches, Reaches-free}
 use Rattle.egt_blocks.specs.Prelude.{other_side, Has, Man, Side, SquareSet, IsSomeTurnedCode, ShelfMen, raised_by_one}
 use Rattle.egt_blocks.specs.Prelude.{raised_is, at, IsRaised, IsBesideKing, with_king, AreLeftCodes, IsPastKings, Left}
 use Rattle.egt_blocks.specs.Prelude.{left_of, stand_left, IsRead}

@@ -64,10 +64,6 @@ pub use Rattle.egt_steps.specs.QuietStands.{AreQuietCodes, IsClear}
 pub use Rattle.egt_steps.specs.Stands.{IsBesideKing, king_of_men, men_on, stand_on, with_king}
 pub use Rattle.egt_steps.specs.Takings.{IsPastKings, Left, left_of, stand_left}
 pub use Rattle.egt_table.specs.declared.column.Column.{Column}
-pub use Rattle.std.proofs.Common.{Bool, List, None, Option, Some, [], ap, arith, cond, drop, eqb, false, get_or}
-pub use Rattle.std.proofs.Common.{get_or-set_other, if◌then◌else◌, inl, inr, length, ltb, map, max, min, not, refl}
-pub use Rattle.std.proofs.Common.{replicate, slice_index_or, slice_set, subst, sym, take, ℕ, ◌%◌, ◌&&◌, ◌*◌, ◌+◌, ◌-◌}
-pub use Rattle.std.proofs.Common.{◌/◌, ◌<◌, ◌||◌, ◌↔◌, ◌∙◌, ◌∷◌, ◌≡◌, ◌≢◌, ◌≤◌, ◌⊎◌}
 pub use Rattle.std.proofs.Math.ListN.{length-set, set}
 pub use Rattle.std.proofs.Math.Nat.{mul-le-mul_right}
 pub use Rattle.std.proofs.lemmas.Bool.{cases_eq, cases_lt, eqb-true, false≢true, le-ltb, lt-ltb, ltb-true, ne_eqb}
@@ -78,4 +74,3 @@ pub use Rattle.std.proofs.lemmas.Nat.{div-add-mod'}
 pub use Rattle.std.proofs.lemmas.Nat.Bits.{bit_at-lt, bit_at_ones}
 pub use Rattle.std.specs.Int.{bit_at}
 pub use Rattle.std.specs.List.{list_any}
-pub use Rattle.std.specs.Prelude.{IfNone, IfSome, IsTrue, slice_index, true, ◌==◌}

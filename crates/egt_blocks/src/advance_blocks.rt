@@ -1,10 +1,10 @@
 //! The scores of the positions after the last man beside the kings, a pawn, advances or is promoted where he takes the first.
-ghost use Rattle.egt_blocks.specs.Prelude.{◌≡◌, ◌↔◌, ◌<◌, ◌==◌, ℕ, true, false, IfSome, IsTrue, other_side, Advances};
-ghost use Rattle.egt_blocks.specs.Prelude.{last_rank, pawn_of, rank_of, Has, turned_man, IsLoneMan, AreMenOf};
-ghost use Rattle.egt_blocks.specs.Prelude.{AdvancesBy, at, IsRaised, FitsPromotion, IsOfficer, arriving, AreLeapCodes};
-ghost use Rattle.egt_blocks.specs.Prelude.{AreStepCodes, AreStill, IsBesideWhere, leap_rank, AreAdvancedCodes};
-ghost use Rattle.egt_blocks.specs.Prelude.{ArePromotedCodes, men_after, men_two, officer_of, stand_after, IsClear};
-ghost use Rattle.egt_blocks.specs.Prelude.{IsPastKings, IsReadWith, ScoresNoVoids};
+ghost use Rattle.std.specs.Prelude.{◌≡◌, ◌↔◌, ◌<◌, ◌==◌, ℕ, true, false, IfSome, IsTrue};
+ghost use Rattle.egt_blocks.specs.Prelude.{other_side, Advances, last_rank, pawn_of, rank_of, Has, turned_man};
+ghost use Rattle.egt_blocks.specs.Prelude.{IsLoneMan, AreMenOf, AdvancesBy, at, IsRaised, FitsPromotion, IsOfficer};
+ghost use Rattle.egt_blocks.specs.Prelude.{arriving, AreLeapCodes, AreStepCodes, AreStill, IsBesideWhere, leap_rank};
+ghost use Rattle.egt_blocks.specs.Prelude.{AreAdvancedCodes, ArePromotedCodes, men_after, men_two, officer_of};
+ghost use Rattle.egt_blocks.specs.Prelude.{stand_after, IsClear, IsPastKings, IsReadWith, ScoresNoVoids};
 
 use crate::blocks::{nothing, read_block};
 use crate::men::{kings_of, men_swapped};

@@ -1,10 +1,11 @@
 //! The scores of the positions of a class with two men beside the kings, whose kings stand on two squares: a row for each square of the
 //! first man, a lane for each of the last. Each code has some turn of these men; codes that are not least score nothing.
 //! So the codes after a turn are not read where the kings tell that all of them are void.
-ghost use Rattle.egt_blocks.specs.Prelude.{◌≡◌, ◌/◌, ◌%◌, ◌<◌, ◌↔◌, ◌==◌, ◌+◌, ℕ, Bool, false, true, not, IfSome};
-ghost use Rattle.egt_blocks.specs.Prelude.{IsTrue, slice_index, Has, turned_side, turned_square, Side, has_equal_sides};
-ghost use Rattle.egt_blocks.specs.Prelude.{material_of, symmetries, IsVoid, AreMenOf, has_pawns, IsTurnedCodeWith, at};
-ghost use Rattle.egt_blocks.specs.Prelude.{stand_on, AreShelvesOf, IsRaisedAfter, IsRaisedHome, men_across, settled_at};
+ghost use Rattle.std.specs.Prelude.{◌≡◌, ◌/◌, ◌%◌, ◌<◌, ◌↔◌, ◌==◌, ◌+◌, ℕ, Bool, false, true, not, IfSome, IsTrue};
+ghost use Rattle.std.specs.Prelude.{slice_index};
+ghost use Rattle.egt_blocks.specs.Prelude.{Has, turned_side, turned_square, Side, has_equal_sides, material_of};
+ghost use Rattle.egt_blocks.specs.Prelude.{symmetries, IsVoid, AreMenOf, has_pawns, IsTurnedCodeWith, at, stand_on};
+ghost use Rattle.egt_blocks.specs.Prelude.{AreShelvesOf, IsRaisedAfter, IsRaisedHome, men_across, settled_at};
 ghost use Rattle.egt_blocks.specs.Prelude.{turned_from, IsReadWith, ScoresNoVoids};
 
 use crate::digits::{digits_of, first_square};

@@ -1,5 +1,6 @@
 //! The squares of men beside the kings in codes: a pawn has no digit for the first rank and the last.
-ghost use Rattle.egt_blocks.specs.Prelude.{◌≡◌, ◌+◌, ◌<◌, IfSome, kind_digits, kind_less};
+ghost use Rattle.std.specs.Prelude.{◌≡◌, ◌+◌, ◌<◌, IfSome};
+ghost use Rattle.egt_blocks.specs.Prelude.{kind_digits, kind_less};
 
 use crate::own_men::is_pawn;
 use egt_board::{Man, Square};

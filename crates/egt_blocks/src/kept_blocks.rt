@@ -1,9 +1,9 @@
 //! Blocks that were read before. Kings who stand near each other step to the same squares, so pairs of kings that are
 //! judged one after the other read most blocks once. Whoever has a place for each pair of kings reads a block again only
 //! where it was forgotten.
-ghost use Rattle.egt_blocks.specs.Prelude.{◌≡◌, ◌<◌, ℕ, List, [], length, false, true, slice_index_or, Side, AreMenOf};
-ghost use Rattle.egt_blocks.specs.Prelude.{IsSomeTurnedCode, ShelfMen, at, IsRaised, Column, stand_on, AreKept};
-ghost use Rattle.egt_blocks.specs.Prelude.{IsOfMen, IsPlaced, key_of, wide_place, IsRead, ScoresNoVoids};
+ghost use Rattle.std.specs.Prelude.{◌≡◌, ◌<◌, ℕ, List, [], length, false, true, slice_index_or};
+ghost use Rattle.egt_blocks.specs.Prelude.{Side, AreMenOf, IsSomeTurnedCode, ShelfMen, at, IsRaised, Column, stand_on};
+ghost use Rattle.egt_blocks.specs.Prelude.{AreKept, IsOfMen, IsPlaced, key_of, wide_place, IsRead, ScoresNoVoids};
 
 use crate::blocks::read_block;
 use crate::men::king_of_men;

@@ -1,6 +1,7 @@
 //! The scores of the positions after each step of a king.
-ghost use Rattle.egt_blocks.specs.Prelude.{◌≡◌, ◌↔◌, ◌<◌, ℕ, true, other_side, Has, AreMenOf, at, IsRaised};
-ghost use Rattle.egt_blocks.specs.Prelude.{IsBesideKing, king_of_men, with_king, AreKingCodes, AreKept, ScoresNoVoids};
+ghost use Rattle.std.specs.Prelude.{◌≡◌, ◌↔◌, ◌<◌, ℕ, true};
+ghost use Rattle.egt_blocks.specs.Prelude.{other_side, Has, AreMenOf, at, IsRaised, IsBesideKing, king_of_men};
+ghost use Rattle.egt_blocks.specs.Prelude.{with_king, AreKingCodes, AreKept, ScoresNoVoids};
 
 use crate::blocks::nothing;
 use crate::kept_blocks::{BlockKey, raise_kept};

@@ -1,6 +1,6 @@
 //! The scores of the positions of a class with one man beside the kings, by his square.
-ghost use Rattle.egt_blocks.specs.Prelude.{◌≡◌, ℕ, ◌<◌, false, true, slice_index, IsLoneMan, IsLoneRow, lone_stand};
-ghost use Rattle.egt_blocks.specs.Prelude.{TellsMen, IsRaised, IsRaisedAfter, IsRead};
+ghost use Rattle.std.specs.Prelude.{◌≡◌, ℕ, ◌<◌, false, true, slice_index};
+ghost use Rattle.egt_blocks.specs.Prelude.{IsLoneMan, IsLoneRow, lone_stand, TellsMen, IsRaised, IsRaisedAfter, IsRead};
 
 use crate::men::side_after;
 use crate::scored::LoneScores;

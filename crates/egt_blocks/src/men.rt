@@ -1,6 +1,7 @@
 //! The two men beside the kings of a class, on their squares.
-ghost use Rattle.egt_blocks.specs.Prelude.{◌≡◌, ◌≢◌, ◌/◌, ◌<◌, ◌↔◌, ◌==◌, ℕ, IsTrue, bit_at, turned_side, king_of_men};
-ghost use Rattle.egt_blocks.specs.Prelude.{men_on, with_king, men_across, turned_from, men_swapped};
+ghost use Rattle.std.specs.Prelude.{◌≡◌, ◌≢◌, ◌/◌, ◌<◌, ◌↔◌, ◌==◌, ℕ, IsTrue};
+ghost use Rattle.egt_blocks.specs.Prelude.{bit_at, turned_side, king_of_men, men_on, with_king, men_across};
+ghost use Rattle.egt_blocks.specs.Prelude.{turned_from, men_swapped};
 
 use egt_board::{Side, Square, SquareSet};
 use egt_index::ShelfMen;

@@ -1,6 +1,6 @@
 //! Men by their side and kind, and where they may stand.
-ghost use Rattle.egt_blocks.specs.Prelude.{◌≡◌, ◌↔◌, ◌⊎◌, IsTrue, false, true, K, P, IsPiece, MayStand, pawn_of};
-ghost use Rattle.egt_blocks.specs.Prelude.{turned_man, is_pawn};
+ghost use Rattle.std.specs.Prelude.{◌≡◌, ◌↔◌, ◌⊎◌, IsTrue, false, true};
+ghost use Rattle.egt_blocks.specs.Prelude.{K, P, IsPiece, MayStand, pawn_of, turned_man, is_pawn};
 
 use egt_board::{Kind, Man, Mirror, Side, Square};
 

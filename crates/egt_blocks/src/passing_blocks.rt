@@ -1,6 +1,7 @@
 //! The scores of the positions after the last man beside the kings, a pawn, took the first in passing.
-ghost use Rattle.egt_blocks.specs.Prelude.{◌≡◌, ◌<◌, ℕ, true, IfSome, IfNone, slice_index, ahead, turned_man};
-ghost use Rattle.egt_blocks.specs.Prelude.{IsLoneMan, at, IsRaised, ArePassingCodes, IsAtPassed, IsPastPawns};
+ghost use Rattle.std.specs.Prelude.{◌≡◌, ◌<◌, ℕ, true, IfSome, IfNone, slice_index};
+ghost use Rattle.egt_blocks.specs.Prelude.{ahead, turned_man, IsLoneMan, at, IsRaised, ArePassingCodes, IsAtPassed};
+ghost use Rattle.egt_blocks.specs.Prelude.{IsPastPawns};
 
 use crate::blocks::nothing;
 use crate::men::men_swapped;

@@ -1,7 +1,7 @@
 //! The scores of the positions after each quiet step of a side, of its king or of a piece, in classes with two men beside the kings.
-ghost use Rattle.egt_blocks.specs.Prelude.{◌≡◌, ◌≢◌, ◌↔◌, ◌<◌, ℕ, false, true, bit_at, Reaches, other_side, Has, K};
-ghost use Rattle.egt_blocks.specs.Prelude.{AreMenOf, at, IsPiece, IsRaised, AreKept, AreQuietCodes, IsClear};
-ghost use Rattle.egt_blocks.specs.Prelude.{IsFirstStep, IsLastStep, ScoresNoVoids};
+ghost use Rattle.std.specs.Prelude.{◌≡◌, ◌≢◌, ◌↔◌, ◌<◌, ℕ, false, true};
+ghost use Rattle.egt_blocks.specs.Prelude.{bit_at, Reaches, other_side, Has, K, AreMenOf, at, IsPiece, IsRaised};
+ghost use Rattle.egt_blocks.specs.Prelude.{AreKept, AreQuietCodes, IsClear, IsFirstStep, IsLastStep, ScoresNoVoids};
 
 use crate::blocks::nothing;
 use crate::kept_blocks::{BlockKey, raise_kept};

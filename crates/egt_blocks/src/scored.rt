@@ -1,6 +1,7 @@
 //! What the codes of a class are worth, told by rows: a number for each square of one man, the others standing still.
-ghost use Rattle.egt_blocks.specs.Prelude.{◌≡◌, ◌<◌, ℕ, false, slice_index, IsLoneRow, lone_stand, IsShelfOf, IsWithin};
-ghost use Rattle.egt_blocks.specs.Prelude.{stand_with, TellsMen, IsRaised, Column};
+ghost use Rattle.std.specs.Prelude.{◌≡◌, ◌<◌, ℕ, false, slice_index};
+ghost use Rattle.egt_blocks.specs.Prelude.{IsLoneRow, lone_stand, IsShelfOf, IsWithin, stand_with, TellsMen, IsRaised};
+ghost use Rattle.egt_blocks.specs.Prelude.{Column};
 
 use egt_board::{Man, Side, Square};
 use egt_class::Class;

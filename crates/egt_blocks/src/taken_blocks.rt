@@ -1,7 +1,8 @@
 //! The scores of the positions after the last man beside the kings was taken.
-ghost use Rattle.egt_blocks.specs.Prelude.{◌≡◌, ◌<◌, ℕ, true, slice_index, Reaches, other_side, turned_man, IsLoneMan};
-ghost use Rattle.egt_blocks.specs.Prelude.{IsSomeTurnedCode, at, IsRaised, IsBesideKing, with_king, AreLeftCodes};
-ghost use Rattle.egt_blocks.specs.Prelude.{IsPastKings, left_of, stand_left, IsRead};
+ghost use Rattle.std.specs.Prelude.{◌≡◌, ◌<◌, ℕ, true, slice_index};
+ghost use Rattle.egt_blocks.specs.Prelude.{Reaches, other_side, turned_man, IsLoneMan, IsSomeTurnedCode, at, IsRaised};
+ghost use Rattle.egt_blocks.specs.Prelude.{IsBesideKing, with_king, AreLeftCodes, IsPastKings, left_of, stand_left};
+ghost use Rattle.egt_blocks.specs.Prelude.{IsRead};
 
 use crate::blocks::nothing;
 use crate::king_blocks::beside_king;

@@ -1,9 +1,9 @@
 -- Attacks by the men of a board's slots.
-use Rattle.egt_board.specs.Prelude.{◌≡◌, ◌≢◌, ◌↔◌, ◌⊎◌, ℕ, List, [], ◌∷◌, Some, None, refl, sym, ap, ◌∙◌, subst, inl}
-use Rattle.egt_board.specs.Prelude.{inr, bit_at, nat_cmp, cases_eq, Side, Man, Placement, Stands, IsFree}
-use Rattle.egt_board.specs.Prelude.{get-remove_same, get-remove_other, Reaches, Reaches-free, Slot, listed, placed}
-use Rattle.egt_board.specs.Prelude.{InOrder, AreKept, slots_of, Inside, find-below, first_half, second_half, IsAttacked}
-use Rattle.egt_board.specs.Prelude.{AttacksFrom, IsSeenAs}
+use Rattle.std.proofs.Common.{◌≡◌, ◌≢◌, ◌↔◌, ◌⊎◌, ℕ, List, [], ◌∷◌, Some, None, refl, sym, ap, ◌∙◌, subst, inl, inr}
+use Rattle.egt_board.specs.Prelude.{bit_at, nat_cmp, cases_eq, Side, Man, Placement, Stands, IsFree, get-remove_same}
+use Rattle.egt_board.specs.Prelude.{get-remove_other, Reaches, Reaches-free, Slot, listed, placed, InOrder, AreKept}
+use Rattle.egt_board.specs.Prelude.{slots_of, Inside, find-below, first_half, second_half, IsAttacked, AttacksFrom}
+use Rattle.egt_board.specs.Prelude.{IsSeenAs}
 use Rattle.std.specs.FinMap as map
 use Rattle.egt_board.proofs.Placed.{find-here, find-later}
 use Rattle.egt_board.proofs.Slots.{shown, listed-shown}

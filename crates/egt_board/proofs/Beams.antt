@@ -1,9 +1,9 @@
 -- The squares along steps on the bare board, computed.
-use Rattle.egt_board.specs.Prelude.{◌≡◌, ◌≢◌, ◌↔◌, ℕ, zero, suc, ◌+◌, ◌-◌, ◌*◌, ◌^◌, ◌<◌, Bool, true, false, ltb, List}
-use Rattle.egt_board.specs.Prelude.{[], ◌∷◌, Option, Some, None, arith, zero-add, refl, sym, subst, inl, inr, bit_at}
-use Rattle.egt_board.specs.Prelude.{bit_or, ltb-true, ltb-false, bit_at_or, bit_at-zero, bit_at-lt, bit_at-pow_same}
-use Rattle.egt_board.specs.Prelude.{bit_at-pow_other, Way, Up, Down, Still, Step, file_of, rank_of, Further, Away}
-use Rattle.egt_board.specs.Prelude.{Rides, OneOf}
+use Rattle.std.proofs.Common.{◌≡◌, ◌≢◌, ◌↔◌, ℕ, zero, suc, ◌+◌, ◌-◌, ◌*◌, ◌^◌, ◌<◌, Bool, true, false, ltb, List, []}
+use Rattle.std.proofs.Common.{◌∷◌, Option, Some, None, arith, zero-add, refl, sym, subst, inl, inr}
+use Rattle.egt_board.specs.Prelude.{bit_at, bit_or, ltb-true, ltb-false, bit_at_or, bit_at-zero, bit_at-lt}
+use Rattle.egt_board.specs.Prelude.{bit_at-pow_same, bit_at-pow_other, Way, Up, Down, Still, Step, file_of, rank_of}
+use Rattle.egt_board.specs.Prelude.{Further, Away, Rides, OneOf}
 use Rattle.egt_board.proofs.Rides.{AreReached, Rode, Rode-none, Rode-more, reach_edge}
 use Rattle.egt_board.proofs.Steps.{bit_of_either}
 

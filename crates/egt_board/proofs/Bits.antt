@@ -1,8 +1,9 @@
 -- One bit of a set of squares.
-use Rattle.egt_board.specs.Prelude.{◌≡◌, ◌≢◌, ◌↔◌, ℕ, zero, Bool, true, false, inl, inr, suc, ◌<◌, ◌^◌, ◌*◌, ◌%◌, ◌-◌}
-use Rattle.egt_board.specs.Prelude.{◌≤◌, bit_and, min, w64, arith, ap, sym, ◌∙◌, subst, bit_at, trailing_zeros, bit_not}
-use Rattle.egt_board.specs.Prelude.{and_le_l, bit_at-trailing_zeros, bit_at_clear_same, bit_at-lt, bit_at_above}
-use Rattle.egt_board.specs.Prelude.{bit_at_clear_other, bit_at_and, bit_at_not, cases_eq, cases_lt, false≢true}
+use Rattle.std.proofs.Common.{◌≡◌, ◌≢◌, ◌↔◌, ℕ, zero, Bool, true, false, inl, inr, suc, ◌<◌, ◌^◌, ◌*◌, ◌%◌, ◌-◌, ◌≤◌}
+use Rattle.std.proofs.Common.{min, w64, arith, ap, sym, ◌∙◌, subst}
+use Rattle.egt_board.specs.Prelude.{bit_and, bit_at, trailing_zeros, bit_not, and_le_l, bit_at-trailing_zeros}
+use Rattle.egt_board.specs.Prelude.{bit_at_clear_same, bit_at-lt, bit_at_above, bit_at_clear_other, bit_at_and}
+use Rattle.egt_board.specs.Prelude.{bit_at_not, cases_eq, cases_lt, false≢true}
 
 pub not_both : {A : Type 0} (n : ℕ) → n ≡ 0 → n ≡ 1 → A
 not_both n none one = absurd (omega arith)

@@ -1,6 +1,6 @@
 -- The men of the one side are those that are not the other's.
-use Rattle.egt_board.specs.Prelude.{◌≡◌, ◌↔◌, ◌⊎◌, ℕ, ◌-◌, Some, None, Option, min, arith, refl, sym, ap, ◌∙◌, inl}
-use Rattle.egt_board.specs.Prelude.{inr, bit_at, cases_eq, bit_at-lt, Side, Man, other_side, Placement, Stands, IsFree}
+use Rattle.std.proofs.Common.{◌≡◌, ◌↔◌, ◌⊎◌, ℕ, ◌-◌, Some, None, Option, min, arith, refl, sym, ap, ◌∙◌, inl, inr}
+use Rattle.egt_board.specs.Prelude.{bit_at, cases_eq, bit_at-lt, Side, Man, other_side, Placement, Stands, IsFree}
 use Rattle.egt_board.specs.Prelude.{IsHeld, one_man}
 use Rattle.std.specs.FinMap as map
 use Rattle.egt_board.proofs.Sides.{side_cases, sides_differ}

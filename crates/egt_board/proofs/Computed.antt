@@ -1,6 +1,6 @@
 -- The tables of attacks, each entry computed anew.
-use Rattle.egt_board.specs.Prelude.{◌≡◌, ◌↔◌, ℕ, zero, suc, ◌+◌, ◌-◌, ◌*◌, ◌^◌, ◌<◌, ◌/◌, ◌%◌, Bool, true, false, eqb}
-use Rattle.egt_board.specs.Prelude.{List, [], ◌∷◌, length, get_or, arith, refl, zero-add, sym, ap, ◌∙◌, subst, inl, inr}
+use Rattle.std.proofs.Common.{◌≡◌, ◌↔◌, ℕ, zero, suc, ◌+◌, ◌-◌, ◌*◌, ◌^◌, ◌<◌, ◌/◌, ◌%◌, Bool, true, false, eqb, List}
+use Rattle.std.proofs.Common.{[], ◌∷◌, length, get_or, arith, refl, zero-add, sym, ap, ◌∙◌, subst, inl, inr}
 use Rattle.egt_board.specs.Prelude.{bit_at, bit_and, bit_xor, cases_eq, eqb-true, false≢true, bit_at-zero, Side, White}
 use Rattle.egt_board.specs.Prelude.{Black, Kind, Q, R, B, N, P, K, Man, row_by, below, beyond, line_of, Step, LONE}
 use Rattle.egt_board.specs.Prelude.{Away, Reaches, farthest, steps_of, IsBetween}

@@ -1,5 +1,5 @@
 -- A man attacks the squares from which it is attacked: of a pawn the enemy's attacks his.
-use Rattle.egt_board.specs.Prelude.{◌≡◌, ◌↔◌, ℕ, ◌+◌, ◌-◌, ◌*◌, ◌<◌, ◌++◌, arith, refl, sym, ap, ◌∙◌, inl, inr, subst}
+use Rattle.std.proofs.Common.{◌≡◌, ◌↔◌, ℕ, ◌+◌, ◌-◌, ◌*◌, ◌<◌, ◌++◌, arith, refl, sym, ap, ◌∙◌, inl, inr, subst}
 use Rattle.egt_board.specs.Prelude.{add-mul, cases_eq, Side, White, Black, Kind, Q, R, B, N, P, K, Man, Way, Up, Down}
 use Rattle.egt_board.specs.Prelude.{Still, Step, Further, OneOf, Rides, Reaches, straight_steps, diagonal_steps}
 use Rattle.egt_board.specs.Prelude.{knight_steps, pawn_steps, steps_of, farthest, other_side, pawn_of, facing}

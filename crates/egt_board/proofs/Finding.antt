@@ -1,6 +1,6 @@
 -- A man sought among the slots of a board.
-use Rattle.egt_board.specs.Prelude.{◌≡◌, ◌⊎◌, ℕ, List, [], ◌∷◌, Some, None, sym, ap, ◌∙◌, inl, inr, nat_cmp, cases_eq}
-use Rattle.egt_board.specs.Prelude.{Man, Slot, listed, InOrder, find-below, first_half, second_half}
+use Rattle.std.proofs.Common.{◌≡◌, ◌⊎◌, ℕ, List, [], ◌∷◌, Some, None, sym, ap, ◌∙◌, inl, inr}
+use Rattle.egt_board.specs.Prelude.{nat_cmp, cases_eq, Man, Slot, listed, InOrder, find-below, first_half, second_half}
 use Rattle.std.specs.FinMap as map
 use Rattle.egt_board.proofs.Placed.{find-here, find-later}
 

@@ -1,10 +1,10 @@
 -- The men of a placement, gathered from the set of their squares.
-use Rattle.egt_board.specs.Prelude.{◌≡◌, ◌≢◌, ℕ, zero, suc, ◌+◌, ◌<◌, ◌≤◌, ◌↔◌, List, [], ◌∷◌, ◌++◌, ◌⊎◌, map, length}
-use Rattle.egt_board.specs.Prelude.{take, drop, get_or, Option, Some, None, true, add-one, arith, refl, sym, ap, ◌∙◌}
-use Rattle.egt_board.specs.Prelude.{inl, inr, subst, T, bit_at, is_some, nat_cmp, below_all, cases_eq, cases_lt}
-use Rattle.egt_board.specs.Prelude.{cases_order, false≢true, take_more, take_all, drop_all, map-append, length-append}
-use Rattle.egt_board.specs.Prelude.{length-drop, drop-cons, Man, Placement, Stands, IsFree, man_entry}
-use Rattle.egt_board.specs.Prelude.{first_half, second_half}
+use Rattle.std.proofs.Common.{◌≡◌, ◌≢◌, ℕ, zero, suc, ◌+◌, ◌<◌, ◌≤◌, ◌↔◌, List, [], ◌∷◌, ◌++◌, ◌⊎◌, map, length, take}
+use Rattle.std.proofs.Common.{drop, get_or, Option, Some, None, true, add-one, arith, refl, sym, ap, ◌∙◌, inl, inr}
+use Rattle.std.proofs.Common.{subst, T}
+use Rattle.egt_board.specs.Prelude.{bit_at, is_some, nat_cmp, below_all, cases_eq, cases_lt, cases_order, false≢true}
+use Rattle.egt_board.specs.Prelude.{take_more, take_all, drop_all, map-append, length-append, length-drop, drop-cons}
+use Rattle.egt_board.specs.Prelude.{Man, Placement, Stands, IsFree, man_entry, first_half, second_half}
 use Rattle.std.specs.FinMap as placement
 use Rattle.egt_board.proofs.Bits.{not_both}
 use Rattle.egt_board.proofs.Placed.{find-here, find-later, Sorted, lt_of_less}

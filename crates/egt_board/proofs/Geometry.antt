@@ -1,6 +1,6 @@
 -- How far squares are from one another.
-use Rattle.egt_board.specs.Prelude.{◌≡◌, ℕ, ◌+◌, ◌-◌, ◌*◌, ◌<◌, ◌≤◌, arith, refl, sym, ◌∙◌, subst, mul-le-mul_right}
-use Rattle.egt_board.specs.Prelude.{Way, Up, Down, Still, Step, file_of, rank_of, Further, Away}
+use Rattle.std.proofs.Common.{◌≡◌, ℕ, ◌+◌, ◌-◌, ◌*◌, ◌<◌, ◌≤◌, arith, refl, sym, ◌∙◌, subst}
+use Rattle.egt_board.specs.Prelude.{mul-le-mul_right, Way, Up, Down, Still, Step, file_of, rank_of, Further, Away}
 
 -- a coordinate as many times 0 further is the same
 Further-zero : (w : Way) (by a : ℕ) → Further w (0 * by) a a

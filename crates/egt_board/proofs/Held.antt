@@ -1,8 +1,9 @@
 -- Whose men stand on the squares of a set.
-use Rattle.egt_board.specs.Prelude.{◌≡◌, ℕ, ◌<◌, ◌↔◌, true, false, cond, eqb, List, [], ◌∷◌, Option, Some, None, arith}
-use Rattle.egt_board.specs.Prelude.{refl, sym, ap, ◌∙◌, max, inl, inr, nat_cmp, unsigned_tied, cases_eq, eqb_tells}
-use Rattle.egt_board.specs.Prelude.{Side, White, Black, Man, Placement, Stands, IsFree, IsHeld, Slot, listed, marks}
-use Rattle.egt_board.specs.Prelude.{takes, is_side, InOrder, AreOnBoard, AreKept, find-below, first_half, second_half}
+use Rattle.std.proofs.Common.{◌≡◌, ℕ, ◌<◌, ◌↔◌, true, false, cond, eqb, List, [], ◌∷◌, Option, Some, None, arith, refl}
+use Rattle.std.proofs.Common.{sym, ap, ◌∙◌, max, inl, inr}
+use Rattle.egt_board.specs.Prelude.{nat_cmp, unsigned_tied, cases_eq, eqb_tells, Side, White, Black, Man, Placement}
+use Rattle.egt_board.specs.Prelude.{Stands, IsFree, IsHeld, Slot, listed, marks, takes, is_side, InOrder, AreOnBoard}
+use Rattle.egt_board.specs.Prelude.{AreKept, find-below, first_half, second_half}
 use Rattle.std.specs.FinMap as map
 use Rattle.egt_board.proofs.Placed.{find-later}
 use Rattle.egt_board.proofs.Slots.{AreShown, listed-shown}

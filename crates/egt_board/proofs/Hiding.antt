@@ -1,10 +1,10 @@
 -- What a man on a line hides: a square is attacked along it exactly where no square between is taken.
-use Rattle.egt_board.specs.Prelude.{◌≡◌, ◌≢◌, ◌↔◌, ℕ, ◌-◌, ◌<◌, Bool, true, false, List, [], ◌∷◌, ◌++◌, min, arith}
-use Rattle.egt_board.specs.Prelude.{refl, sym, ap, ◌∙◌, subst, inl, inr, ◌+◌, ◌⊎◌, bit_at, cases_eq, false≢true}
-use Rattle.egt_board.specs.Prelude.{bit_at-lt, bit_at-zero, Side, White, Black, Kind, Q, R, B, N, P, K, Man, Up, Down}
-use Rattle.egt_board.specs.Prelude.{Still, Step, file_of, rank_of, Away, Rides, OneOf, Reaches, Rides-free}
-use Rattle.egt_board.specs.Prelude.{Reaches-free, steps_of, farthest, is_slider, straight_steps, diagonal_steps}
-use Rattle.egt_board.specs.Prelude.{knight_steps, pawn_steps, Stops, IsRoyal, IsBetween}
+use Rattle.std.proofs.Common.{◌≡◌, ◌≢◌, ◌↔◌, ℕ, ◌-◌, ◌<◌, Bool, true, false, List, [], ◌∷◌, ◌++◌, min, arith, refl, sym}
+use Rattle.std.proofs.Common.{ap, ◌∙◌, subst, inl, inr, ◌+◌, ◌⊎◌}
+use Rattle.egt_board.specs.Prelude.{bit_at, cases_eq, false≢true, bit_at-lt, bit_at-zero, Side, White, Black, Kind, Q}
+use Rattle.egt_board.specs.Prelude.{R, B, N, P, K, Man, Up, Down, Still, Step, file_of, rank_of, Away, Rides, OneOf}
+use Rattle.egt_board.specs.Prelude.{Reaches, Rides-free, Reaches-free, steps_of, farthest, is_slider, straight_steps}
+use Rattle.egt_board.specs.Prelude.{diagonal_steps, knight_steps, pawn_steps, Stops, IsRoyal, IsBetween}
 use Rattle.egt_board.proofs.Bits.{not_both}
 use Rattle.egt_board.proofs.Towards.{apart, gap_of, joined}
 

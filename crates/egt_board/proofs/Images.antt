@@ -1,12 +1,12 @@
 -- What the images of a position keep, and the way back from each.
-use Rattle.egt_board.specs.Prelude.{◌≡◌, ℕ, zero, suc, ◌<◌, ◌↔◌, ◌⊎◌, ◌/◌, ◌%◌, ◌==◌, Bool, true, false, Option, Some}
-use Rattle.egt_board.specs.Prelude.{None, arith, refl, sym, ap, ◌∙◌, subst, inl, inr, option_map, eqb-true, Mirror}
-use Rattle.egt_board.specs.Prelude.{Files, Ranks, Diagonal, Colours, Side, Man, other_side, Placement, HasNoPawn}
-use Rattle.egt_board.specs.Prelude.{Setup, IsAdmissible, FitsTarget, IsSettled, IsMirrored, square_by, side_by, man_by}
-use Rattle.egt_board.specs.Prelude.{Allows, square_by-within, square_by-twice, ShowsMen, OnBoard, man_by-twice}
-use Rattle.egt_board.specs.Prelude.{no_pawn_by, target_between, square_if, square_of, IsKeepingSides, KeepsPlay}
-use Rattle.egt_board.specs.Prelude.{IsCarried, IsImage, IsTurnOf, Comes, AreImages, Reflects, count_of, SameMen}
-use Rattle.egt_board.specs.Prelude.{ExchangedMen, men_by, setup_by, setup_if}
+use Rattle.std.proofs.Common.{◌≡◌, ℕ, zero, suc, ◌<◌, ◌↔◌, ◌⊎◌, ◌/◌, ◌%◌, ◌==◌, Bool, true, false, Option, Some, None}
+use Rattle.std.proofs.Common.{arith, refl, sym, ap, ◌∙◌, subst, inl, inr}
+use Rattle.egt_board.specs.Prelude.{option_map, eqb-true, Mirror, Files, Ranks, Diagonal, Colours, Side, Man}
+use Rattle.egt_board.specs.Prelude.{other_side, Placement, HasNoPawn, Setup, IsAdmissible, FitsTarget, IsSettled}
+use Rattle.egt_board.specs.Prelude.{IsMirrored, square_by, side_by, man_by, Allows, square_by-within, square_by-twice}
+use Rattle.egt_board.specs.Prelude.{ShowsMen, OnBoard, man_by-twice, no_pawn_by, target_between, square_if, square_of}
+use Rattle.egt_board.specs.Prelude.{IsKeepingSides, KeepsPlay, IsCarried, IsImage, IsTurnOf, Comes, AreImages, Reflects}
+use Rattle.egt_board.specs.Prelude.{count_of, SameMen, ExchangedMen, men_by, setup_by, setup_if}
 use Rattle.std.specs.FinMap as map
 use Rattle.egt_board.proofs.Turning.{admissible_by}
 use Rattle.egt_board.proofs.Settling.{ready_by}

@@ -1,5 +1,6 @@
 -- The search for the one king of a side.
-use Rattle.egt_board.specs.Prelude.{◌≡◌, ℕ, Option, Some, None, ◌⊎◌, bit_at, Side, Placement, Stands, king_of}
+use Rattle.std.specs.Prelude.{◌≡◌, ℕ, Option, Some, None, ◌⊎◌}
+use Rattle.egt_board.specs.Prelude.{bit_at, Side, Placement, Stands, king_of}
 
 -- the king that was found stands there
 abbrev pub FoundKing : Placement → Side → Option ℕ → Type 0

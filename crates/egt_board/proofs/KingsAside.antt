@@ -1,10 +1,10 @@
 -- The men of a board beside its kings, chosen among the slots.
-use Rattle.egt_board.specs.Prelude.{◌≡◌, ◌≢◌, ◌⊎◌, ℕ, zero, suc, ◌<◌, Bool, true, false, cond, List, [], ◌∷◌, Option}
-use Rattle.egt_board.specs.Prelude.{Some, None, IfSome, arith, refl, sym, ap, ◌∙◌, subst, inl, inr, T, option_map}
-use Rattle.egt_board.specs.Prelude.{nat_cmp, below_all, false≢true, Kind, Q, R, B, N, P, K, Man, Side, White, Black}
-use Rattle.egt_board.specs.Prelude.{king_of, holds_king, without_king, AreBeside, Slot, listed, padded, placed, InOrder}
-use Rattle.egt_board.specs.Prelude.{AreKept, side_number, Placement, Stands, is_king_kind, first_half, second_half}
-use Rattle.egt_board.specs.Prelude.{HasKings}
+use Rattle.std.proofs.Common.{◌≡◌, ◌≢◌, ◌⊎◌, ℕ, zero, suc, ◌<◌, Bool, true, false, cond, List, [], ◌∷◌, Option, Some}
+use Rattle.std.proofs.Common.{None, IfSome, arith, refl, sym, ap, ◌∙◌, subst, inl, inr, T}
+use Rattle.egt_board.specs.Prelude.{option_map, nat_cmp, below_all, false≢true, Kind, Q, R, B, N, P, K, Man, Side}
+use Rattle.egt_board.specs.Prelude.{White, Black, king_of, holds_king, without_king, AreBeside, Slot, listed, padded}
+use Rattle.egt_board.specs.Prelude.{placed, InOrder, AreKept, side_number, Placement, Stands, is_king_kind, first_half}
+use Rattle.egt_board.specs.Prelude.{second_half, HasKings}
 use Rattle.std.specs.FinMap as map
 use Rattle.egt_board.proofs.Finding.{AnyHolds, holds_found, found_holds}
 use Rattle.egt_board.proofs.Parts.{of_four}

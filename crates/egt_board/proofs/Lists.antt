@@ -1,9 +1,9 @@
 -- A list of men and the placement that it gives.
-use Rattle.egt_board.specs.Prelude.{◌≡◌, ◌≢◌, ℕ, zero, suc, ◌+◌, ◌<◌, ◌≤◌, List, [], ◌∷◌, ◌++◌, map, length, take}
-use Rattle.egt_board.specs.Prelude.{get_or, Some, None, Bool, true, false, cond, arith, refl, sym, ap, ◌∙◌, inl, inr}
-use Rattle.egt_board.specs.Prelude.{subst, nat_cmp, nat_cmp_total, cases_eq, map-append, take-map, get_or-take}
-use Rattle.egt_board.specs.Prelude.{get_or-map, take_more, length-take, length-map, Man, Placement, entry_of, men_of}
-use Rattle.egt_board.specs.Prelude.{squares_of, FitsBoard}
+use Rattle.std.proofs.Common.{◌≡◌, ◌≢◌, ℕ, zero, suc, ◌+◌, ◌<◌, ◌≤◌, List, [], ◌∷◌, ◌++◌, map, length, take, get_or}
+use Rattle.std.proofs.Common.{Some, None, Bool, true, false, cond, arith, refl, sym, ap, ◌∙◌, inl, inr, subst}
+use Rattle.egt_board.specs.Prelude.{nat_cmp, nat_cmp_total, cases_eq, map-append, take-map, get_or-take, get_or-map}
+use Rattle.egt_board.specs.Prelude.{take_more, length-take, length-map, Man, Placement, entry_of, men_of, squares_of}
+use Rattle.egt_board.specs.Prelude.{FitsBoard}
 use Rattle.std.specs.FinMap as placement
 use Rattle.egt_board.proofs.Placed.{find-here, find-later}
 

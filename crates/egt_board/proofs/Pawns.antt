@@ -1,7 +1,7 @@
 -- The search for a pawn on the first rank or the last.
-use Rattle.egt_board.specs.Prelude.{◌≡◌, ◌≢◌, ℕ, ◌<◌, ◌⊎◌, ◌↔◌, arith, Option, Some, None, true, sym, ap, ◌∙◌, inl, inr}
-use Rattle.egt_board.specs.Prelude.{refl, subst, bit_at, is_some, cases_eq, Man, Placement, Stands, IsFree, IsBeside}
-use Rattle.egt_board.specs.Prelude.{MayStand}
+use Rattle.std.proofs.Common.{◌≡◌, ◌≢◌, ℕ, ◌<◌, ◌⊎◌, ◌↔◌, arith, Option, Some, None, true, sym, ap, ◌∙◌, inl, inr, refl}
+use Rattle.std.proofs.Common.{subst}
+use Rattle.egt_board.specs.Prelude.{bit_at, is_some, cases_eq, Man, Placement, Stands, IsFree, IsBeside, MayStand}
 use Rattle.std.specs.FinMap as map
 use Rattle.egt_board.proofs.Bits.{not_both}
 

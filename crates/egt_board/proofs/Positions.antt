@@ -1,6 +1,6 @@
 -- What makes a setup admissible, and what each refusal says.
-use Rattle.egt_board.specs.Prelude.{is_some, false≢true, true, false, ◌≡◌, ℕ, Option, Some, None, sym, subst, ◌⊎◌, inl}
-use Rattle.egt_board.specs.Prelude.{inr, refl, Side, White, Black, other_side, Placement, IsKingOn, IsTarget}
+use Rattle.std.proofs.Common.{true, false, ◌≡◌, ℕ, Option, Some, None, sym, subst, ◌⊎◌, inl, inr, refl}
+use Rattle.egt_board.specs.Prelude.{is_some, false≢true, Side, White, Black, other_side, Placement, IsKingOn, IsTarget}
 use Rattle.egt_board.specs.Prelude.{FitsTarget}
 
 -- the king that waits, chosen by the side to move

@@ -1,10 +1,10 @@
 -- The one setup that a mirror makes of another.
-use Rattle.egt_board.specs.Prelude.{◌≡◌, ◌≢◌, ℕ, zero, suc, ◌+◌, ◌<◌, ◌≤◌, Bool, true, false, cond, Option, Some, None}
-use Rattle.egt_board.specs.Prelude.{arith, refl, sym, ap, ◌∙◌, subst, inl, inr, option_map, is_some, nat_cmp}
-use Rattle.egt_board.specs.Prelude.{nat_cmp_total, cases_eq, Mirror, Man, Placement, same_men, get-insert_same}
-use Rattle.egt_board.specs.Prelude.{get-insert_other, total, Setup, IsMirrored, square_by, man_by, put_some, men_below}
-use Rattle.egt_board.specs.Prelude.{men_by, setup_by, square_by-within, square_by-twice, ShowsMen, OnBoard, shows_back}
-use Rattle.egt_board.specs.Prelude.{side_by-twice, man_by-twice}
+use Rattle.std.proofs.Common.{◌≡◌, ◌≢◌, ℕ, zero, suc, ◌+◌, ◌<◌, ◌≤◌, Bool, true, false, cond, Option, Some, None, arith}
+use Rattle.std.proofs.Common.{refl, sym, ap, ◌∙◌, subst, inl, inr}
+use Rattle.egt_board.specs.Prelude.{option_map, is_some, nat_cmp, nat_cmp_total, cases_eq, Mirror, Man, Placement}
+use Rattle.egt_board.specs.Prelude.{same_men, get-insert_same, get-insert_other, total, Setup, IsMirrored, square_by}
+use Rattle.egt_board.specs.Prelude.{man_by, put_some, men_below, men_by, setup_by, square_by-within, square_by-twice}
+use Rattle.egt_board.specs.Prelude.{ShowsMen, OnBoard, shows_back, side_by-twice, man_by-twice}
 use Rattle.std.specs.FinMap as map
 use Rattle.egt_board.proofs.Gather.{IsKey}
 use Rattle.egt_board.proofs.Counts.{covered}

@@ -1,6 +1,6 @@
 -- The squares along one step, as a loop finds them.
-use Rattle.egt_board.specs.Prelude.{◌≡◌, ◌≢◌, ℕ, ◌+◌, ◌<◌, ◌≤◌, ◌↔◌, arith, sym, ap, ◌∙◌, subst, inl, inr, bit_at}
-use Rattle.egt_board.specs.Prelude.{bit_at-zero, cases_eq, cases_lt, Step, Away, Rides}
+use Rattle.std.proofs.Common.{◌≡◌, ◌≢◌, ℕ, ◌+◌, ◌<◌, ◌≤◌, ◌↔◌, arith, sym, ap, ◌∙◌, subst, inl, inr}
+use Rattle.egt_board.specs.Prelude.{bit_at, bit_at-zero, cases_eq, cases_lt, Step, Away, Rides}
 use Rattle.egt_board.proofs.Geometry.{Away-zero, Away-more, Away-same, Away-next}
 
 abbrev Open : ℕ → ℕ → Type 0

@@ -1,8 +1,8 @@
 -- Settled positions.
-use Rattle.egt_board.specs.Prelude.{ℕ, ◌<◌, Option, Some, None, IfSome, arith, refl, subst, inl, inr, option_map}
-use Rattle.egt_board.specs.Prelude.{Mirror, Files, Ranks, Diagonal, Colours, Side, other_side, Placement, pawn_of}
-use Rattle.egt_board.specs.Prelude.{ahead, IsBeside, HasPawnBeside, FitsTarget, square_by, side_by, Allows, ahead_by}
-use Rattle.egt_board.specs.Prelude.{target_between, ShowsMen, OnBoard}
+use Rattle.std.proofs.Common.{ℕ, ◌<◌, Option, Some, None, IfSome, arith, refl, subst, inl, inr}
+use Rattle.egt_board.specs.Prelude.{option_map, Mirror, Files, Ranks, Diagonal, Colours, Side, other_side, Placement}
+use Rattle.egt_board.specs.Prelude.{pawn_of, ahead, IsBeside, HasPawnBeside, FitsTarget, square_by, side_by, Allows}
+use Rattle.egt_board.specs.Prelude.{ahead_by, target_between, ShowsMen, OnBoard}
 use Rattle.egt_board.proofs.Turning.{ahead_within, stands_by}
 
 beside_files : (s t : ℕ) → IsBeside s t → IsBeside (square_by Files s) (square_by Files t)

@@ -1,11 +1,11 @@
 -- What a side attacks, and where a newcomer keeps it from attacking a square.
-use Rattle.egt_board.specs.Prelude.{◌≡◌, ◌≢◌, ◌↔◌, ◌⊎◌, ℕ, ◌+◌, ◌*◌, ◌<◌, List, [], ◌∷◌, Some, None, max, min, arith}
-use Rattle.egt_board.specs.Prelude.{refl, sym, ap, ◌∙◌, subst, inl, inr, bit_at, nat_cmp, cases_eq, Inside, Side, White}
-use Rattle.egt_board.specs.Prelude.{Black, Kind, Q, R, B, N, P, K, Man, Way, Up, Down, Still, Step, Further, file_of}
-use Rattle.egt_board.specs.Prelude.{rank_of, Placement, Stands, IsFree, get-insert_same, get-insert_other, Rides, OneOf}
-use Rattle.egt_board.specs.Prelude.{Reaches, Reaches-free, steps_of, farthest, Slot, listed, placed, InOrder, AreKept}
-use Rattle.egt_board.specs.Prelude.{slots_of, find-below, first_half, second_half, IsAttacked, IsKeptFrom, IsSeenAs}
-use Rattle.egt_board.specs.Prelude.{Stops, StopsSlot}
+use Rattle.std.proofs.Common.{◌≡◌, ◌≢◌, ◌↔◌, ◌⊎◌, ℕ, ◌+◌, ◌*◌, ◌<◌, List, [], ◌∷◌, Some, None, max, min, arith, refl}
+use Rattle.std.proofs.Common.{sym, ap, ◌∙◌, subst, inl, inr}
+use Rattle.egt_board.specs.Prelude.{bit_at, nat_cmp, cases_eq, Inside, Side, White, Black, Kind, Q, R, B, N, P, K, Man}
+use Rattle.egt_board.specs.Prelude.{Way, Up, Down, Still, Step, Further, file_of, rank_of, Placement, Stands, IsFree}
+use Rattle.egt_board.specs.Prelude.{get-insert_same, get-insert_other, Rides, OneOf, Reaches, Reaches-free, steps_of}
+use Rattle.egt_board.specs.Prelude.{farthest, Slot, listed, placed, InOrder, AreKept, slots_of, find-below, first_half}
+use Rattle.egt_board.specs.Prelude.{second_half, IsAttacked, IsKeptFrom, IsSeenAs, Stops, StopsSlot}
 use Rattle.std.specs.FinMap as map
 use Rattle.egt_board.proofs.Placed.{find-here, find-later}
 use Rattle.egt_board.proofs.Slots.{shown, listed-shown}

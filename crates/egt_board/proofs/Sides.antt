@@ -1,6 +1,6 @@
 -- The two sides, and the kinds of men.
-use Rattle.egt_board.specs.Prelude.{◌≡◌, ◌⊎◌, ◌<◌, arith, refl, inl, inr, Side, White, Black}
-use Rattle.egt_board.specs.Prelude.{other_side, Kind, Q, R, B, N, P, K, kind_number}
+use Rattle.std.proofs.Common.{◌≡◌, ◌⊎◌, ◌<◌, arith, refl, inl, inr}
+use Rattle.egt_board.specs.Prelude.{Side, White, Black, other_side, Kind, Q, R, B, N, P, K, kind_number}
 
 pub side_twice : (side : Side) → other_side (other_side side) ≡ side
 side_twice White = refl

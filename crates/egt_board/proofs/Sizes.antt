@@ -1,7 +1,7 @@
 -- How many squares a set has.
-use Rattle.egt_board.specs.Prelude.{◌≡◌, ◌≢◌, ℕ, zero, suc, ◌+◌, ◌<◌, ◌≤◌, ◌⊎◌, max, Bool, true, false, cond, ◌&&◌}
-use Rattle.egt_board.specs.Prelude.{◌||◌, not, eqb, leb, List, [], ◌∷◌, ◌++◌, ◌*◌, arith, refl, ap, ◌∙◌, inl, inr}
-use Rattle.egt_board.specs.Prelude.{subst, bit_at, cases_eq, eq-eqb, leb-true, le-leb, false≢true, and_parts, and_from}
+use Rattle.std.proofs.Common.{◌≡◌, ◌≢◌, ℕ, zero, suc, ◌+◌, ◌<◌, ◌≤◌, ◌⊎◌, max, Bool, true, false, cond, ◌&&◌, ◌||◌, not}
+use Rattle.std.proofs.Common.{eqb, leb, List, [], ◌∷◌, ◌++◌, ◌*◌, arith, refl, ap, ◌∙◌, inl, inr, subst}
+use Rattle.egt_board.specs.Prelude.{bit_at, cases_eq, eq-eqb, leb-true, le-leb, false≢true, and_parts, and_from}
 use Rattle.egt_board.specs.Prelude.{bit_at-lt, Side, White, Black, Kind, Q, R, B, N, P, K, Man, Step, SquareSet}
 use Rattle.egt_board.specs.Prelude.{list_all, eqb_tells, Way, Up, Down, Still, Further, Away, file_of, rank_of, total}
 use Rattle.egt_board.specs.Prelude.{size_of, most_reached, Rides, OneOf, Reaches, farthest, steps_of, straight_steps}

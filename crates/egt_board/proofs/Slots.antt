@@ -1,12 +1,12 @@
 -- The slots of a board: what stands on a square, and the slots with a man more or less.
-use Rattle.egt_board.specs.Prelude.{◌≡◌, ◌≢◌, ℕ, zero, suc, ◌+◌, ◌<◌, ◌≤◌, Bool, true, false, cond, eqb, ltb, not, ◌&&◌}
-use Rattle.egt_board.specs.Prelude.{◌||◌, List, [], ◌∷◌, length, Option, Some, None, arith, refl, sym, ap, ◌∙◌, inl}
-use Rattle.egt_board.specs.Prelude.{inr, subst, T, is_some, option_or, nat_cmp, is_lt, is_eq, eq_by_cmp, Ordering, Less}
-use Rattle.egt_board.specs.Prelude.{Equal, Greater, nat_cmp_total, unsigned_tied, alike_right, below_all, by_order}
-use Rattle.egt_board.specs.Prelude.{where_key, is_sorted-where_key, find-where_key, ltb-true, ltb-false, lt-ltb, le-ltb}
-use Rattle.egt_board.specs.Prelude.{eq-eqb, false≢true, eqb_tells, Man, Placement, same_men, White, Black, king_of}
-use Rattle.egt_board.specs.Prelude.{corners, Inside, slots_of, Slot, listed, padded, placed, InOrder, AreOnBoard}
-use Rattle.egt_board.specs.Prelude.{AreKept, man_on, place, lesser, greater, first_half, second_half}
+use Rattle.std.proofs.Common.{◌≡◌, ◌≢◌, ℕ, zero, suc, ◌+◌, ◌<◌, ◌≤◌, Bool, true, false, cond, eqb, ltb, not, ◌&&◌, ◌||◌}
+use Rattle.std.proofs.Common.{List, [], ◌∷◌, length, Option, Some, None, arith, refl, sym, ap, ◌∙◌, inl, inr, subst, T}
+use Rattle.egt_board.specs.Prelude.{is_some, option_or, nat_cmp, is_lt, is_eq, eq_by_cmp, Ordering, Less, Equal}
+use Rattle.egt_board.specs.Prelude.{Greater, nat_cmp_total, unsigned_tied, alike_right, below_all, by_order, where_key}
+use Rattle.egt_board.specs.Prelude.{is_sorted-where_key, find-where_key, ltb-true, ltb-false, lt-ltb, le-ltb, eq-eqb}
+use Rattle.egt_board.specs.Prelude.{false≢true, eqb_tells, Man, Placement, same_men, White, Black, king_of, corners}
+use Rattle.egt_board.specs.Prelude.{Inside, slots_of, Slot, listed, padded, placed, InOrder, AreOnBoard, AreKept}
+use Rattle.egt_board.specs.Prelude.{man_on, place, lesser, greater, first_half, second_half}
 use Rattle.std.specs.FinMap as map
 use Rattle.egt_board.proofs.Placed.{find-here, find-later, lt_of_less}
 

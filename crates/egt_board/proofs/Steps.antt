@@ -1,5 +1,6 @@
 -- A bit of either of two sets.
-use Rattle.egt_board.specs.Prelude.{◌≡◌, ℕ, ◌<◌, ◌↔◌, arith, inl, inr, ◌⊎◌, max, cases_eq}
+use Rattle.std.proofs.Common.{◌≡◌, ℕ, ◌<◌, ◌↔◌, arith, inl, inr, ◌⊎◌, max}
+use Rattle.egt_board.specs.Prelude.{cases_eq}
 
 -- a square of either set
 pub bit_of_either : (a b m : ℕ) → a < 2 → b < 2 → m ≡ max a b → (m ≡ 1) ↔ ((a ≡ 1) ⊎ (b ≡ 1))

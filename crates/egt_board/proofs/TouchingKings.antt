@@ -1,5 +1,6 @@
 -- Kings attack each other or neither does.
-use Rattle.egt_board.specs.Prelude.{ℕ, ◌<◌, arith, sym, subst, inl, inr, Side, Step, king_of, Rides, Reaches, Away}
+use Rattle.std.proofs.Common.{ℕ, ◌<◌, arith, sym, subst, inl, inr}
+use Rattle.egt_board.specs.Prelude.{Side, Step, king_of, Rides, Reaches, Away}
 
 -- a king goes one step
 once : (F : ℕ → Type 0) (s t : ℕ) (d : Step) → Rides F 1 s t d → Away d 1 s t

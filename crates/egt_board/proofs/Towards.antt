@@ -1,8 +1,8 @@
 -- The one step that leads from a square to another on its line, and how many of them.
-use Rattle.egt_board.specs.Prelude.{◌≡◌, ℕ, ◌+◌, ◌-◌, ◌*◌, ◌<◌, Bool, true, false, cond, eqb, ltb, max, min, arith}
-use Rattle.egt_board.specs.Prelude.{refl, sym, ap, ◌∙◌, subst, inl, inr, ◌⊎◌, lt-ltb, le-ltb, ltb-true, eqb-true}
-use Rattle.egt_board.specs.Prelude.{eq-eqb, cases_order, false≢true, Way, Up, Down, Still, Step, file_of, rank_of}
-use Rattle.egt_board.specs.Prelude.{Further, Away, size_of_way, unit, IsRoyal}
+use Rattle.std.proofs.Common.{◌≡◌, ℕ, ◌+◌, ◌-◌, ◌*◌, ◌<◌, Bool, true, false, cond, eqb, ltb, max, min, arith, refl, sym}
+use Rattle.std.proofs.Common.{ap, ◌∙◌, subst, inl, inr, ◌⊎◌}
+use Rattle.egt_board.specs.Prelude.{lt-ltb, le-ltb, ltb-true, eqb-true, eq-eqb, cases_order, false≢true, Way, Up, Down}
+use Rattle.egt_board.specs.Prelude.{Still, Step, file_of, rank_of, Further, Away, size_of_way, unit, IsRoyal}
 
 -- along one coordinate
 abbrev pub way_to : ℕ → ℕ → Way

@@ -1,9 +1,9 @@
 -- A turn as mirrors, one after another.
-use Rattle.egt_board.specs.Prelude.{◌≡◌, ℕ, ◌/◌, ◌%◌, ◌==◌, Bool, true, false, Option, Some, None, arith, refl, sym}
-use Rattle.egt_board.specs.Prelude.{subst, inl, inr, option_map, eqb-true, Mirror, Files, Ranks, Diagonal, Colours}
-use Rattle.egt_board.specs.Prelude.{HasNoPawn, Setup, IsAdmissible, Allows, OnBoard, no_pawn_by, AreMirroredIf}
-use Rattle.egt_board.specs.Prelude.{ComesByMirrors, square_if, IsKeepingSides, KeepsPlay, IsCarried, IsImage}
-use Rattle.egt_board.specs.Prelude.{IsTurnedBy, setup_if, turned_by}
+use Rattle.std.proofs.Common.{◌≡◌, ℕ, ◌/◌, ◌%◌, ◌==◌, Bool, true, false, Option, Some, None, arith, refl, sym, subst}
+use Rattle.std.proofs.Common.{inl, inr}
+use Rattle.egt_board.specs.Prelude.{option_map, eqb-true, Mirror, Files, Ranks, Diagonal, Colours, HasNoPawn, Setup}
+use Rattle.egt_board.specs.Prelude.{IsAdmissible, Allows, OnBoard, no_pawn_by, AreMirroredIf, ComesByMirrors, square_if}
+use Rattle.egt_board.specs.Prelude.{IsKeepingSides, KeepsPlay, IsCarried, IsImage, IsTurnedBy, setup_if, turned_by}
 use Rattle.egt_board.proofs.Reflected.{setup_by-is}
 use Rattle.egt_board.proofs.Images.{setup_by-kept, carried_of, carried_on, square_if-within}
 use Rattle.egt_board.proofs.Turns.{turned_made}

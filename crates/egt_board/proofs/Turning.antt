@@ -1,13 +1,13 @@
 -- A position in a mirror.
-use Rattle.egt_board.specs.Prelude.{◌≡◌, ◌≢◌, ℕ, ◌+◌, ◌<◌, ◌≤◌, ◌↔◌, Bool, true, false, cond, Option, Some, None, arith}
-use Rattle.egt_board.specs.Prelude.{refl, sym, ap, ◌∙◌, subst, inl, inr, bit_at, option_map, is_some, nat_cmp}
-use Rattle.egt_board.specs.Prelude.{nat_cmp_total, cases_eq, Mirror, Files, Ranks, Diagonal, Colours, Side, White}
-use Rattle.egt_board.specs.Prelude.{Black, Kind, P, K, Man, SquareSet, other_side, Placement, Stands, IsFree}
-use Rattle.egt_board.specs.Prelude.{get-insert_same, get-insert_other, Has, size_of, king_of, IsAttacked, Setup}
-use Rattle.egt_board.specs.Prelude.{IsAdmissible, IsKingOn, HasKings, square_by, side_by, man_by, Allows, rank_of}
-use Rattle.egt_board.specs.Prelude.{pawn_of, ahead, PawnsFit, target_rank, IsTarget, FitsTarget, ahead_by}
-use Rattle.egt_board.specs.Prelude.{target_between, Suits, suits_of, square_by-within, square_by-twice, ShowsMen}
-use Rattle.egt_board.specs.Prelude.{OnBoard, stands_back, attacked_back, side_by-turned, side_by-turned_twice}
+use Rattle.std.proofs.Common.{◌≡◌, ◌≢◌, ℕ, ◌+◌, ◌<◌, ◌≤◌, ◌↔◌, Bool, true, false, cond, Option, Some, None, arith, refl}
+use Rattle.std.proofs.Common.{sym, ap, ◌∙◌, subst, inl, inr}
+use Rattle.egt_board.specs.Prelude.{bit_at, option_map, is_some, nat_cmp, nat_cmp_total, cases_eq, Mirror, Files, Ranks}
+use Rattle.egt_board.specs.Prelude.{Diagonal, Colours, Side, White, Black, Kind, P, K, Man, SquareSet, other_side}
+use Rattle.egt_board.specs.Prelude.{Placement, Stands, IsFree, get-insert_same, get-insert_other, Has, size_of, king_of}
+use Rattle.egt_board.specs.Prelude.{IsAttacked, Setup, IsAdmissible, IsKingOn, HasKings, square_by, side_by, man_by}
+use Rattle.egt_board.specs.Prelude.{Allows, rank_of, pawn_of, ahead, PawnsFit, target_rank, IsTarget, FitsTarget}
+use Rattle.egt_board.specs.Prelude.{ahead_by, target_between, Suits, suits_of, square_by-within, square_by-twice}
+use Rattle.egt_board.specs.Prelude.{ShowsMen, OnBoard, stands_back, attacked_back, side_by-turned, side_by-turned_twice}
 use Rattle.egt_board.specs.Prelude.{man_by-twice}
 use Rattle.std.specs.FinMap as map
 use Rattle.egt_board.proofs.Bits.{not_both}

@@ -1,11 +1,12 @@
 -- Positions turned: what a turn makes, and that one turn after another is a turn.
-use Rattle.egt_board.specs.Prelude.{◌≡◌, ℕ, zero, suc, ◌+◌, ◌-◌, ◌*◌, ◌<◌, ◌⊎◌, ◌/◌, ◌%◌, ◌==◌, ◌&&◌, not, Bool, true}
-use Rattle.egt_board.specs.Prelude.{false, Option, Some, None, arith, refl, sym, ap, ◌∙◌, subst, inl, inr, option_map}
-use Rattle.egt_board.specs.Prelude.{eqb-true, and_parts, cases_eq, Mirror, Files, Ranks, Diagonal, Colours, Side, Man}
-use Rattle.egt_board.specs.Prelude.{Setup, IsAdmissible, IsMirrored, square_by, side_by, man_by, square_by-within}
-use Rattle.egt_board.specs.Prelude.{OnBoard, man_by-twice, side_by-twice, no_pawn_by, AreMirrored, square_if, square_of}
-use Rattle.egt_board.specs.Prelude.{KeepsPlay, IsCarried, IsImage, IsTurnedBy, IsSetBy, turned_square, turned_man}
-use Rattle.egt_board.specs.Prelude.{turned_side, setup_by, setup_if, turned_by, IsTurn, AreImages, Reflects}
+use Rattle.std.proofs.Common.{◌≡◌, ℕ, zero, suc, ◌+◌, ◌-◌, ◌*◌, ◌<◌, ◌⊎◌, ◌/◌, ◌%◌, ◌==◌, ◌&&◌, not, Bool, true, false}
+use Rattle.std.proofs.Common.{Option, Some, None, arith, refl, sym, ap, ◌∙◌, subst, inl, inr}
+use Rattle.egt_board.specs.Prelude.{option_map, eqb-true, and_parts, cases_eq, Mirror, Files, Ranks, Diagonal, Colours}
+use Rattle.egt_board.specs.Prelude.{Side, Man, Setup, IsAdmissible, IsMirrored, square_by, side_by, man_by}
+use Rattle.egt_board.specs.Prelude.{square_by-within, OnBoard, man_by-twice, side_by-twice, no_pawn_by, AreMirrored}
+use Rattle.egt_board.specs.Prelude.{square_if, square_of, KeepsPlay, IsCarried, IsImage, IsTurnedBy, IsSetBy}
+use Rattle.egt_board.specs.Prelude.{turned_square, turned_man, turned_side, setup_by, setup_if, turned_by, IsTurn}
+use Rattle.egt_board.specs.Prelude.{AreImages, Reflects}
 use Rattle.std.specs.FinMap as map
 use Rattle.egt_board.proofs.Reflected.{men_by-on_board, same_on_board, setup_by-is, setup_by-only, setup_by-back}
 use Rattle.egt_board.proofs.Images.{Kept, Kept-on, setup_by-kept, images_by_turn, images_on, images_kept, image_kept, setup_if-is, carried_on, Onto, carried_only, square_if-within, square_if-twice, onto_three, target_within}

@@ -58,10 +58,6 @@ pub use Rattle.egt_board.specs.declared.step.Step.{Step}
 pub use Rattle.egt_board.specs.declared.step.Way.{Way}
 pub use Rattle.egt_board.specs.declared.step.Way.TheVariants.{Down, Still, Up}
 pub use Rattle.egt_board.specs.declared.tables.TheConstants.{LONE}
-pub use Rattle.std.proofs.Common.{Bool, List, None, Option, Some, [], add-one, add-zero, ap, arith, cond, drop, eqb}
-pub use Rattle.std.proofs.Common.{false, get_or, inl, inr, leb, length, lit<, ltb, map, max, min, not, refl, rules}
-pub use Rattle.std.proofs.Common.{subst, suc, sym, take, true, w64, zero, zero-add, ℕ, ◌%◌, ◌&&◌, ◌*◌, ◌++◌, ◌+◌, ◌-◌}
-pub use Rattle.std.proofs.Common.{◌/◌, ◌<◌, ◌==◌, ◌^◌, ◌||◌, ◌↔◌, ◌∙◌, ◌∷◌, ◌≡◌, ◌≢◌, ◌≤◌, ◌⊎◌}
 pub use Rattle.std.proofs.Math.Nat.{add-mul, mul-le-mul_right}
 pub use Rattle.std.proofs.Math.Seq.{drop-cons}
 pub use Rattle.std.proofs.lemmas.Bool.{and_from, and_parts, cases_eq, cases_lt, cases_order, eq-eqb, eqb-true}
@@ -83,7 +79,5 @@ pub use Rattle.std.specs.Int.RustNames.{bit_or}
 pub use Rattle.std.specs.List.{list_all}
 pub use Rattle.std.specs.Option.{is_some, option_map, option_or}
 pub use Rattle.std.specs.Ordering.{eq_by_cmp, is_eq, is_lt, nat_cmp}
-pub use Rattle.std.specs.Prelude.{IfErr, IfNone, IfOk, IfSome, IsOk, IsSome, IsTrue, T, count_by, if◌then◌else◌, nat_lt}
-pub use Rattle.std.specs.Prelude.{slice_index}
 pub use Rattle.std.specs.declared.cmp.Ordering.{Ordering}
 pub use Rattle.std.specs.declared.cmp.Ordering.TheVariants.{Equal, Greater, Less}

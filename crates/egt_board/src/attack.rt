@@ -1,6 +1,7 @@
 //! What the men on a board attack: FIDE Laws of Chess 2023, articles 3.1.3 and 3.9.
-ghost use Rattle.egt_board.specs.Prelude.{◌≡◌, ℕ, ◌≤◌, ◌↔◌, IsTrue, bit_at, IsAttacked, IsInCheck, AttacksFrom};
-ghost use Rattle.egt_board.specs.Prelude.{IsOccupied, Reaches, IsFree, IsKingOn, Has, size_of, most_reached};
+ghost use Rattle.std.specs.Prelude.{◌≡◌, ℕ, ◌≤◌, ◌↔◌, IsTrue};
+ghost use Rattle.egt_board.specs.Prelude.{bit_at, IsAttacked, IsInCheck, AttacksFrom, IsOccupied, Reaches, IsFree};
+ghost use Rattle.egt_board.specs.Prelude.{IsKingOn, Has, size_of, most_reached};
 ghost use Rattle.std.specs.FinMap as map;
 
 use crate::attack_lines;

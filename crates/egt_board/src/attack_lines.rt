@@ -1,6 +1,6 @@
 //! What a man attacks past the men on the board: FIDE Laws of Chess 2023, articles 3.2 to 3.8.
-ghost use Rattle.egt_board.specs.Prelude.{◌≡◌, ℕ, ◌<◌, ◌≤◌, ◌↔◌, IsTrue, bit_at, IsBetween, Reaches, Rides, Stops, Has};
-ghost use Rattle.egt_board.specs.Prelude.{size_of, most_reached};
+ghost use Rattle.std.specs.Prelude.{◌≡◌, ℕ, ◌<◌, ◌≤◌, ◌↔◌, IsTrue};
+ghost use Rattle.egt_board.specs.Prelude.{bit_at, IsBetween, Reaches, Rides, Stops, Has, size_of, most_reached};
 
 use crate::lookup::{behind, between, lone_reach};
 use crate::man::Man;

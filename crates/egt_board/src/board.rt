@@ -1,5 +1,5 @@
 //! A board with at most four men on it, and what they attack: FIDE Laws of Chess 2023, articles 3.1 to 3.9.
-ghost use Rattle.egt_board.specs.Prelude.{◌≡◌, ℕ, ◌<◌, ◌≤◌, ◌↔◌, ◌∷◌, ◌++◌, nat_lt, IfSome, IfNone, if◌then◌else◌};
+ghost use Rattle.std.specs.Prelude.{◌≡◌, ℕ, ◌<◌, ◌≤◌, ◌↔◌, ◌∷◌, ◌++◌, nat_lt, IfSome, IfNone, if◌then◌else◌};
 ghost use Rattle.egt_board.specs.Prelude.{bit_at, option_map, is_some, king_of, place, man_on, marks, takes, lesser};
 ghost use Rattle.egt_board.specs.Prelude.{greater, Has};
 ghost use Rattle.std.specs.FinMap as map;

@@ -1,6 +1,7 @@
 //! How many of each man stand on a board. These functions do nothing: a caller calls one to know what it ensures.
-ghost use Rattle.egt_board.specs.Prelude.{◌≡◌, ◌+◌, ◌<◌, ℕ, Some, count_by, Side, Man, Placement, Stands, king_of};
-ghost use Rattle.egt_board.specs.Prelude.{IsKingOn, count_of, stands_here, is_man};
+ghost use Rattle.std.specs.Prelude.{◌≡◌, ◌+◌, ◌<◌, ℕ, Some, count_by};
+ghost use Rattle.egt_board.specs.Prelude.{Side, Man, Placement, Stands, king_of, IsKingOn, count_of, stands_here};
+ghost use Rattle.egt_board.specs.Prelude.{is_man};
 ghost use Rattle.std.specs.FinMap as placement;
 
 /// The men on the board's squares are those of its list.

@@ -1,5 +1,6 @@
 //! Where the kings stand.
-ghost use Rattle.egt_board.specs.Prelude.{◌≡◌, ℕ, IfSome, IfNone, IsKingOn};
+ghost use Rattle.std.specs.Prelude.{◌≡◌, ℕ, IfSome, IfNone};
+ghost use Rattle.egt_board.specs.Prelude.{IsKingOn};
 
 use crate::board::Board;
 use crate::man::{Kind, Man, Side};

@@ -1,8 +1,9 @@
 //! What holds of positions and their images. These functions do nothing: a caller calls one to know what it
 //! ensures.
-ghost use Rattle.egt_board.specs.Prelude.{◌≡◌, ◌<◌, ◌↔◌, ◌⊎◌, ℕ, Bool, Setup, IsAdmissible, IsSettled, SettlesTo};
-ghost use Rattle.egt_board.specs.Prelude.{AreImages, Reflects, SameMen, ExchangedMen, IsTurn, ComesByMirrors};
-ghost use Rattle.egt_board.specs.Prelude.{settled_form, KeepsPlay, IsTurnedBy, IsSetBy, turned_by};
+ghost use Rattle.std.specs.Prelude.{◌≡◌, ◌<◌, ◌↔◌, ◌⊎◌, ℕ, Bool};
+ghost use Rattle.egt_board.specs.Prelude.{Setup, IsAdmissible, IsSettled, SettlesTo, AreImages, Reflects, SameMen};
+ghost use Rattle.egt_board.specs.Prelude.{ExchangedMen, IsTurn, ComesByMirrors, settled_form, KeepsPlay, IsTurnedBy};
+ghost use Rattle.egt_board.specs.Prelude.{IsSetBy, turned_by};
 
 /// To be an image of one another is an equivalence of positions.
 pub fn images_form_classes()

@@ -1,5 +1,6 @@
 //! A board from a list of men.
-ghost use Rattle.egt_board.specs.Prelude.{◌≡◌, ℕ, ◌<◌, ◌↔◌, IsSome, IfSome, men_of, FitsBoard, Stands};
+ghost use Rattle.std.specs.Prelude.{◌≡◌, ℕ, ◌<◌, ◌↔◌, IsSome, IfSome};
+ghost use Rattle.egt_board.specs.Prelude.{men_of, FitsBoard, Stands};
 
 use crate::board::Board;
 use crate::man::Man;

@@ -1,6 +1,6 @@
 //! What men attack on the bare board, by a table, and the squares between squares.
-ghost use Rattle.egt_board.specs.Prelude.{◌≡◌, ℕ, ◌+◌, ◌*◌, ◌<◌, ◌↔◌, slice_index, bit_at, IsBetween, Reaches, row_by};
-ghost use Rattle.egt_board.specs.Prelude.{below, beyond, line_of, Has};
+ghost use Rattle.std.specs.Prelude.{◌≡◌, ℕ, ◌+◌, ◌*◌, ◌<◌, ◌↔◌, slice_index};
+ghost use Rattle.egt_board.specs.Prelude.{bit_at, IsBetween, Reaches, row_by, below, beyond, line_of, Has};
 
 use crate::man::{Kind, Man, Side};
 use crate::square::Square;

@@ -1,5 +1,6 @@
 //! The men and the two sides (FIDE Laws of Chess 2023, article 2).
-ghost use Rattle.egt_board.specs.Prelude.{◌≡◌, other_side};
+ghost use Rattle.std.specs.Prelude.{◌≡◌};
+ghost use Rattle.egt_board.specs.Prelude.{other_side};
 
 /// The two sides of a game.
 #[derive(Clone, Copy, Debug, Default, PartialEq, Eq)]

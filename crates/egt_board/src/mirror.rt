@@ -1,5 +1,6 @@
 //! The mirrors that keep legal play: of files, of ranks, in the long diagonal from a1 to h8, and of colours.
-ghost use Rattle.egt_board.specs.Prelude.{◌≡◌, ◌<◌, option_map, square_by, man_by, side_by};
+ghost use Rattle.std.specs.Prelude.{◌≡◌, ◌<◌};
+ghost use Rattle.egt_board.specs.Prelude.{option_map, square_by, man_by, side_by};
 
 use crate::man::{Man, Side};
 use crate::square::Square;

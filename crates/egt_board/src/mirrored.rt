@@ -1,6 +1,6 @@
 //! Positions in a mirror.
-ghost use Rattle.egt_board.specs.Prelude.{◌≡◌, ℕ, ◌<◌, ◌≤◌, option_map, IsMirrored, Allows, square_by, man_by, Stands};
-ghost use Rattle.egt_board.specs.Prelude.{Man};
+ghost use Rattle.std.specs.Prelude.{◌≡◌, ℕ, ◌<◌, ◌≤◌};
+ghost use Rattle.egt_board.specs.Prelude.{option_map, IsMirrored, Allows, square_by, man_by, Stands, Man};
 ghost use Rattle.std.specs.FinMap as map;
 
 use crate::board::Board;

@@ -1,6 +1,6 @@
 //! The men of a board beside the kings.
-ghost use Rattle.egt_board.specs.Prelude.{◌≡◌, ◌≢◌, ℕ, IfSome, IfNone, if◌then◌else◌, option_map, AreBeside};
-ghost use Rattle.egt_board.specs.Prelude.{holds_king, without_king, HasKings};
+ghost use Rattle.std.specs.Prelude.{◌≡◌, ◌≢◌, ℕ, IfSome, IfNone, if◌then◌else◌};
+ghost use Rattle.egt_board.specs.Prelude.{option_map, AreBeside, holds_king, without_king, HasKings};
 
 use crate::board::{Board, Slot};
 use crate::man::{Kind, Man};

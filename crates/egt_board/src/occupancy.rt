@@ -1,5 +1,6 @@
 //! The squares of either side's men.
-ghost use Rattle.egt_board.specs.Prelude.{◌≡◌, ◌≤◌, ℕ, IsOccupancy, IsOccupied, Setup, IsAdmissible, size_of};
+ghost use Rattle.std.specs.Prelude.{◌≡◌, ◌≤◌, ℕ};
+ghost use Rattle.egt_board.specs.Prelude.{IsOccupancy, IsOccupied, Setup, IsAdmissible, size_of};
 
 use crate::position::Position;
 use crate::square_set::SquareSet;

@@ -1,7 +1,8 @@
 //! How pawns stand and advance: FIDE Laws of Chess 2023, article 3.7.
-ghost use Rattle.egt_board.specs.Prelude.{◌≡◌, ℕ, ◌<◌, ◌≤◌, ◌↔◌, IsTrue, pawn_of, facing, forward, ahead, home_rank};
-ghost use Rattle.egt_board.specs.Prelude.{last_rank, farthest_advance, Advances, IsBeside, MayStand, PawnsFit};
-ghost use Rattle.egt_board.specs.Prelude.{HasPawnBeside, IsFree, rank_of, Has, size_of};
+ghost use Rattle.std.specs.Prelude.{◌≡◌, ℕ, ◌<◌, ◌≤◌, ◌↔◌, IsTrue};
+ghost use Rattle.egt_board.specs.Prelude.{pawn_of, facing, forward, ahead, home_rank, last_rank, farthest_advance};
+ghost use Rattle.egt_board.specs.Prelude.{Advances, IsBeside, MayStand, PawnsFit, HasPawnBeside, IsFree, rank_of, Has};
+ghost use Rattle.egt_board.specs.Prelude.{size_of};
 
 use crate::attack_lines;
 use crate::board::Board;

@@ -1,5 +1,6 @@
 //! Positions: the setups that the rules of play admit.
-ghost use Rattle.egt_board.specs.Prelude.{◌≡◌, ℕ, ◌≤◌, ◌↔◌, IsOk, IfOk, IfErr, IsTrue, map, IsAttacked, White, Black};
+ghost use Rattle.std.specs.Prelude.{◌≡◌, ℕ, ◌≤◌, ◌↔◌, IsOk, IfOk, IfErr, IsTrue, map};
+ghost use Rattle.egt_board.specs.Prelude.{IsAttacked, White, Black};
 ghost use Rattle.std.specs.FinMap as placement;
 
 use crate::board::Board;

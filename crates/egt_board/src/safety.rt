@@ -1,8 +1,8 @@
 //! Which squares a side attacks, and where a man shields another from attacks: FIDE Laws of Chess 2023, articles
 //! 3.1.3 and 3.9.
-ghost use Rattle.egt_board.specs.Prelude.{◌≡◌, ◌≢◌, ℕ, ◌<◌, ◌↔◌, bit_at, IsAttacked, AttacksFrom, king_of, IsOccupied};
-ghost use Rattle.egt_board.specs.Prelude.{Reaches, Placement, Stands, IsFree, IsKeptFrom, IsSeenAs, StopsSlot, Has};
-ghost use Rattle.egt_board.specs.Prelude.{Man, Side};
+ghost use Rattle.std.specs.Prelude.{◌≡◌, ◌≢◌, ℕ, ◌<◌, ◌↔◌};
+ghost use Rattle.egt_board.specs.Prelude.{bit_at, IsAttacked, AttacksFrom, king_of, IsOccupied, Reaches, Placement};
+ghost use Rattle.egt_board.specs.Prelude.{Stands, IsFree, IsKeptFrom, IsSeenAs, StopsSlot, Has, Man, Side};
 ghost use Rattle.std.specs.FinMap as map;
 
 use crate::attack_lines;

@@ -1,5 +1,6 @@
 //! Positions without a target that no pawn stands ready to take.
-ghost use Rattle.egt_board.specs.Prelude.{◌≡◌, ℕ, ◌<◌, ◌↔◌, IsTrue, IsSettled, SettlesTo, untargeted};
+ghost use Rattle.std.specs.Prelude.{◌≡◌, ℕ, ◌<◌, ◌↔◌, IsTrue};
+ghost use Rattle.egt_board.specs.Prelude.{IsSettled, SettlesTo, untargeted};
 
 use crate::position::Position;
 

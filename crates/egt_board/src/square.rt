@@ -1,5 +1,6 @@
 //! The 64 squares by number: `8 * rank + file`, both from 0, so that a1 is 0 and h8 is 63.
-ghost use Rattle.egt_board.specs.Prelude.{◌≡◌, ◌<◌, ◌↔◌, ◌%◌, ◌/◌, IsSome, IfSome, file_of, rank_of};
+ghost use Rattle.std.specs.Prelude.{◌≡◌, ◌<◌, ◌↔◌, ◌%◌, ◌/◌, IsSome, IfSome};
+ghost use Rattle.egt_board.specs.Prelude.{file_of, rank_of};
 
 use std::marker::Model;
 

@@ -1,5 +1,6 @@
 //! Steps from square to square: so many files and so many ranks further.
-ghost use Rattle.egt_board.specs.Prelude.{◌≡◌, ℕ, ◌<◌, ◌≤◌, IfSome, IfNone, Further};
+ghost use Rattle.std.specs.Prelude.{◌≡◌, ℕ, ◌<◌, ◌≤◌, IfSome, IfNone};
+ghost use Rattle.egt_board.specs.Prelude.{Further};
 
 use crate::square::Square;
 

@@ -1,5 +1,6 @@
 //! En passant targets: FIDE Laws of Chess 2023, article 3.7.3.
-ghost use Rattle.egt_board.specs.Prelude.{◌≡◌, ◌↔◌, IsTrue, target_rank, IsTarget};
+ghost use Rattle.std.specs.Prelude.{◌≡◌, ◌↔◌, IsTrue};
+ghost use Rattle.egt_board.specs.Prelude.{target_rank, IsTarget};
 
 use crate::board::Board;
 use crate::man::Side;

@@ -1,6 +1,6 @@
 -- What is said of a library that is lent is said of what the handle holds.
-use Rattle.egt_c.specs.Prelude.{◌≡◌, Option, Some, IfSome, sym, subst, Places, IfOk, IfErr, MatchResult}
-use Rattle.std.proofs.Common.{Result, Ok, Err}
+use Rattle.std.proofs.Common.{◌≡◌, Option, Some, IfSome, sym, subst, IfOk, IfErr, MatchResult, Result, Ok, Err}
+use Rattle.egt_c.specs.Prelude.{Places}
 use Rattle.egt_board.specs.Setup.{Setup}
 use Rattle.egt_c.specs.Calls.{Tells, Answered, Refused}
 use Rattle.egt_c.specs.declared.fault.EgtbFault.{EgtbFault}

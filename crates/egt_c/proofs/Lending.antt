@@ -1,5 +1,6 @@
 -- What is left of an open handle while its owner is lent. Assumes `Logic`.
-use Rattle.egt_c.specs.Prelude.{◌≡◌, ℕ, List, [], ◌∷◌, refl, sym, with_library, owned, heap, EgtbLibrary}
+use Rattle.std.proofs.Common.{◌≡◌, ℕ, List, [], ◌∷◌, refl, sym}
+use Rattle.egt_c.specs.Prelude.{with_library, owned, heap, EgtbLibrary}
 use Rattle.std.specs.contracts.impls.GlobalAllocator.TheImpl.{ghosts}
 use mathlib.Core.Bool.{Bool, true}
 use seplogic.Ra.Ura.{Ura}

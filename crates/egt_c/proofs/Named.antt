@@ -1,6 +1,7 @@
 -- Men that are named one after another.
-use Rattle.egt_c.specs.Prelude.{◌≡◌, ℕ, zero, suc, ◌<◌, List, [], ◌∷◌, ◌++◌, length, take, get_or, Option, Some, None}
-use Rattle.egt_c.specs.Prelude.{IfSome, refl, sym, ap, ◌∙◌, subst, arith, Man, EgtbMan, man_of, men_of, joined}
+use Rattle.std.proofs.Common.{◌≡◌, ℕ, zero, suc, ◌<◌, List, [], ◌∷◌, ◌++◌, length, take, get_or, Option, Some, None}
+use Rattle.std.proofs.Common.{IfSome, refl, sym, ap, ◌∙◌, subst, arith}
+use Rattle.egt_c.specs.Prelude.{Man, EgtbMan, man_of, men_of, joined}
 
 abbrev unwrapped : Option (List (Man × ℕ)) → List (Man × ℕ)
 unwrapped None = []

@@ -1,7 +1,8 @@
 -- The machine values of a handle. Assumes `Logic`.
 --     handle_out, handle_in     a handle is what it owns
 --     either                    it is closed, or owns a box
-use Rattle.egt_c.specs.Prelude.{◌≡◌, ℕ, List, [], ◌∷◌, ◌++◌, refl, subst, lit<, shared_row, owned}
+use Rattle.std.proofs.Common.{◌≡◌, ℕ, List, [], ◌∷◌, ◌++◌, refl, subst, lit<}
+use Rattle.egt_c.specs.Prelude.{shared_row, owned}
 use Rattle.std.proofs.alloc.Calls.{Al}
 use Rattle.std.proofs.cell.Inside.{Good}
 use Rattle.std.specs.contracts.impls.GlobalAllocator.TheImpl.{ghosts}

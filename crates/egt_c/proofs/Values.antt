@@ -1,6 +1,7 @@
 -- The machine values of a `Loose`. Assumes `Logic`.
 --     loose_out, loose_in     it is the box that it owns and its handle of the heap
-use Rattle.egt_c.specs.Prelude.{◌≡◌, ℕ, List, [], ◌∷◌, ◌++◌, refl, subst, Ghosts, box_owns}
+use Rattle.std.proofs.Common.{◌≡◌, ℕ, List, [], ◌∷◌, ◌++◌, refl, subst}
+use Rattle.egt_c.specs.Prelude.{Ghosts, box_owns}
 use Rattle.std.proofs.alloc.Calls.{Al, handle_tells}
 use Rattle.std.proofs.cell.Inside.{Good}
 use Rattle.std.proofs.ResultValues.{and_tt}

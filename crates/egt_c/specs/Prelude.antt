@@ -30,10 +30,6 @@ pub use Rattle.egt_table.specs.File.{IsAnswer}
 pub use Rattle.egt_table.specs.Reading.{CountsFault}
 pub use Rattle.egt_table.specs.declared.fault.FileFault.{FileFault}
 pub use Rattle.egt_table.specs.declared.fault.FileFault.TheVariants.{Device}
-pub use Rattle.std.proofs.Common.{IfSome, List, Some, [], ap, arith, get_or, length, length-set, lit<, map, refl, rules}
-pub use Rattle.std.proofs.Common.{subst, suc, sym, take, zero, ℕ, ◌++◌, ◌+◌, ◌<◌, ◌∙◌, ◌∷◌, ◌≡◌, ◌≢◌}
 pub use Rattle.std.specs.Arc.{arc_value}
 pub use Rattle.std.specs.Box.Ownership.{box_owns}
-pub use Rattle.std.specs.Prelude.{Bool, IfErr, IfNone, IfOk, IsTrue, MatchResult, None, Option, false, option_map, true}
-pub use Rattle.std.specs.Prelude.{◌↔◌, ◌≤◌}
 pub use Rattle.std.specs.declared.alloc.Allocator.{Ghosts}

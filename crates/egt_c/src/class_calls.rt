@@ -1,5 +1,6 @@
 //! Classes by number.
-ghost use Rattle.egt_c.specs.Prelude.{◌≡◌, ◌≢◌, ◌<◌, ◌≤◌, ◌↔◌, ℕ, take, IsTrue, children_of, name_of, padded_name};
+ghost use Rattle.std.specs.Prelude.{◌≡◌, ◌≢◌, ◌<◌, ◌≤◌, ◌↔◌, ℕ, take, IsTrue};
+ghost use Rattle.egt_c.specs.Prelude.{children_of, name_of, padded_name};
 
 use egt_class::{Class, children, name};
 

@@ -1,5 +1,6 @@
 //! Faults, as C reads them.
-ghost use Rattle.egt_c.specs.Prelude.{◌≡◌, column_place, rule_place};
+ghost use Rattle.std.specs.Prelude.{◌≡◌};
+ghost use Rattle.egt_c.specs.Prelude.{column_place, rule_place};
 
 use egt_board::PosFault;
 use egt_check::{Reject, Rule};

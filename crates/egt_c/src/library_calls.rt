@@ -1,6 +1,6 @@
 //! A library is made, filled, asked for its classes, and goes.
-ghost use Rattle.egt_c.specs.Prelude.{◌≡◌, ◌<◌, ◌≤◌, None, IfSome, IfNone, arc_value, loaded_in, Opens, Shares, Adds};
-ghost use Rattle.egt_c.specs.Prelude.{level, closed, held};
+ghost use Rattle.std.specs.Prelude.{◌≡◌, ◌<◌, ◌≤◌, None, IfSome, IfNone};
+ghost use Rattle.egt_c.specs.Prelude.{arc_value, loaded_in, Opens, Shares, Adds, level, closed, held};
 
 use crate::fault::EgtbFault;
 use crate::handle::{EgtbLibrary, Owner};

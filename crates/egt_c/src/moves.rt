@@ -1,5 +1,6 @@
 //! Moves as texts that C reads.
-ghost use Rattle.egt_c.specs.Prelude.{◌≡◌, ◌≤◌, length, map, take, written, written_or_none, zeros};
+ghost use Rattle.std.specs.Prelude.{◌≡◌, ◌≤◌, length, map, take};
+ghost use Rattle.egt_c.specs.Prelude.{written, written_or_none, zeros};
 
 use egt_moves::Move;
 

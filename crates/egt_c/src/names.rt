@@ -1,7 +1,7 @@
 //! The names of faults, and the version.
-ghost use Rattle.egt_c.specs.Prelude.{◌≡◌, ◌≤◌, length, PosFault, Reject, FenFault, FileFault, Device, fen_name};
-ghost use Rattle.egt_c.specs.Prelude.{file_name, check_name, probe_name, call_name, fault_name, padded_fault};
-ghost use Rattle.egt_c.specs.Prelude.{version_text};
+ghost use Rattle.std.specs.Prelude.{◌≡◌, ◌≤◌, length};
+ghost use Rattle.egt_c.specs.Prelude.{PosFault, Reject, FenFault, FileFault, Device, fen_name, file_name, check_name};
+ghost use Rattle.egt_c.specs.Prelude.{probe_name, call_name, fault_name, padded_fault, version_text};
 ghost use Rattle.egt_board.specs.Fault as setups;
 ghost use Rattle.egt_entries.specs.Names as checks;
 ghost use Rattle.egt_fen.specs.Fault as fens;

@@ -1,6 +1,7 @@
 //! What is asked of positions, each given by its FEN or by its men.
-ghost use Rattle.egt_c.specs.Prelude.{◌≡◌, IfSome, IfNone, IfOk, IfErr, MatchResult, loaded_in, IsOfText, IsTextFault};
-ghost use Rattle.egt_c.specs.Prelude.{OfText, OfMen, TellsVerdict, TellsMove, TellsRoot, TellsMoves, closed, held};
+ghost use Rattle.std.specs.Prelude.{◌≡◌, IfSome, IfNone, IfOk, IfErr, MatchResult};
+ghost use Rattle.egt_c.specs.Prelude.{loaded_in, IsOfText, IsTextFault, OfText, OfMen, TellsVerdict, TellsMove};
+ghost use Rattle.egt_c.specs.Prelude.{TellsRoot, TellsMoves, closed, held};
 
 use crate::fault::EgtbFault;
 use crate::handle::EgtbLibrary;

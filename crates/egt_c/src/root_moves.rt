@@ -1,5 +1,6 @@
 //! Moves with what they lead to, as C reads them.
-ghost use Rattle.egt_c.specs.Prelude.{◌≡◌, ◌≤◌, length, map, take, shown_root};
+ghost use Rattle.std.specs.Prelude.{◌≡◌, ◌≤◌, length, map, take};
+ghost use Rattle.egt_c.specs.Prelude.{shown_root};
 
 use crate::moves::EgtbMove;
 use crate::verdict::EgtbAnswer;

@@ -1,5 +1,6 @@
 //! Verdicts, as C reads them.
-ghost use Rattle.egt_c.specs.Prelude.{◌≡◌, winner_number};
+ghost use Rattle.std.specs.Prelude.{◌≡◌};
+ghost use Rattle.egt_c.specs.Prelude.{winner_number};
 
 use egt_board::Side;
 use egt_probe::{Outcome, Verdict};

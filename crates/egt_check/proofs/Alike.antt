@@ -1,7 +1,7 @@
 -- A position, its images and the position that its index spells play alike, and have one entry.
-use Rattle.egt_check.specs.Prelude.{◌≡◌, ◌≢◌, ◌⊎◌, ℕ, ◌<◌, ◌↔◌, Bool, inl, inr, cases_eq, sym, subst, AreImages}
-use Rattle.egt_check.specs.Prelude.{SettlesTo, Setup, IsAdmissible, IsOf, Spells, IsIndex, IsVoid, Value, Metric}
-use Rattle.egt_check.specs.Prelude.{StepAlike, Facts, Tables, ShowsOf}
+use Rattle.std.proofs.Common.{◌≡◌, ◌≢◌, ◌⊎◌, ℕ, ◌<◌, ◌↔◌, Bool, inl, inr, sym, subst}
+use Rattle.egt_check.specs.Prelude.{cases_eq, AreImages, SettlesTo, Setup, IsAdmissible, IsOf, Spells, IsIndex, IsVoid}
+use Rattle.egt_check.specs.Prelude.{Value, Metric, StepAlike, Facts, Tables, ShowsOf}
 
 module _ (facts : Facts) where
   -- an image of its settled form plays like a position

@@ -1,5 +1,5 @@
 -- Entries that are due to the greatest scores of all moves keep the rules.
-use Rattle.egt_check.specs.Prelude.{◌≡◌, ◌≢◌, ℕ, ◌<◌, ◌⊎◌, Bool, false, None, arith, sym, ◌∙◌, inl, inr}
+use Rattle.std.proofs.Common.{◌≡◌, ◌≢◌, ℕ, ◌<◌, ◌⊎◌, Bool, false, None, arith, sym, ◌∙◌, inl, inr}
 use Rattle.egt_check.specs.Prelude.{cases_eq, IsSettled, Setup, IsAdmissible, Side, Spells, IsIndex, IsVoid, size_of}
 use Rattle.egt_check.specs.Prelude.{TellsMen, HasStand, ShelfMen, byte_score, due_score, NoMove, chess, TableValue}
 use Rattle.egt_check.specs.Prelude.{Metric, Mate, Zeroing, stand_on, AreAlike, AreGiven, AreAllScores, AreTablesOf}

@@ -1,7 +1,7 @@
 -- What true tables of the children tell column by column.
-use Rattle.egt_check.specs.Prelude.{ℕ, IsSome, IfSome, Option, subst, TableValue, Tables, HasReachChildren}
-use Rattle.egt_check.specs.Prelude.{HasTrueChildren, HasTrueReachesBelow, HasTrueValues, HasTrueValuesBelow}
-use Rattle.egt_check.specs.Prelude.{IsTrueTable}
+use Rattle.std.proofs.Common.{ℕ, IsSome, IfSome, Option, subst}
+use Rattle.egt_check.specs.Prelude.{TableValue, Tables, HasReachChildren, HasTrueChildren, HasTrueReachesBelow}
+use Rattle.egt_check.specs.Prelude.{HasTrueValues, HasTrueValuesBelow, IsTrueTable}
 
 pub true_values : (t : TableValue) → IsTrueTable t → HasTrueValues t
 true_values t truth = record { void = truth.void; true = truth.true }

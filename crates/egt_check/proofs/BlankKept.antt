@@ -1,7 +1,8 @@
 -- Entries without scores: no position has their code, so they are right.
-use Rattle.egt_check.specs.Prelude.{◌≡◌, ℕ, ◌⊎◌, ◌∙◌, None, arith, inl, inr, refl, sym, Setup, Spells, IsIndex, IsVoid}
-use Rattle.egt_check.specs.Prelude.{IsTable, TableValue, Mate, Part, Values, Reach, IsBlank, column_of, table_in}
-use Rattle.egt_check.specs.Prelude.{KeepsPart, Tables, entry_at, HasBytes, column_score, score_at}
+use Rattle.std.proofs.Common.{◌≡◌, ℕ, ◌⊎◌, ◌∙◌, None, arith, inl, inr, refl, sym}
+use Rattle.egt_check.specs.Prelude.{Setup, Spells, IsIndex, IsVoid, IsTable, TableValue, Mate, Part, Values, Reach}
+use Rattle.egt_check.specs.Prelude.{IsBlank, column_of, table_in, KeepsPart, Tables, entry_at, HasBytes, column_score}
+use Rattle.egt_check.specs.Prelude.{score_at}
 use Rattle.egt_check.proofs.AllJudged.{some_score}
 use Rattle.egt_check.proofs.FirstRule.{void_judged}
 use Rattle.egt_check.proofs.NearJudged.{void_kept}

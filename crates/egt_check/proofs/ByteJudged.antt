@@ -1,13 +1,13 @@
 -- Entries whose bytes are due to the greatest bytes of the moves are right.
-use Rattle.egt_check.specs.Prelude.{◌≡◌, ◌≢◌, ◌⊎◌, ℕ, ◌+◌, ◌-◌, ◌*◌, ◌/◌, ◌%◌, ◌<◌, ◌≤◌, Bool, true, false, cond, eqb}
-use Rattle.egt_check.specs.Prelude.{max, Option, Some, None, arith, refl, sym, ap, ◌∙◌, inl, inr, subst}
+use Rattle.std.proofs.Common.{◌≡◌, ◌≢◌, ◌⊎◌, ℕ, ◌+◌, ◌-◌, ◌*◌, ◌/◌, ◌%◌, ◌<◌, ◌≤◌, Bool, true, false, cond, eqb, max}
+use Rattle.std.proofs.Common.{Option, Some, None, arith, refl, sym, ap, ◌∙◌, inl, inr, subst}
 use Rattle.egt_check.specs.Prelude.{cases_eq, cases_lt, eq-eqb, eqb_tells, nat_tests, Setup, IsAdmissible, shown_once}
 use Rattle.egt_check.specs.Prelude.{byte_score, due_score, zeroing_score, Value, NoMove, chess, Leads, Move, Metric}
 use Rattle.egt_check.specs.Prelude.{Mate, Zeroing, ByMetric, Outcome, Shows, Facts, AreAlike, AreGiven, HasScores}
 use Rattle.egt_check.specs.Prelude.{IsGiven, IsKnown, IsZeroingScore, IsCompared, IsJudged, IsAtEnd, IsBest, IsDue}
-use Rattle.egt_check.specs.Prelude.{IsShownBy, Scores, number_at, score_of, value_of}
-use Rattle.egt_check.specs.Prelude.{zeroing_said, Tables, HasEntry, ShowsOf, entry_at, Spells, IsVoid, SameKind}
-use Rattle.egt_check.specs.Prelude.{TableValue, ComesOf, at_end_due, both_due}
+use Rattle.egt_check.specs.Prelude.{IsShownBy, Scores, number_at, score_of, value_of, zeroing_said, Tables, HasEntry}
+use Rattle.egt_check.specs.Prelude.{ShowsOf, entry_at, Spells, IsVoid, SameKind, TableValue, ComesOf, at_end_due}
+use Rattle.egt_check.specs.Prelude.{both_due}
 use Rattle.egt_entries.specs.declared.outcome.Outcome.TheVariants as outcomes
 use Rattle.egt_entries.proofs.Scoring.{told}
 use Rattle.egt_check.proofs.ShelfJudged.{right_judged}

@@ -1,6 +1,6 @@
 -- The greatest bytes of moves of two kinds are those of all of them.
-use Rattle.egt_check.specs.Prelude.{◌≡◌, ℕ, ◌⊎◌, max, arith, inl, inr, subst, cases_lt, Setup, Zeroes, decided_zeroes}
-use Rattle.egt_check.specs.Prelude.{Leads, Move, AreGiven, IsGiven, Tables}
+use Rattle.std.proofs.Common.{◌≡◌, ℕ, ◌⊎◌, max, arith, inl, inr, subst}
+use Rattle.egt_check.specs.Prelude.{cases_lt, Setup, Zeroes, decided_zeroes, Leads, Move, AreGiven, IsGiven, Tables}
 
 -- the greater of two is one of them
 one_of : (P : ℕ → Type 0) (m n : ℕ) → P m → P n → P (max m n)

@@ -1,8 +1,9 @@
 -- Equal pawns: the advances of the first are those of the last, with their squares exchanged.
-use Rattle.egt_check.specs.Prelude.{◌≡◌, ℕ, Bool, true, false, ◌∷◌, [], sym, ap, ◌∙◌, inl, inr, subst, option_to_list}
-use Rattle.egt_check.specs.Prelude.{false≢true, other_side, Man, Side, has_equal_sides, men_among, IsSomeTurnedCodeWith}
-use Rattle.egt_check.specs.Prelude.{swapped, ShelfMen, Stand, TableValue, Column, AreLeapCodes, AreStepCodes}
-use Rattle.egt_check.specs.Prelude.{stand_after, AreAdvanceScores, men_swapped, column_score, raised_alike}
+use Rattle.std.proofs.Common.{◌≡◌, ℕ, Bool, true, false, ◌∷◌, [], sym, ap, ◌∙◌, inl, inr, subst}
+use Rattle.egt_check.specs.Prelude.{option_to_list, false≢true, other_side, Man, Side, has_equal_sides, men_among}
+use Rattle.egt_check.specs.Prelude.{IsSomeTurnedCodeWith, swapped, ShelfMen, Stand, TableValue, Column, AreLeapCodes}
+use Rattle.egt_check.specs.Prelude.{AreStepCodes, stand_after, AreAdvanceScores, men_swapped, column_score}
+use Rattle.egt_check.specs.Prelude.{raised_alike}
 
 -- equal men are told in either order
 other_order : (passed : Bool) (c code : ℕ) (flips : Bool) (stand : Stand) (side : Side) → has_equal_sides c ≡ false → men_among (option_to_list stand.next) ≡ men_among (option_to_list stand.last)

@@ -1,10 +1,11 @@
 -- The greatest score of the moves that zero: that of the moves that leave the class, and of pawns' moves that do not.
-use Rattle.egt_check.specs.Prelude.{◌≡◌, ◌↔◌, ◌∙◌, ℕ, max, Bool, IsTrue, true, false, Option, arith, inl, inr, refl}
-use Rattle.egt_check.specs.Prelude.{sym, subst, false≢true, pawn_of, P, Man, Side, ShelfMen, TableValue, Column}
-use Rattle.egt_check.specs.Prelude.{AreLeapCodes, AreStepCodes, men_swapped, AreExits, AreZeroingMoves}
-use Rattle.egt_check.specs.Prelude.{AreAdvanceScores, AreOwnPawnMoves, ArePawnScores, ArePromotionScores}
-use Rattle.egt_check.specs.Prelude.{IsBestPromotion, IsPromotionScore, IsRaisedByPawn, column_score, FourMen, Promotion}
-use Rattle.egt_check.specs.Prelude.{Promotions, raised_by_none}
+use Rattle.std.proofs.Common.{◌≡◌, ◌↔◌, ◌∙◌, ℕ, max, Bool, IsTrue, true, false, Option, arith, inl, inr, refl, sym}
+use Rattle.std.proofs.Common.{subst}
+use Rattle.egt_check.specs.Prelude.{false≢true, pawn_of, P, Man, Side, ShelfMen, TableValue, Column, AreLeapCodes}
+use Rattle.egt_check.specs.Prelude.{AreStepCodes, men_swapped, AreExits, AreZeroingMoves, AreAdvanceScores}
+use Rattle.egt_check.specs.Prelude.{AreOwnPawnMoves, ArePawnScores, ArePromotionScores, IsBestPromotion}
+use Rattle.egt_check.specs.Prelude.{IsPromotionScore, IsRaisedByPawn, column_score, FourMen, Promotion, Promotions}
+use Rattle.egt_check.specs.Prelude.{raised_by_none}
 
 -- the man is no pawn of that side
 pub no_own_pawn : (told : Bool) (man : Man) (side : Side) → IsTrue told ↔ (man ≡ pawn_of side) → told ≡ false → ¬ ((man.kind ≡ P) × (man.side ≡ side))

@@ -1,8 +1,9 @@
 -- In which table the entry of a position is found.
-use Rattle.egt_check.specs.Prelude.{◌≡◌, ℕ, ◌<◌, ◌⊎◌, inl, inr, Bool, false, eqb, Option, Some, None, refl, sym, subst}
-use Rattle.egt_check.specs.Prelude.{◌∙◌, arith, IsSome, IfSome, option_map, Contains, eq-eqb, eqb_tells, Setup}
-use Rattle.egt_check.specs.Prelude.{IsAdmissible, children_of, IsOf, size_of, Move, Leads, TableValue, Facts, IsPlaceOf}
-use Rattle.egt_check.specs.Prelude.{HasReachAt, IsInClass, Tables, beside, HasChildren, HasReachChildren, Place}
+use Rattle.std.proofs.Common.{◌≡◌, ℕ, ◌<◌, ◌⊎◌, inl, inr, Bool, false, eqb, Option, Some, None, refl, sym, subst, ◌∙◌}
+use Rattle.std.proofs.Common.{arith, IsSome, IfSome}
+use Rattle.egt_check.specs.Prelude.{option_map, Contains, eq-eqb, eqb_tells, Setup, IsAdmissible, children_of, IsOf}
+use Rattle.egt_check.specs.Prelude.{size_of, Move, Leads, TableValue, Facts, IsPlaceOf, HasReachAt, IsInClass, Tables}
+use Rattle.egt_check.specs.Prelude.{beside, HasChildren, HasReachChildren, Place}
 
 pub beside_own : (tables : Tables) (t : TableValue) (c : ℕ) → c ≡ t.class → beside tables t c ≡ Some t
 beside_own tables t c own = rw (eq-eqb c t.class own)

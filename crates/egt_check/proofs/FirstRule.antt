@@ -1,9 +1,9 @@
 -- From what comparing finds to the first rule that an entry breaks.
-use Rattle.egt_check.specs.Prelude.{◌≡◌, ◌≢◌, ℕ, ◌<◌, Option, Some, None, sym, subst, ◌∙◌}
-use Rattle.egt_check.specs.Prelude.{arith, Setup, Spells, IsVoid, Value, Win, Loss, Draw, Metric, Mate}
-use Rattle.egt_check.specs.Prelude.{Zeroing, TableValue, Outcome, Rule, entry_of, Shows, FitsBeside, Agree, IsCompared}
-use Rattle.egt_check.specs.Prelude.{Finds, FindsVoid, value_of, IsDueDraw, IsDue, Tables, entry_at, ShowsOf, shown_once}
-use Rattle.egt_check.specs.Prelude.{shown_range, in_range}
+use Rattle.std.proofs.Common.{◌≡◌, ◌≢◌, ℕ, ◌<◌, Option, Some, None, sym, subst, ◌∙◌, arith}
+use Rattle.egt_check.specs.Prelude.{Setup, Spells, IsVoid, Value, Win, Loss, Draw, Metric, Mate, Zeroing, TableValue}
+use Rattle.egt_check.specs.Prelude.{Outcome, Rule, entry_of, Shows, FitsBeside, Agree, IsCompared, Finds, FindsVoid}
+use Rattle.egt_check.specs.Prelude.{value_of, IsDueDraw, IsDue, Tables, entry_at, ShowsOf, shown_once, shown_range}
+use Rattle.egt_check.specs.Prelude.{in_range}
 use Rattle.egt_entries.specs.declared.outcome.Outcome.TheVariants as outcomes
 use Rattle.egt_entries.specs.declared.rule.Rule.TheVariants as rules
 use Rattle.egt_entries.specs.Rules.{Fits, AgreesInKind, Keeps, rule_place, IsJudged}

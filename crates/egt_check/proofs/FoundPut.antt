@@ -1,12 +1,11 @@
 -- Scores that are put, and what they tell.
-use Rattle.egt_check.specs.Prelude.{◌≡◌, ◌≢◌, ◌∙◌, ◌⊎◌, ℕ, ◌+◌, ◌<◌, List, true, Option, Some, None}
-use Rattle.egt_check.specs.Prelude.{length, map, slice_index, Fits, w8, arith, refl, sym, ap, subst, inl, inr}
-use Rattle.egt_check.specs.Prelude.{Each1-get_or, false≢true, nat_tests, Has, Kind, Side, SquareSet}
-use Rattle.egt_check.specs.Prelude.{code_of, kind_digits, kind_less, number_in, size_of, ShelfMen}
-use Rattle.egt_check.specs.Prelude.{zeroing_score, HasColumn, TableValue, entries_of, Column, IsShelfRow}
-use Rattle.egt_check.specs.Prelude.{square_in, AreAlike, Inside, Part, AreFound, AreTold, IsNearScore, IsPutIn}
-use Rattle.egt_check.specs.Prelude.{IsToldAt, IsValueScore, TellColumn, TellsEntry, near_told, table_told, told}
-use Rattle.egt_check.specs.Prelude.{value_told, IsPut, CodeScores, IsLaneIn}
+use Rattle.std.proofs.Common.{◌≡◌, ◌≢◌, ◌∙◌, ◌⊎◌, ℕ, ◌+◌, ◌<◌, List, true, Option, Some, None, length, map, slice_index}
+use Rattle.std.proofs.Common.{Fits, w8, arith, refl, sym, ap, subst, inl, inr}
+use Rattle.egt_check.specs.Prelude.{Each1-get_or, false≢true, nat_tests, Has, Kind, Side, SquareSet, code_of}
+use Rattle.egt_check.specs.Prelude.{kind_digits, kind_less, number_in, size_of, ShelfMen, zeroing_score, HasColumn}
+use Rattle.egt_check.specs.Prelude.{TableValue, entries_of, Column, IsShelfRow, square_in, AreAlike, Inside, Part}
+use Rattle.egt_check.specs.Prelude.{AreFound, AreTold, IsNearScore, IsPutIn, IsToldAt, IsValueScore, TellColumn}
+use Rattle.egt_check.specs.Prelude.{TellsEntry, near_told, table_told, told, value_told, IsPut, CodeScores, IsLaneIn}
 use lib.Lanes.{Each1}
 use Rattle.egt_table.specs.declared.column.Column.TheVariants.{Mate, Zeroing, Reach}
 use Rattle.egt_check.specs.declared.part.Part.TheVariants as parts

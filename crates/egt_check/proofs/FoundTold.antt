@@ -1,10 +1,11 @@
 -- What scores tell of a table's entries.
-use Rattle.egt_check.specs.Prelude.{◌≡◌, ◌≢◌, ◌∙◌, ℕ, ◌%◌, ◌<◌, Bool, List, Option, Some, None, IsSome, get_or, map}
-use Rattle.egt_check.specs.Prelude.{slice_index, refl, sym, ap, subst, inl, inr, cases_eq, false≢true, get_or-map}
-use Rattle.egt_check.specs.Prelude.{MayStand, Man, Side, IsShelfOf, stand_with, IsListed, list_of, TellsMen, ShelfMen}
-use Rattle.egt_check.specs.Prelude.{Stand, IsRaised, HasColumn, TableValue, entries_of, entries_or_none, Column}
-use Rattle.egt_check.specs.Prelude.{IsShelfRow, row_read, column_score, entry_score, IsToldEntry, IsToldFrom}
-use Rattle.egt_check.specs.Prelude.{TellColumn, TellsEntry, table_told, told, CodeScores}
+use Rattle.std.proofs.Common.{◌≡◌, ◌≢◌, ◌∙◌, ℕ, ◌%◌, ◌<◌, Bool, List, Option, Some, None, IsSome, get_or, map}
+use Rattle.std.proofs.Common.{slice_index, refl, sym, ap, subst, inl, inr}
+use Rattle.egt_check.specs.Prelude.{cases_eq, false≢true, get_or-map, MayStand, Man, Side, IsShelfOf, stand_with}
+use Rattle.egt_check.specs.Prelude.{IsListed, list_of, TellsMen, ShelfMen, Stand, IsRaised, HasColumn, TableValue}
+use Rattle.egt_check.specs.Prelude.{entries_of, entries_or_none, Column, IsShelfRow, row_read, column_score}
+use Rattle.egt_check.specs.Prelude.{entry_score, IsToldEntry, IsToldFrom, TellColumn, TellsEntry, table_told, told}
+use Rattle.egt_check.specs.Prelude.{CodeScores}
 use Rattle.egt_table.specs.declared.column.Column.TheVariants.{Mate, Zeroing, Reach}
 
 -- an entry that is told

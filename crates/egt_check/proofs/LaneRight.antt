@@ -1,8 +1,8 @@
 -- The code of a lane of a shelf.
-use Rattle.egt_check.specs.Prelude.{◌≡◌, ◌≢◌, ℕ, ◌+◌, ◌*◌, ◌<◌, ◌≤◌, Bool, arith, sym, subst, side_number, Kind}
-use Rattle.egt_check.specs.Prelude.{Side, code_of, places, kind_digits, kind_less, IsShelfOf, IsWithin}
-use Rattle.egt_check.specs.Prelude.{number_in, size_of, TellsMen, ShelfMen, TableValue, Column, Part, IsBlank, men_on}
-use Rattle.egt_check.specs.Prelude.{stand_on, column_of, IsRightLane, IsRightAtOf, column_score, side_few}
+use Rattle.std.proofs.Common.{◌≡◌, ◌≢◌, ℕ, ◌+◌, ◌*◌, ◌<◌, ◌≤◌, Bool, arith, sym, subst}
+use Rattle.egt_check.specs.Prelude.{side_number, Kind, Side, code_of, places, kind_digits, kind_less, IsShelfOf}
+use Rattle.egt_check.specs.Prelude.{IsWithin, number_in, size_of, TellsMen, ShelfMen, TableValue, Column, Part, IsBlank}
+use Rattle.egt_check.specs.Prelude.{men_on, stand_on, column_of, IsRightLane, IsRightAtOf, column_score, side_few}
 
 -- a code of a shelf within is below the size
 row_below : (kind : Kind) (shelf first digit size : ℕ) → first < 2 → digit < kind_digits kind → (shelf + 1) * (2 * kind_digits kind) ≤ size → shelf * (2 * kind_digits kind) + first + 2 * digit < size

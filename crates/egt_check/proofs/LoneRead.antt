@@ -1,9 +1,10 @@
 -- The entries of a class with one man beside the kings, read by his square.
-use Rattle.egt_check.specs.Prelude.{◌≡◌, ℕ, ◌+◌, ◌-◌, ◌*◌, ◌%◌, ◌<◌, ◌≤◌, ◌⊎◌, Bool, true, false, List, take, drop}
-use Rattle.egt_check.specs.Prelude.{arith, refl, ap, ◌∙◌, inl, inr, subst, slice_index, cases_lt, side_number, MayStand}
-use Rattle.egt_check.specs.Prelude.{P, Man, Side, IsLoneRow, lone_stand, kind_digits, kind_less, IsListed}
-use Rattle.egt_check.specs.Prelude.{TellsMen, list_of, Stand, IsRaised, is_pawn, TableValue, entries_of, Column}
-use Rattle.egt_check.specs.Prelude.{column_score, entry_score, pawn_digits, piece_at, piece_digits, side_few}
+use Rattle.std.proofs.Common.{◌≡◌, ℕ, ◌+◌, ◌-◌, ◌*◌, ◌%◌, ◌<◌, ◌≤◌, ◌⊎◌, Bool, true, false, List, take, drop, arith}
+use Rattle.std.proofs.Common.{refl, ap, ◌∙◌, inl, inr, subst, slice_index}
+use Rattle.egt_check.specs.Prelude.{cases_lt, side_number, MayStand, P, Man, Side, IsLoneRow, lone_stand, kind_digits}
+use Rattle.egt_check.specs.Prelude.{kind_less, IsListed, TellsMen, list_of, Stand, IsRaised, is_pawn, TableValue}
+use Rattle.egt_check.specs.Prelude.{entries_of, Column, column_score, entry_score, pawn_digits, piece_at, piece_digits}
+use Rattle.egt_check.specs.Prelude.{side_few}
 use Rattle.egt_check.proofs.RowRead.{no_score}
 
 module _ (t : TableValue) (column : Column) (man : Man) (white black first : ℕ) (side : Side) (is : IsLoneRow t.class first white black man)

@@ -1,10 +1,10 @@
 -- What the scores of a shelf's mate entries tell, beside the bits of its indexes.
-use Rattle.egt_check.specs.Prelude.{◌≡◌, ◌≢◌, ℕ, ◌+◌, ◌*◌, ◌/◌, ◌%◌, ◌^◌, ◌<◌, ◌==◌, if◌then◌else◌}
-use Rattle.egt_check.specs.Prelude.{inl, inr, arith, ap, sym, ◌∙◌, subst, bit_at, cases_eq}
-use Rattle.egt_check.specs.Prelude.{bit_at-lt, bit_at-zero, shr-shr, Side, White}
-use Rattle.egt_check.specs.Prelude.{Black, IsVoid, code_of, places, AreIndexed, AreIndexes, IsWithin}
-use Rattle.egt_check.specs.Prelude.{number_in, size_of, Places, TableValue, Mate, Zeroing, entry_at, AreAllAlike}
-use Rattle.egt_check.specs.Prelude.{TellsVoid, TellsVoidsIn, score_at, side_few, nat_tests}
+use Rattle.std.proofs.Common.{◌≡◌, ◌≢◌, ℕ, ◌+◌, ◌*◌, ◌/◌, ◌%◌, ◌^◌, ◌<◌, ◌==◌, if◌then◌else◌, inl, inr, arith, ap, sym}
+use Rattle.std.proofs.Common.{◌∙◌, subst}
+use Rattle.egt_check.specs.Prelude.{bit_at, cases_eq, bit_at-lt, bit_at-zero, shr-shr, Side, White, Black, IsVoid}
+use Rattle.egt_check.specs.Prelude.{code_of, places, AreIndexed, AreIndexes, IsWithin, number_in, size_of, Places}
+use Rattle.egt_check.specs.Prelude.{TableValue, Mate, Zeroing, entry_at, AreAllAlike, TellsVoid, TellsVoidsIn, score_at}
+use Rattle.egt_check.specs.Prelude.{side_few, nat_tests}
 use Rattle.egt_check.proofs.AllJudged.{some_score}
 use Rattle.egt_check.proofs.QuietGiven.{low_score}
 use Rattle.egt_check.proofs.ToldBytes.{alike_there}

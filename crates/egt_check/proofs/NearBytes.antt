@@ -1,7 +1,7 @@
 -- Tables whose entries of the nearest mates have bytes of their own.
-use Rattle.egt_check.specs.Prelude.{◌≡◌, ◌≢◌, ℕ, ◌*◌, ◌-◌, ◌<◌, arith, inl, inr, cases_eq, IsVoid, size_of}
-use Rattle.egt_check.specs.Prelude.{IsVoidOrNear, TableValue, Metric, Mate, Zeroing, AreAlike, entry_at}
-use Rattle.egt_check.specs.Prelude.{reach_at, TellsVoids, HasBytes}
+use Rattle.std.proofs.Common.{◌≡◌, ◌≢◌, ℕ, ◌*◌, ◌-◌, ◌<◌, arith, inl, inr}
+use Rattle.egt_check.specs.Prelude.{cases_eq, IsVoid, size_of, IsVoidOrNear, TableValue, Metric, Mate, Zeroing}
+use Rattle.egt_check.specs.Prelude.{AreAlike, entry_at, reach_at, TellsVoids, HasBytes}
 use Rattle.egt_check.proofs.NearReading.{near, near_at}
 
 -- an entry as it is read

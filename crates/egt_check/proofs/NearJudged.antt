@@ -1,11 +1,11 @@
 -- Entries of the nearest mates that are due to the greatest scores of all moves keep the rules.
-use Rattle.egt_check.specs.Prelude.{◌≡◌, ◌≢◌, ℕ, zero, suc, ◌+◌, ◌<◌, ◌≤◌, ◌⊎◌, List, Option, Some, None, arith}
-use Rattle.egt_check.specs.Prelude.{refl, sym, ap, ◌∙◌, inl, inr, subst, slice_index, get_or-map, nat_tests}
-use Rattle.egt_check.specs.Prelude.{Setup, Spells, IsVoid, byte_score}
-use Rattle.egt_check.specs.Prelude.{reach_due_score, reach_score, NoMove, chess, Move, TableValue, entries_or_none}
-use Rattle.egt_check.specs.Prelude.{Mate, Facts, AreGiven, HasScores, IsKnown, near_entry, near_if, near_of, near_table}
-use Rattle.egt_check.specs.Prelude.{near_tables, FitsReachBeside, HasReachEntry, ShowsReachOf, reach_entry_of}
-use Rattle.egt_check.specs.Prelude.{IsJudgedBy, KeepsReach, IsAtEnd, HasEntry, Tables, entry_at, reach_at}
+use Rattle.std.proofs.Common.{◌≡◌, ◌≢◌, ℕ, zero, suc, ◌+◌, ◌<◌, ◌≤◌, ◌⊎◌, List, Option, Some, None, arith, refl, sym}
+use Rattle.std.proofs.Common.{ap, ◌∙◌, inl, inr, subst, slice_index}
+use Rattle.egt_check.specs.Prelude.{get_or-map, nat_tests, Setup, Spells, IsVoid, byte_score, reach_due_score}
+use Rattle.egt_check.specs.Prelude.{reach_score, NoMove, chess, Move, TableValue, entries_or_none, Mate, Facts}
+use Rattle.egt_check.specs.Prelude.{AreGiven, HasScores, IsKnown, near_entry, near_if, near_of, near_table, near_tables}
+use Rattle.egt_check.specs.Prelude.{FitsReachBeside, HasReachEntry, ShowsReachOf, reach_entry_of, IsJudgedBy}
+use Rattle.egt_check.specs.Prelude.{KeepsReach, IsAtEnd, HasEntry, Tables, entry_at, reach_at}
 use Rattle.egt_entries.specs.declared.rule.Rule.TheVariants as rules
 use Rattle.egt_check.proofs.Nearing.{one_reach_entry}
 

@@ -1,10 +1,11 @@
 -- Tables whose column of the nearest mates is read as a mate column.
-use Rattle.egt_check.specs.Prelude.{◌≡◌, ℕ, ◌*◌, ◌-◌, ◌%◌, ◌<◌, ◌⊎◌, ◌∙◌, List, Option, Some, None, IsSome, arith, inl}
-use Rattle.egt_check.specs.Prelude.{inr, length, refl, sym, ap, get_or-map, cases_lt, false≢true, get_or_past}
-use Rattle.egt_check.specs.Prelude.{length-map, Setup, Spells, IsIndex, IsVoid, size_of, byte_score, HasColumn, IsTable}
-use Rattle.egt_check.specs.Prelude.{TableValue, entries_of, entries_or_none, Column, Mate, Part, Values, Reach}
-use Rattle.egt_check.specs.Prelude.{near_entry, near_if, near_of, near_table, column_of, table_in, tables_in, Tables}
-use Rattle.egt_check.specs.Prelude.{entry_at, reach_at, HasBytes, column_score, score_at}
+use Rattle.std.proofs.Common.{◌≡◌, ℕ, ◌*◌, ◌-◌, ◌%◌, ◌<◌, ◌⊎◌, ◌∙◌, List, Option, Some, None, IsSome, arith, inl, inr}
+use Rattle.std.proofs.Common.{length, refl, sym, ap}
+use Rattle.egt_check.specs.Prelude.{get_or-map, cases_lt, false≢true, get_or_past, length-map, Setup, Spells, IsIndex}
+use Rattle.egt_check.specs.Prelude.{IsVoid, size_of, byte_score, HasColumn, IsTable, TableValue, entries_of}
+use Rattle.egt_check.specs.Prelude.{entries_or_none, Column, Mate, Part, Values, Reach, near_entry, near_if, near_of}
+use Rattle.egt_check.specs.Prelude.{near_table, column_of, table_in, tables_in, Tables, entry_at, reach_at, HasBytes}
+use Rattle.egt_check.specs.Prelude.{column_score, score_at}
 use Rattle.egt_table.specs.declared.column.Column.TheVariants as columns
 
 -- ---- entries

@@ -1,7 +1,8 @@
 -- The greatest scores of moves in the column of the nearest mates are those in the tables where it is read as a mate column.
-use Rattle.egt_check.specs.Prelude.{◌≡◌, ℕ, ◌<◌, ◌≤◌, ◌⊎◌, Bool, true, false, max, Option, IfSome, refl, ap, ◌∙◌, inl}
-use Rattle.egt_check.specs.Prelude.{inr, subst, Setup, Side, Spells, IsIndex, IsVoid, ShelfMen, IsRaised, zeroing_score}
-use Rattle.egt_check.specs.Prelude.{IsTable, TableValue, Mate, Reach, FourMen, Promotion, Promotions, AreAllScores}
+use Rattle.std.proofs.Common.{◌≡◌, ℕ, ◌<◌, ◌≤◌, ◌⊎◌, Bool, true, false, max, Option, IfSome, refl, ap, ◌∙◌, inl, inr}
+use Rattle.std.proofs.Common.{subst}
+use Rattle.egt_check.specs.Prelude.{Setup, Side, Spells, IsIndex, IsVoid, ShelfMen, IsRaised, zeroing_score, IsTable}
+use Rattle.egt_check.specs.Prelude.{TableValue, Mate, Reach, FourMen, Promotion, Promotions, AreAllScores}
 use Rattle.egt_check.specs.Prelude.{AreMoveScores, ArePassingCaptures, AreTablesOf, AreZeroingMoves, children_in}
 use Rattle.egt_check.specs.Prelude.{four_in, promotion_in, promotions_in, some_promotions_in, ArePawnScores}
 use Rattle.egt_check.specs.Prelude.{HasPromotion, HasPromotions, IsPromotionScore, IsRaisedByPawn, AreAllReachScores}

@@ -1,9 +1,9 @@
 -- The least number that the column of the nearest mates shows after a step.
-use Rattle.egt_check.specs.Prelude.{◌≡◌, ℕ, zero, suc, ◌+◌, ◌≤◌, ◌⊎◌, inl, inr, min, Option, Some, None, IfSome, refl}
-use Rattle.egt_check.specs.Prelude.{sym, ap, subst, ◌∙◌, arith, IfNone, cases_lt, Setup, IsAdmissible, IsIndex}
-use Rattle.egt_check.specs.Prelude.{EachMove, chess, IsLeast, Leads, IsLegal, Move, StandsAs, Standing, Checkmate}
-use Rattle.egt_check.specs.Prelude.{Stalemate, HasMove, longest, Facts, nearer, IsNearest, HasReachEntry, IsReachDue}
-use Rattle.egt_check.specs.Prelude.{ShowsReach, ShowsReachOf, Tables, reach_at}
+use Rattle.std.proofs.Common.{◌≡◌, ℕ, zero, suc, ◌+◌, ◌≤◌, ◌⊎◌, inl, inr, min, Option, Some, None, IfSome, refl, sym}
+use Rattle.std.proofs.Common.{ap, subst, ◌∙◌, arith, IfNone}
+use Rattle.egt_check.specs.Prelude.{cases_lt, Setup, IsAdmissible, IsIndex, EachMove, chess, IsLeast, Leads, IsLegal}
+use Rattle.egt_check.specs.Prelude.{Move, StandsAs, Standing, Checkmate, Stalemate, HasMove, longest, Facts, nearer}
+use Rattle.egt_check.specs.Prelude.{IsNearest, HasReachEntry, IsReachDue, ShowsReach, ShowsReachOf, Tables, reach_at}
 
 -- a position has one entry
 pub one_reach_entry : (facts : Facts) (tables : Tables) (p : Setup) → IsAdmissible p → (x y : ℕ) → HasReachEntry tables p x → HasReachEntry tables p y → x ≡ y

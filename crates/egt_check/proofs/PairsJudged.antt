@@ -1,5 +1,5 @@
 -- All pairs of kings' squares: each comes once in the order of a side, and they hold all codes.
-use Rattle.egt_check.specs.Prelude.{◌≡◌, ℕ, zero, suc, ◌+◌, ◌*◌, ◌/◌, ◌%◌, ◌<◌, ◌≤◌, ◌∙◌, arith, refl, ap, subst}
+use Rattle.std.proofs.Common.{◌≡◌, ℕ, zero, suc, ◌+◌, ◌*◌, ◌/◌, ◌%◌, ◌<◌, ◌≤◌, ◌∙◌, arith, refl, ap, subst}
 use Rattle.egt_check.specs.Prelude.{mod-eq_of_lt, div-eq_of_lt, mul-add-div_right, mul-add-mod_self_right}
 use Rattle.egt_check.specs.Prelude.{mul-le-mul_right, Kind, Side, White, Black, code_of, number_of, places, kind_digits}
 use Rattle.egt_check.specs.Prelude.{number_in, size_of, nth_pair}

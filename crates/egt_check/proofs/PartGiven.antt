@@ -1,7 +1,7 @@
 -- Where moves that zero lead to the positions with some men, and to all of them, the greatest score of the codes of
 -- these men is that of the moves.
-use Rattle.egt_check.specs.Prelude.{◌≡◌, ℕ, ◌≤◌, Bool, true, false, Some, refl, sym, ap, subst, inl, inr, false≢true}
-use Rattle.egt_check.specs.Prelude.{other_side, SettlesTo, Setup, IsAdmissible, Side, IsIndex, HasStand}
+use Rattle.std.proofs.Common.{◌≡◌, ℕ, ◌≤◌, Bool, true, false, Some, refl, sym, ap, subst, inl, inr}
+use Rattle.egt_check.specs.Prelude.{false≢true, other_side, SettlesTo, Setup, IsAdmissible, Side, IsIndex, HasStand}
 use Rattle.egt_check.specs.Prelude.{IsSomeTurnedCode, IsSomeTurnedCodeWith, Stand, IsRaised, zeroing_score, Zeroes}
 use Rattle.egt_check.specs.Prelude.{Leads, Move, IsTable, TableValue, Metric, Mate, Zeroing, Facts, AreAlike, AreGiven}
 use Rattle.egt_check.specs.Prelude.{HasScores, IsGiven, HasEntry, Tables, entry_at, HasBytes, IsBestWith, IsScoreWith}

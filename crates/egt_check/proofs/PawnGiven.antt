@@ -1,16 +1,17 @@
 -- The greatest scores of the codes after advances of a pawn, after captures by which he is promoted, and after captures in
 -- passing are those of these moves.
-use Rattle.egt_check.specs.Prelude.{◌≡◌, ℕ, ◌<◌, ◌==◌, ◌⊎◌, ◌↔◌, if◌then◌else◌, max, Bool, true, false, IsTrue, Option}
-use Rattle.egt_check.specs.Prelude.{Some, None, IsSome, refl, sym, ap, ◌∙◌, subst, inl, inr, and_parts, false≢true}
-use Rattle.egt_check.specs.Prelude.{eqb_tells, Reaches-on_board, other_side, ahead, last_rank, IsHeld, SettlesTo, Setup}
-use Rattle.egt_check.specs.Prelude.{rank_of, Kind, P, Man, Side, sides_differ, HasStand, IsSomeTurnedCode}
-use Rattle.egt_check.specs.Prelude.{IsSomeTurnedCodeWith, ShelfMen, Stand, IsRaised, zeroing_score, raised_as, Zeroes}
-use Rattle.egt_check.specs.Prelude.{Captures, Leads, arriving, is_pawn, promotes, Move, TableValue, Mate, Facts}
-use Rattle.egt_check.specs.Prelude.{AreGiven, AreLeapCodes, ArePassingCodes, AreStepCodes, IsPassingCapture}
-use Rattle.egt_check.specs.Prelude.{IsPassingFrom, LeavesTarget, AreAdvancedCodes, ArePromotedCodes, IsAdvance}
-use Rattle.egt_check.specs.Prelude.{IsAdvanceFrom, IsClassAfter, IsPromotingCapture, IsPromotingCaptureFrom, officer_of}
-use Rattle.egt_check.specs.Prelude.{stand_after, stand_in, IsTableAfter, IsTableOf, IsClear, IsClassOf, IsPastKings}
-use Rattle.egt_check.specs.Prelude.{left_of, stand_left, Tables, score_at, unpromoted, promoted, AreTwo, are_in}
+use Rattle.std.proofs.Common.{◌≡◌, ℕ, ◌<◌, ◌==◌, ◌⊎◌, ◌↔◌, if◌then◌else◌, max, Bool, true, false, IsTrue, Option, Some}
+use Rattle.std.proofs.Common.{None, IsSome, refl, sym, ap, ◌∙◌, subst, inl, inr}
+use Rattle.egt_check.specs.Prelude.{and_parts, false≢true, eqb_tells, Reaches-on_board, other_side, ahead, last_rank}
+use Rattle.egt_check.specs.Prelude.{IsHeld, SettlesTo, Setup, rank_of, Kind, P, Man, Side, sides_differ, HasStand}
+use Rattle.egt_check.specs.Prelude.{IsSomeTurnedCode, IsSomeTurnedCodeWith, ShelfMen, Stand, IsRaised, zeroing_score}
+use Rattle.egt_check.specs.Prelude.{raised_as, Zeroes, Captures, Leads, arriving, is_pawn, promotes, Move, TableValue}
+use Rattle.egt_check.specs.Prelude.{Mate, Facts, AreGiven, AreLeapCodes, ArePassingCodes, AreStepCodes}
+use Rattle.egt_check.specs.Prelude.{IsPassingCapture, IsPassingFrom, LeavesTarget, AreAdvancedCodes, ArePromotedCodes}
+use Rattle.egt_check.specs.Prelude.{IsAdvance, IsAdvanceFrom, IsClassAfter, IsPromotingCapture, IsPromotingCaptureFrom}
+use Rattle.egt_check.specs.Prelude.{officer_of, stand_after, stand_in, IsTableAfter, IsTableOf, IsClear, IsClassOf}
+use Rattle.egt_check.specs.Prelude.{IsPastKings, left_of, stand_left, Tables, score_at, unpromoted, promoted, AreTwo}
+use Rattle.egt_check.specs.Prelude.{are_in}
 use Rattle.std.specs.FinMap as placement
 use Rattle.egt_check.proofs.ByteJudged.{zeroing_max}
 use Rattle.egt_check.proofs.EitherGiven.{same_given, union_given}

@@ -1,14 +1,15 @@
 -- The greatest scores of all moves of pawns: their advances, and the captures by which they are promoted.
-use Rattle.egt_check.specs.Prelude.{◌≡◌, ◌≢◌, ℕ, ◌⊎◌, max, Bool, true, false, Option, Some, None, IfSome, arith, refl}
-use Rattle.egt_check.specs.Prelude.{sym, ap, ◌∙◌, inl, inr, subst, king_of, other_side, Stands, IsHeld, one_man, Setup}
-use Rattle.egt_check.specs.Prelude.{Kind, Q, R, B, N, P, K, Man, Side, White, Black, HasStand, ShelfMen, IsRaised}
-use Rattle.egt_check.specs.Prelude.{zeroing_score, Zeroes, Leads, FitsPromotion, IsOfficer, is_pawn, promotes, Move}
-use Rattle.egt_check.specs.Prelude.{pawn_told, TableValue, Mate, stand_on, AreGiven, AreLeapCodes, ArePassingCodes}
-use Rattle.egt_check.specs.Prelude.{AreStepCodes, IsOfFourKinds, IsPassingFrom, AreAdvancedCodes, ArePromotedCodes}
-use Rattle.egt_check.specs.Prelude.{IsAdvanceFrom, IsPromotingCaptureFrom, officer_of, IsTableAfter, IsTableOf}
-use Rattle.egt_check.specs.Prelude.{men_swapped, ArePawnScores, AreRaisedByPawns, HasPromotion, HasPromotions}
-use Rattle.egt_check.specs.Prelude.{IsPromotionScore, IsRaisedByPawn, Tables, IsPlainCapture, score_at, Promotion}
-use Rattle.egt_check.specs.Prelude.{Promotions, AreTwo, are_in, who}
+use Rattle.std.proofs.Common.{◌≡◌, ◌≢◌, ℕ, ◌⊎◌, max, Bool, true, false, Option, Some, None, IfSome, arith, refl, sym}
+use Rattle.std.proofs.Common.{ap, ◌∙◌, inl, inr, subst}
+use Rattle.egt_check.specs.Prelude.{king_of, other_side, Stands, IsHeld, one_man, Setup, Kind, Q, R, B, N, P, K, Man}
+use Rattle.egt_check.specs.Prelude.{Side, White, Black, HasStand, ShelfMen, IsRaised, zeroing_score, Zeroes, Leads}
+use Rattle.egt_check.specs.Prelude.{FitsPromotion, IsOfficer, is_pawn, promotes, Move, pawn_told, TableValue, Mate}
+use Rattle.egt_check.specs.Prelude.{stand_on, AreGiven, AreLeapCodes, ArePassingCodes, AreStepCodes, IsOfFourKinds}
+use Rattle.egt_check.specs.Prelude.{IsPassingFrom, AreAdvancedCodes, ArePromotedCodes, IsAdvanceFrom}
+use Rattle.egt_check.specs.Prelude.{IsPromotingCaptureFrom, officer_of, IsTableAfter, IsTableOf, men_swapped}
+use Rattle.egt_check.specs.Prelude.{ArePawnScores, AreRaisedByPawns, HasPromotion, HasPromotions, IsPromotionScore}
+use Rattle.egt_check.specs.Prelude.{IsRaisedByPawn, Tables, IsPlainCapture, score_at, Promotion, Promotions, AreTwo}
+use Rattle.egt_check.specs.Prelude.{are_in, who}
 use Rattle.egt_table.specs.declared.column.Column.TheVariants as columns
 use Rattle.egt_check.proofs.EitherGiven.{same_given, union_given}
 use Rattle.egt_check.proofs.ByteJudged.{zeroing_max}

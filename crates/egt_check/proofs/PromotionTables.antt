@@ -1,8 +1,9 @@
 -- The tables of the classes that promotions lead to, wherever the kings stand.
-use Rattle.egt_check.specs.Prelude.{◌≡◌, ◌≢◌, ℕ, ◌<◌, Bool, true, false, [], ◌∷◌, Option, Some, None, IfSome, arith}
-use Rattle.egt_check.specs.Prelude.{sym, ap, ◌∙◌, subst, king_of, Setup, turned_man, White, Black, material_of, IsOf}
-use Rattle.egt_check.specs.Prelude.{AreNonKings, men_in_order, Man, AreMenOf, ShelfMen, arriving, HasColumn, TableValue}
-use Rattle.egt_check.specs.Prelude.{Column, with_kings, AreChildren, AreFourMen, AreTablesOf, IsShelved, column_of}
+use Rattle.std.proofs.Common.{◌≡◌, ◌≢◌, ℕ, ◌<◌, Bool, true, false, [], ◌∷◌, Option, Some, None, IfSome, arith, sym, ap}
+use Rattle.std.proofs.Common.{◌∙◌, subst}
+use Rattle.egt_check.specs.Prelude.{king_of, Setup, turned_man, White, Black, material_of, IsOf, AreNonKings}
+use Rattle.egt_check.specs.Prelude.{men_in_order, Man, AreMenOf, ShelfMen, arriving, HasColumn, TableValue, Column}
+use Rattle.egt_check.specs.Prelude.{with_kings, AreChildren, AreFourMen, AreTablesOf, IsShelved, column_of}
 use Rattle.egt_check.specs.Prelude.{promotions_in, some_promotions_in, table_in, tables_in, IsClassAfter, men_after}
 use Rattle.egt_check.specs.Prelude.{IsTableAfter, men_swapped, AreNamed, ArePromotionsOf, HasPromotion, HasPromotions}
 use Rattle.egt_check.specs.Prelude.{IsPromotionOf, Tables, beside, HasBytes, Children, FourMen, Part, Values, Reach}

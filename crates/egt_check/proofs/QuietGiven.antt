@@ -1,5 +1,5 @@
 -- The greatest scores of the codes of quiet steps are those of the quiet moves.
-use Rattle.egt_check.specs.Prelude.{◌≡◌, ℕ, ◌%◌, ◌<◌, ◌≤◌, Bool, false, Some, arith, sym, ap, inl, inr, subst}
+use Rattle.std.proofs.Common.{◌≡◌, ℕ, ◌%◌, ◌<◌, ◌≤◌, Bool, false, Some, arith, sym, ap, inl, inr, subst}
 use Rattle.egt_check.specs.Prelude.{other_side, Setup, Side, White, Black, IsIndex, AllStand, HasStand, list_of}
 use Rattle.egt_check.specs.Prelude.{ShelfMen, Stand, IsRaised, byte_score, Zeroes, Leads, Move, IsTable, TableValue}
 use Rattle.egt_check.specs.Prelude.{Metric, Mate, Zeroing, stand_on, with_king, Facts, AreAlike, AreGiven, HasScores}

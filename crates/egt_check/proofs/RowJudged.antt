@@ -1,7 +1,7 @@
 -- A row of entries, judged by the greatest bytes of the moves.
-use Rattle.egt_check.specs.Prelude.{◌≡◌, ◌∙◌, ℕ, ◌+◌, ◌-◌, ◌<◌, Bool, min, arith, ap, inl, inr, subst, bit_at, Side}
-use Rattle.egt_check.specs.Prelude.{code_of, kind_digits, kind_less, IsShelfOf, number_in, stand_with, TellsMen}
-use Rattle.egt_check.specs.Prelude.{ShelfMen, Stand, IsRaised, TableValue, Column, column_score}
+use Rattle.std.proofs.Common.{◌≡◌, ◌∙◌, ℕ, ◌+◌, ◌-◌, ◌<◌, Bool, min, arith, ap, inl, inr, subst}
+use Rattle.egt_check.specs.Prelude.{bit_at, Side, code_of, kind_digits, kind_less, IsShelfOf, number_in, stand_with}
+use Rattle.egt_check.specs.Prelude.{TellsMen, ShelfMen, Stand, IsRaised, TableValue, Column, column_score}
 
 -- the greatest of one number is that number
 raised_alone : (In : ℕ → Type 0) (f : ℕ → ℕ) (v t : ℕ) → In t → ((u : ℕ) → In u → u ≡ t) → IsRaised 0 In f v → v ≡ f t

@@ -1,10 +1,11 @@
 -- The entries of a shelf, read by the last man's square.
-use Rattle.egt_check.specs.Prelude.{◌≡◌, ℕ, ◌+◌, ◌-◌, ◌*◌, ◌%◌, ◌<◌, ◌≤◌, ◌⊎◌, Bool, true, false, List, take, drop}
-use Rattle.egt_check.specs.Prelude.{arith, refl, sym, ap, ◌∙◌, slice_index, false≢true, side_number, Side, material_of}
-use Rattle.egt_check.specs.Prelude.{code_of, places, kind_digits, kind_less, IsShelf, IsWithin, number_in, has_target}
-use Rattle.egt_check.specs.Prelude.{ShelfMen, code_plain, is_pawn, TableValue, entries_of, Column, IsShelfRow}
-use Rattle.egt_check.specs.Prelude.{column_score, entry_score, bit_few, bit_of, code_in_shelf, pawn_digits}
-use Rattle.egt_check.specs.Prelude.{pawn_of_digits, piece_at, piece_digits, places_is, side_few}
+use Rattle.std.proofs.Common.{◌≡◌, ℕ, ◌+◌, ◌-◌, ◌*◌, ◌%◌, ◌<◌, ◌≤◌, ◌⊎◌, Bool, true, false, List, take, drop, arith}
+use Rattle.std.proofs.Common.{refl, sym, ap, ◌∙◌, slice_index}
+use Rattle.egt_check.specs.Prelude.{false≢true, side_number, Side, material_of, code_of, places, kind_digits, kind_less}
+use Rattle.egt_check.specs.Prelude.{IsShelf, IsWithin, number_in, has_target, ShelfMen, code_plain, is_pawn, TableValue}
+use Rattle.egt_check.specs.Prelude.{entries_of, Column, IsShelfRow, column_score, entry_score, bit_few, bit_of}
+use Rattle.egt_check.specs.Prelude.{code_in_shelf, pawn_digits, pawn_of_digits, piece_at, piece_digits, places_is}
+use Rattle.egt_check.specs.Prelude.{side_few}
 use Rattle.egt_table.specs.declared.column.Column.TheVariants as columns
 
 -- no position has no score

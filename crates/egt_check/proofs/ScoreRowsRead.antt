@@ -1,11 +1,10 @@
 -- The scores of codes, read from rows and put in them.
-use Rattle.egt_check.specs.Prelude.{◌≡◌, ◌⊎◌, ℕ, ◌+◌, ◌*◌, ◌/◌, ◌%◌, ◌<◌, ◌≤◌, ◌∙◌, if◌then◌else◌}
-use Rattle.egt_check.specs.Prelude.{◌==◌, List, [], ◌∷◌, length, set, replicate, slice_index, arith}
-use Rattle.egt_check.specs.Prelude.{sym, ap, subst, inl, inr, slice_index_or, bit_at, cases_eq}
-use Rattle.egt_check.specs.Prelude.{cases_lt, bit_at-lt, get_or-replicate, get_or-set_other, get_or-set_same, nat_tests}
-use Rattle.egt_check.specs.Prelude.{get_or-map-range_with_len, length-map-range_with_len, div-add-mod'}
-use Rattle.egt_check.specs.Prelude.{div_below, div-mul-add, mod-mul-add, mod_below, get_or-eq_default, length-replicate}
-use Rattle.egt_check.specs.Prelude.{side_number, Has, Man, Side, White, Black, SquareSet, code_of}
+use Rattle.std.proofs.Common.{◌≡◌, ◌⊎◌, ℕ, ◌+◌, ◌*◌, ◌/◌, ◌%◌, ◌<◌, ◌≤◌, ◌∙◌, if◌then◌else◌, ◌==◌, List, [], ◌∷◌}
+use Rattle.std.proofs.Common.{length, set, replicate, slice_index, arith, sym, ap, subst, inl, inr, slice_index_or}
+use Rattle.egt_check.specs.Prelude.{bit_at, cases_eq, cases_lt, bit_at-lt, get_or-replicate, get_or-set_other}
+use Rattle.egt_check.specs.Prelude.{get_or-set_same, nat_tests, get_or-map-range_with_len, length-map-range_with_len}
+use Rattle.egt_check.specs.Prelude.{div-add-mod', div_below, div-mul-add, mod-mul-add, mod_below, get_or-eq_default}
+use Rattle.egt_check.specs.Prelude.{length-replicate, side_number, Has, Man, Side, White, Black, SquareSet, code_of}
 use Rattle.egt_check.specs.Prelude.{number_of, places, kind_digits, kind_less, AreMenOf, IsShelf, IsWithin, number_in}
 use Rattle.egt_check.specs.Prelude.{size_of, ShelfMen, side_few, square_in, IsShelfRow}
 use Rattle.egt_check.specs.ScoreRows.{AreWholeRows, IsLaneIn, IsMaskOf, score_of, scores_in}

@@ -1,10 +1,10 @@
 -- Scores of draws, put at a shelf's codes that are indexes.
-use Rattle.egt_check.specs.Prelude.{◌≡◌, ◌∙◌, ◌⊎◌, ℕ, ◌+◌, ◌*◌, ◌-◌, ◌/◌, ◌%◌, ◌<◌, ◌≤◌, replicate}
-use Rattle.egt_check.specs.Prelude.{slice_index, arith, sym, ap, subst, inl, inr, bit_at, cases_eq}
-use Rattle.egt_check.specs.Prelude.{get_or-replicate, div-add-mod', div_below, mod_below, bit_at-zero, bit_at_cat_high}
-use Rattle.egt_check.specs.Prelude.{bit_at_cat_low, side_number, Has, Side, White, Black, SquareSet, IsVoid, code_of}
-use Rattle.egt_check.specs.Prelude.{number_of, places, kind_digits, kind_less, AreIndexed, number_in, size_of, ShelfMen}
-use Rattle.egt_check.specs.Prelude.{square_in, AreDrawnOrNone, CodeScores, HasNoVoidScore, IsLaneIn}
+use Rattle.std.proofs.Common.{◌≡◌, ◌∙◌, ◌⊎◌, ℕ, ◌+◌, ◌*◌, ◌-◌, ◌/◌, ◌%◌, ◌<◌, ◌≤◌, replicate, slice_index, arith, sym}
+use Rattle.std.proofs.Common.{ap, subst, inl, inr}
+use Rattle.egt_check.specs.Prelude.{bit_at, cases_eq, get_or-replicate, div-add-mod', div_below, mod_below, bit_at-zero}
+use Rattle.egt_check.specs.Prelude.{bit_at_cat_high, bit_at_cat_low, side_number, Has, Side, White, Black, SquareSet}
+use Rattle.egt_check.specs.Prelude.{IsVoid, code_of, number_of, places, kind_digits, kind_less, AreIndexed, number_in}
+use Rattle.egt_check.specs.Prelude.{size_of, ShelfMen, square_in, AreDrawnOrNone, CodeScores, HasNoVoidScore, IsLaneIn}
 
 -- ---- bits a rank further on
 

@@ -1,6 +1,7 @@
 -- The positions of a shelf, by what a spread tells, and the judgement of their entries.
-use Rattle.egt_check.specs.Prelude.{◌≡◌, ℕ, None, subst, Setup, Spells, IsVoid, TableValue, Metric, Mate, Zeroing}
-use Rattle.egt_check.specs.Prelude.{ByMetric, Finds, IsJudged, IsDue, number_at, Tables, ShowsOf, entry_at}
+use Rattle.std.proofs.Common.{◌≡◌, ℕ, None, subst}
+use Rattle.egt_check.specs.Prelude.{Setup, Spells, IsVoid, TableValue, Metric, Mate, Zeroing, ByMetric, Finds, IsJudged}
+use Rattle.egt_check.specs.Prelude.{IsDue, number_at, Tables, ShowsOf, entry_at}
 use Rattle.egt_check.proofs.FirstRule.{judged}
 
 -- entries that are due are right

@@ -1,11 +1,12 @@
 -- The places of a library.
-use Rattle.egt_check.specs.Prelude.{◌≡◌, ◌≢◌, ℕ, zero, suc, ◌+◌, ◌-◌, length-append, ◌<◌, ◌⊎◌, inl, inr, true, false}
-use Rattle.egt_check.specs.Prelude.{eqb, List, [], ◌∷◌, ◌++◌, length, get_or, set, Option, Some, None, refl, sym, ap}
-use Rattle.egt_check.specs.Prelude.{subst, ◌∙◌, arith, IsSome, IfSome, Contains, cases_lt, ne_eqb, false≢true}
-use Rattle.egt_check.specs.Prelude.{get_or-set_other, get_or-set_same, length-set, get_or_append_left}
-use Rattle.egt_check.specs.Prelude.{get_or-append_right, eqb_tells, children_of, TableValue, IsTable, Reject, Missing}
-use Rattle.egt_check.specs.Prelude.{NoReach, Rejected, AlreadyThere, IsLibrary, IsRefused, IsShelved, IsTurnedAway}
-use Rattle.egt_check.specs.Prelude.{ReachesDown, Tables, table_at, beside, HasChildren, IsTrueTable, HasTrueChildren}
+use Rattle.std.proofs.Common.{◌≡◌, ◌≢◌, ℕ, zero, suc, ◌+◌, ◌-◌, length-append, ◌<◌, ◌⊎◌, inl, inr, true, false, eqb}
+use Rattle.std.proofs.Common.{List, [], ◌∷◌, ◌++◌, length, get_or, set, Option, Some, None, refl, sym, ap, subst, ◌∙◌}
+use Rattle.std.proofs.Common.{arith, IsSome, IfSome}
+use Rattle.egt_check.specs.Prelude.{Contains, cases_lt, ne_eqb, false≢true, get_or-set_other, get_or-set_same}
+use Rattle.egt_check.specs.Prelude.{length-set, get_or_append_left, get_or-append_right, eqb_tells, children_of}
+use Rattle.egt_check.specs.Prelude.{TableValue, IsTable, Reject, Missing, NoReach, Rejected, AlreadyThere, IsLibrary}
+use Rattle.egt_check.specs.Prelude.{IsRefused, IsShelved, IsTurnedAway, ReachesDown, Tables, table_at, beside}
+use Rattle.egt_check.specs.Prelude.{HasChildren, IsTrueTable, HasTrueChildren}
 use Rattle.egt_check.proofs.Finding.{lower, beside_own, beside_other}
 
 abbrev pub Places : Type 0

@@ -1,6 +1,6 @@
 -- What tables show of positions.
-use Rattle.egt_check.specs.Prelude.{◌≡◌, ℕ, Option, Some, None, sym, ap, subst, ◌∙◌, Setup, IsAdmissible}
-use Rattle.egt_check.specs.Prelude.{IsIndex, chess, Metric, Outcome, Shows, Facts, IsShownBy}
+use Rattle.std.proofs.Common.{◌≡◌, ℕ, Option, Some, None, sym, ap, subst, ◌∙◌}
+use Rattle.egt_check.specs.Prelude.{Setup, IsAdmissible, IsIndex, chess, Metric, Outcome, Shows, Facts, IsShownBy}
 use Rattle.egt_check.specs.Prelude.{Tables, entry_at, HasEntry, ShowsOf, IsOne, IsShownOf, shown_once}
 
 module _ (facts : Facts) (tables : Tables) (p : Setup) (ok : IsAdmissible p) where

@@ -1,8 +1,8 @@
 -- What a legal move says, by the entries of its successor.
-use Rattle.egt_check.specs.Prelude.{◌≡◌, ◌↔◌, Bool, IsTrue, Option, subst, Setup, IsAdmissible, Move, Zeroes}
-use Rattle.egt_check.specs.Prelude.{leads_to_one, Leads, Metric, Mate, Zeroing, ByMetric, Outcome, Facts, number_at}
-use Rattle.egt_check.specs.Prelude.{IsShownBy, IsSaid, score_of, Scores, zeroing_said, Tables, HasEntry, ShowsOf}
-use Rattle.egt_check.specs.Prelude.{mate_said, zeroing_is_said}
+use Rattle.std.proofs.Common.{◌≡◌, ◌↔◌, Bool, IsTrue, Option, subst}
+use Rattle.egt_check.specs.Prelude.{Setup, IsAdmissible, Move, Zeroes, leads_to_one, Leads, Metric, Mate, Zeroing}
+use Rattle.egt_check.specs.Prelude.{ByMetric, Outcome, Facts, number_at, IsShownBy, IsSaid, score_of, Scores}
+use Rattle.egt_check.specs.Prelude.{zeroing_said, Tables, HasEntry, ShowsOf, mate_said, zeroing_is_said}
 use Rattle.egt_check.proofs.Showing.{one_shown, shown_of}
 
 -- the entries of the position that the move leads to, what they show, and whether the move zeroes

@@ -1,10 +1,10 @@
 -- Whole tables of classes with two men beside the kings: what holds at all codes, shelf by shelf, and the tables that moves lead to.
-use Rattle.egt_check.specs.Prelude.{◌≡◌, ◌≢◌, ℕ, ◌+◌, ◌-◌, ◌*◌, ◌/◌, ◌%◌, ◌<◌, ◌≤◌, ◌⊎◌, Bool, ne_eqb, inl, inr}
-use Rattle.egt_check.specs.Prelude.{Some, None, sym, ap, ◌∙◌, subst, arith, cases_lt, mul-le-mul_right, Setup}
-use Rattle.egt_check.specs.Prelude.{turned_man, side_number, Kind, Man, Side, White, Black, IsOf}
-use Rattle.egt_check.specs.Prelude.{AreNonKings, IsLoneMan, code_of, number_of, places, kind_digits, number_in, size_of}
-use Rattle.egt_check.specs.Prelude.{HasColumn, TableValue, Part, column_of, table_in, tables_in, IsShelved, Tables}
-use Rattle.egt_check.specs.Prelude.{beside, IsTableOf, HasBytes}
+use Rattle.std.proofs.Common.{◌≡◌, ◌≢◌, ℕ, ◌+◌, ◌-◌, ◌*◌, ◌/◌, ◌%◌, ◌<◌, ◌≤◌, ◌⊎◌, Bool, inl, inr, Some, None, sym, ap}
+use Rattle.std.proofs.Common.{◌∙◌, subst, arith}
+use Rattle.egt_check.specs.Prelude.{ne_eqb, cases_lt, mul-le-mul_right, Setup, turned_man, side_number, Kind, Man, Side}
+use Rattle.egt_check.specs.Prelude.{White, Black, IsOf, AreNonKings, IsLoneMan, code_of, number_of, places, kind_digits}
+use Rattle.egt_check.specs.Prelude.{number_in, size_of, HasColumn, TableValue, Part, column_of, table_in, tables_in}
+use Rattle.egt_check.specs.Prelude.{IsShelved, Tables, beside, IsTableOf, HasBytes}
 use Rattle.egt_check.proofs.Finding.{beside_other}
 use Rattle.egt_check.proofs.NearReading.{found_in, is_table_in}
 

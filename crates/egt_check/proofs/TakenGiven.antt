@@ -1,11 +1,12 @@
 -- The greatest scores of the codes after captures are those of the captures.
-use Rattle.egt_check.specs.Prelude.{◌≡◌, ℕ, ◌<◌, ◌⊎◌, ◌↔◌, if◌then◌else◌, max, Bool, true, false, refl, sym, ap, ◌∙◌}
-use Rattle.egt_check.specs.Prelude.{inl, inr, subst, Reaches-on_board, other_side, Setup, IsAdmissible, Man, Side}
-use Rattle.egt_check.specs.Prelude.{White, Black, AllStand, HasStand, list_of, IsSomeTurnedCode, ShelfMen, Stand}
-use Rattle.egt_check.specs.Prelude.{IsRaised, zeroing_score, raised_as, leads_to_one, Leads, Move, TableValue, Mate}
-use Rattle.egt_check.specs.Prelude.{IsBesideKing, stand_on, with_king, Facts, AreGiven, IsTableOf, AreLeftCodes}
-use Rattle.egt_check.specs.Prelude.{IsLastTaken, men_swapped, IsClassOf, IsPlainCapture, IsTaken, Left, left_of}
-use Rattle.egt_check.specs.Prelude.{stand_left, Tables, score_at}
+use Rattle.std.proofs.Common.{◌≡◌, ℕ, ◌<◌, ◌⊎◌, ◌↔◌, if◌then◌else◌, max, Bool, true, false, refl, sym, ap, ◌∙◌, inl}
+use Rattle.std.proofs.Common.{inr, subst}
+use Rattle.egt_check.specs.Prelude.{Reaches-on_board, other_side, Setup, IsAdmissible, Man, Side, White, Black}
+use Rattle.egt_check.specs.Prelude.{AllStand, HasStand, list_of, IsSomeTurnedCode, ShelfMen, Stand, IsRaised}
+use Rattle.egt_check.specs.Prelude.{zeroing_score, raised_as, leads_to_one, Leads, Move, TableValue, Mate, IsBesideKing}
+use Rattle.egt_check.specs.Prelude.{stand_on, with_king, Facts, AreGiven, IsTableOf, AreLeftCodes, IsLastTaken}
+use Rattle.egt_check.specs.Prelude.{men_swapped, IsClassOf, IsPlainCapture, IsTaken, Left, left_of, stand_left, Tables}
+use Rattle.egt_check.specs.Prelude.{score_at}
 use Rattle.egt_check.proofs.ByteJudged.{zeroing_max}
 use Rattle.egt_check.proofs.EitherGiven.{union_given}
 use Rattle.egt_check.proofs.PartGiven.{Parts, part_given}

@@ -1,7 +1,7 @@
 -- What tables show of positions, as a function.
-use Rattle.egt_check.specs.Prelude.{◌≡◌, ℕ, Option, Some, None, sym, ap, ◌∙◌, subst, inl, inr, Decided, Bool, IsOf, ◌<◌}
-use Rattle.egt_check.specs.Prelude.{decided_admissible, Setup, IsAdmissible, IsIndex, Value, Draw, Metric, TableValue}
-use Rattle.egt_check.specs.Prelude.{Facts, Tables, entry_at, HasEntry, ShowsOf, read, read_shown, refl}
+use Rattle.std.proofs.Common.{◌≡◌, ℕ, Option, Some, None, sym, ap, ◌∙◌, subst, inl, inr, Bool, ◌<◌, refl}
+use Rattle.egt_check.specs.Prelude.{Decided, IsOf, decided_admissible, Setup, IsAdmissible, IsIndex, Value, Draw}
+use Rattle.egt_check.specs.Prelude.{Metric, TableValue, Facts, Tables, entry_at, HasEntry, ShowsOf, read, read_shown}
 
 -- a table's entry of a position of its class
 pub entry_there : (tables : Tables) (metric : Metric) (u : TableValue) (d : ℕ) (flipped : Bool) (p : Setup) (i : ℕ)

@@ -1,7 +1,7 @@
 -- Tables whose entries have bytes of their own.
-use Rattle.egt_check.specs.Prelude.{◌≡◌, ◌≢◌, ℕ, ◌<◌, arith, inl, inr, cases_eq, IsVoid, size_of}
-use Rattle.egt_check.specs.Prelude.{AreVoidOrAlike, TableValue, Metric, Mate, Zeroing, AreAlike, shown_range}
-use Rattle.egt_check.specs.Prelude.{entry_at, IsTrueTable, AreAllAlike, TellsVoids, HasBytes}
+use Rattle.std.proofs.Common.{◌≡◌, ◌≢◌, ℕ, ◌<◌, arith, inl, inr}
+use Rattle.egt_check.specs.Prelude.{cases_eq, IsVoid, size_of, AreVoidOrAlike, TableValue, Metric, Mate, Zeroing}
+use Rattle.egt_check.specs.Prelude.{AreAlike, shown_range, entry_at, IsTrueTable, AreAllAlike, TellsVoids, HasBytes}
 
 -- entries that are not 0 are alike
 pub alike_there : (mate zeroing : ℕ) → AreVoidOrAlike mate zeroing → mate ≢ 0 → AreAlike mate zeroing

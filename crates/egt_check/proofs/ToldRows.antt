@@ -1,6 +1,7 @@
 -- What the entries that rows of scores tell come to at one lane. A mask's lane is 65535 or 0.
-use Rattle.egt_check.specs.Prelude.{◌≡◌, ℕ, zero, suc, ◌+◌, ◌<◌, ◌-◌, ◌%◌, ◌^◌, cond, eqb, ltb, List, [], ◌∷◌, map}
-use Rattle.egt_check.specs.Prelude.{length, get_or, replicate, arith, Fits, w8, agreed, near_told, value_told}
+use Rattle.std.proofs.Common.{◌≡◌, ℕ, zero, suc, ◌+◌, ◌<◌, ◌-◌, ◌%◌, ◌^◌, cond, eqb, ltb, List, [], ◌∷◌, map, length}
+use Rattle.std.proofs.Common.{get_or, replicate, arith, Fits, w8}
+use Rattle.egt_check.specs.Prelude.{agreed, near_told, value_told}
 use lib.Lanes.{zip2, sel_l, top, Each1}
 
 abbrev below : ℕ → ℕ → ℕ

@@ -1,9 +1,10 @@
 -- Where the children's columns of the nearest mates are true, a table's keeps the rules exactly where it is true.
-use Rattle.egt_check.specs.Prelude.{◌≡◌, ℕ, zero, suc, ◌<◌, ◌≤◌, ◌⊎◌, ◌↔◌, Bool, IsTrue, Option, Some, None, refl}
-use Rattle.egt_check.specs.Prelude.{sym, subst, inl, inr, arith, cases_lt, ⊎_elim, ⊎_map, Setup, IsAdmissible}
-use Rattle.egt_check.specs.Prelude.{IsOf, IsIndex, size_of, chess, TableValue, IsTable, StepAlike}
-use Rattle.egt_check.specs.Prelude.{Facts, FitsReachBeside, HasReachEntry, ShowsReach, ShowsReachOf, FitsReach}
-use Rattle.egt_check.specs.Prelude.{KeepsReach, KeepsReachBelow, Tables, reach_at, IsTrueReach, HasTrueReachesBelow}
+use Rattle.std.proofs.Common.{◌≡◌, ℕ, zero, suc, ◌<◌, ◌≤◌, ◌⊎◌, ◌↔◌, Bool, IsTrue, Option, Some, None, refl, sym, subst}
+use Rattle.std.proofs.Common.{inl, inr, arith}
+use Rattle.egt_check.specs.Prelude.{cases_lt, ⊎_elim, ⊎_map, Setup, IsAdmissible, IsOf, IsIndex, size_of, chess}
+use Rattle.egt_check.specs.Prelude.{TableValue, IsTable, StepAlike, Facts, FitsReachBeside, HasReachEntry, ShowsReach}
+use Rattle.egt_check.specs.Prelude.{ShowsReachOf, FitsReach, KeepsReach, KeepsReachBelow, Tables, reach_at, IsTrueReach}
+use Rattle.egt_check.specs.Prelude.{HasTrueReachesBelow}
 use Rattle.egt_moves.specs.Reach.{FitsReach as FitsNumbers, HasReach, ReachJudgedOver}
 use Rattle.egt_entries.specs.declared.rule.Rule.TheVariants as rules
 use Rattle.egt_check.proofs.Alike.{settled_image_alike, indexed_class, spelled_index}

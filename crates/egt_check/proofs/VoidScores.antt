@@ -1,7 +1,8 @@
 -- Void codes score nothing in a table whose bytes tell its entries.
-use Rattle.egt_check.specs.Prelude.{◌≡◌, ℕ, ◌%◌, arith, inl, inr, ap, cases_lt, get_or_past, IsVoid, size_of}
-use Rattle.egt_check.specs.Prelude.{reach_score, HasColumn, IsTable, TableValue, entries_or_none, Mate, Zeroing, Part}
-use Rattle.egt_check.specs.Prelude.{Values, Reach, column_of, table_in, reach_at, HasBytes, column_score, ScoresNoVoids}
+use Rattle.std.proofs.Common.{◌≡◌, ℕ, ◌%◌, arith, inl, inr, ap}
+use Rattle.egt_check.specs.Prelude.{cases_lt, get_or_past, IsVoid, size_of, reach_score, HasColumn, IsTable, TableValue}
+use Rattle.egt_check.specs.Prelude.{entries_or_none, Mate, Zeroing, Part, Values, Reach, column_of, table_in, reach_at}
+use Rattle.egt_check.specs.Prelude.{HasBytes, column_score, ScoresNoVoids}
 use Rattle.egt_table.specs.declared.column.Column.TheVariants as columns
 use Rattle.egt_check.proofs.NearReading.{near, near_at}
 use Rattle.egt_check.proofs.Worth.{void_score}

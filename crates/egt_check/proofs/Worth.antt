@@ -1,10 +1,10 @@
 -- The greatest score of the codes of some men, wherever turns take them, is that of the positions with these men.
-use Rattle.egt_check.specs.Prelude.{◌≡◌, ℕ, ◌%◌, ◌<◌, ◌≤◌, ◌⊎◌, Bool, true, false, length, arith, sym, ap, ◌∙◌, inl}
-use Rattle.egt_check.specs.Prelude.{inr, cases_lt, false≢true, get_or_past, AreImages, IsSettled, Setup, IsAdmissible}
-use Rattle.egt_check.specs.Prelude.{Side, Spells, IsIndex, IsVoid, SettleAlike, size_of, HasStand, IsFilled}
-use Rattle.egt_check.specs.Prelude.{IsSomeTurnedCode, IsSomeTurnedCodeWith, AreOnBoard, Stand, IsRaised, byte_score}
-use Rattle.egt_check.specs.Prelude.{IsTable, TableValue, Metric, Mate, Zeroing, Facts, entries_in, entry_at, HasBytes}
-use Rattle.egt_check.specs.Prelude.{IsBestOf, IsBestWith, IsScoreWith, score_at}
+use Rattle.std.proofs.Common.{◌≡◌, ℕ, ◌%◌, ◌<◌, ◌≤◌, ◌⊎◌, Bool, true, false, length, arith, sym, ap, ◌∙◌, inl, inr}
+use Rattle.egt_check.specs.Prelude.{cases_lt, false≢true, get_or_past, AreImages, IsSettled, Setup, IsAdmissible, Side}
+use Rattle.egt_check.specs.Prelude.{Spells, IsIndex, IsVoid, SettleAlike, size_of, HasStand, IsFilled, IsSomeTurnedCode}
+use Rattle.egt_check.specs.Prelude.{IsSomeTurnedCodeWith, AreOnBoard, Stand, IsRaised, byte_score, IsTable, TableValue}
+use Rattle.egt_check.specs.Prelude.{Metric, Mate, Zeroing, Facts, entries_in, entry_at, HasBytes, IsBestOf, IsBestWith}
+use Rattle.egt_check.specs.Prelude.{IsScoreWith, score_at}
 use Rattle.egt_table.specs.declared.column.Column.TheVariants as columns
 
 -- what codes tell of turned men, by the law of egt_index

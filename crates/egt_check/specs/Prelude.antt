@@ -163,11 +163,6 @@ pub use Rattle.egt_steps.specs.Stands.{IsBesideKing, men_on, stand_on, with_king
 pub use Rattle.egt_steps.specs.Takings.{IsClassOf, IsPastKings, IsPlainCapture, IsTaken, Left, left_of, stand_left}
 pub use Rattle.egt_table.specs.Table.{HasColumn, IsTable, TableValue, entries_of, entries_or_none}
 pub use Rattle.egt_table.specs.declared.column.Column.{Column}
-pub use Rattle.std.proofs.Common.{Bool, Fits, IsTrue, List, None, Option, Some, [], ap, arith, below_more, cond, drop}
-pub use Rattle.std.proofs.Common.{eqb, false, get_or, if◌then◌else◌, inl, inr, le-ltb, length, length-append, ltb, map}
-pub use Rattle.std.proofs.Common.{max, min, nat_lt, refl, replicate, rules, set, slice_set, subst, suc, sym, take, true}
-pub use Rattle.std.proofs.Common.{w8, zero, ℕ, ◌%◌, ◌*◌, ◌++◌, ◌+◌, ◌-◌, ◌/◌, ◌<◌, ◌==◌, ◌^◌, ◌↔◌, ◌∙◌, ◌∷◌, ◌≡◌, ◌≢◌}
-pub use Rattle.std.proofs.Common.{◌≤◌, ◌⊎◌}
 pub use Rattle.std.proofs.Math.ListN.{get_or-eq_default, get_or-map}
 pub use Rattle.std.proofs.Math.Logic.{⊎_elim, ⊎_map}
 pub use Rattle.std.proofs.Math.Nat.{div-eq_of_lt, div-le_self, mod-eq_of_lt, mul-add-div_right, mul-add-mod_self_right}
@@ -187,4 +182,3 @@ pub use Rattle.std.specs.Int.{bit_at}
 pub use Rattle.std.specs.List.{Contains, range_with_len}
 pub use Rattle.std.specs.List.Sorted.{IsStrictlyIncreasing}
 pub use Rattle.std.specs.Option.{is_some, option_map, option_to_list}
-pub use Rattle.std.specs.Prelude.{IfErr, IfNone, IfOk, IfSome, IsOk, IsSome, slice_index, slice_index_or}

@@ -1,6 +1,7 @@
 //! Entries with the kings on two squares and one side to move that are all of no position: these need no moves to be judged by. Where the kings stand beside
 //! one another, or their image has a lesser code, all are.
-ghost use Rattle.egt_check.specs.Prelude.{◌≡◌, ◌+◌, ◌<◌, true, AreMenOf, HasColumn, AreBlank};
+ghost use Rattle.std.specs.Prelude.{◌≡◌, ◌+◌, ◌<◌, true};
+ghost use Rattle.egt_check.specs.Prelude.{AreMenOf, HasColumn, AreBlank};
 
 use crate::own::Own;
 use crate::voids::marks_of;

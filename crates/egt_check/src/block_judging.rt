@@ -1,8 +1,9 @@
 //! The judgement of all entries with the kings on two squares, in classes with two men beside the kings.
-ghost use Rattle.egt_check.specs.Prelude.{◌≡◌, ◌+◌, ◌<◌, ℕ, true, false, other_side, code_of, kind_digits, kind_less};
-ghost use Rattle.egt_check.specs.Prelude.{AreMenOf, number_in, at, HasColumn, men_on, AreKept, AreFourMen, AreTablesOf};
-ghost use Rattle.egt_check.specs.Prelude.{HoldsExits, HoldsPassing, column_of, four_in, tables_in, AreAllScoresOf};
-ghost use Rattle.egt_check.specs.Prelude.{AreJudged, IsRightLane, Tables, column_score};
+ghost use Rattle.std.specs.Prelude.{◌≡◌, ◌+◌, ◌<◌, ℕ, true, false};
+ghost use Rattle.egt_check.specs.Prelude.{other_side, code_of, kind_digits, kind_less, AreMenOf, number_in, at};
+ghost use Rattle.egt_check.specs.Prelude.{HasColumn, men_on, AreKept, AreFourMen, AreTablesOf, HoldsExits};
+ghost use Rattle.egt_check.specs.Prelude.{HoldsPassing, column_of, four_in, tables_in, AreAllScoresOf, AreJudged};
+ghost use Rattle.egt_check.specs.Prelude.{IsRightLane, Tables, column_score};
 
 use crate::blank::side_is_blank;
 use crate::move_scores::{FourMen, exits, move_scores, passing_captures, raise_passed};

@@ -1,6 +1,7 @@
 //! Tables whose entries have bytes of their own.
-ghost use Rattle.egt_check.specs.Prelude.{◌≡◌, true, IsSome, HasColumn, column_of, table_in, IsTrueTable, AreAllAlike};
-ghost use Rattle.egt_check.specs.Prelude.{TellsVoids, HasBytes};
+ghost use Rattle.std.specs.Prelude.{◌≡◌, true, IsSome};
+ghost use Rattle.egt_check.specs.Prelude.{HasColumn, column_of, table_in, IsTrueTable, AreAllAlike, TellsVoids};
+ghost use Rattle.egt_check.specs.Prelude.{HasBytes};
 ghost use Rattle.egt_check.specs.declared.part.Part.TheVariants as parts;
 
 use crate::part::Part;

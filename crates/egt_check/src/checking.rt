@@ -1,8 +1,8 @@
 //! The judgement of a whole table.
-ghost use Rattle.egt_check.specs.Prelude.{◌≡◌, ◌↔◌, ◌≤◌, IsOk, IfOk, IfErr, IfSome, IfNone, IsSome, IsTrue, size_of};
-ghost use Rattle.egt_check.specs.Prelude.{Metric, Mate, table_at, beside, HasChildren, HasReachChildren, IsAccepted};
-ghost use Rattle.egt_check.specs.Prelude.{IsRefused, IsFirstBreak, IsFirstLacking, IsFirstMissing, LacksReach};
-ghost use Rattle.egt_check.specs.Prelude.{ReachesDown, KeepsBelow, KeepsReachBelow, earlier, IsFirstBad};
+ghost use Rattle.std.specs.Prelude.{◌≡◌, ◌↔◌, ◌≤◌, IsOk, IfOk, IfErr, IfSome, IfNone, IsSome, IsTrue};
+ghost use Rattle.egt_check.specs.Prelude.{size_of, Metric, Mate, table_at, beside, HasChildren, HasReachChildren};
+ghost use Rattle.egt_check.specs.Prelude.{IsAccepted, IsRefused, IsFirstBreak, IsFirstLacking, IsFirstMissing};
+ghost use Rattle.egt_check.specs.Prelude.{LacksReach, ReachesDown, KeepsBelow, KeepsReachBelow, earlier, IsFirstBad};
 ghost use Rattle.egt_check.specs.Prelude.{IsFirstBadReach};
 ghost use Rattle.egt_table.specs.declared.column.Column.TheVariants as columns;
 

@@ -1,6 +1,6 @@
 //! Scores that may be put: each is that of an entry, and both tell one result.
-ghost use Rattle.egt_check.specs.Prelude.{◌≡◌, ◌≢◌, ◌<◌, ℕ, slice_index, true, Has, zeroing_score, AreTold};
-ghost use Rattle.egt_check.specs.Prelude.{IsNearScore, IsValueScore, IsMaskOf};
+ghost use Rattle.std.specs.Prelude.{◌≡◌, ◌≢◌, ◌<◌, ℕ, slice_index, true};
+ghost use Rattle.egt_check.specs.Prelude.{Has, zeroing_score, AreTold, IsNearScore, IsValueScore, IsMaskOf};
 
 use crate::lane_sets::without_score;
 use crate::part::Part;

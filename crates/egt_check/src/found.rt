@@ -1,8 +1,9 @@
 //! The entries of a class with two men beside the kings while they are found: their scores are kept as rows of bytes.
-ghost use Rattle.egt_check.specs.Prelude.{◌≡◌, ◌<◌, ℕ, None, Some, IsSome, map, slice_index, code_of, places};
-ghost use Rattle.egt_check.specs.Prelude.{HasTwoBeside, IsShelf, IsShelfOf, IsWithin, number_in, stand_with, TellsMen};
-ghost use Rattle.egt_check.specs.Prelude.{IsRaised, HasColumn, IsTable, entries_of, Column, column_score, IsToldEntry};
-ghost use Rattle.egt_check.specs.Prelude.{IsToldFrom, TellColumn, table_told, told, IsPut, IsMaskOf};
+ghost use Rattle.std.specs.Prelude.{◌≡◌, ◌<◌, ℕ, None, Some, IsSome, map, slice_index};
+ghost use Rattle.egt_check.specs.Prelude.{code_of, places, HasTwoBeside, IsShelf, IsShelfOf, IsWithin, number_in};
+ghost use Rattle.egt_check.specs.Prelude.{stand_with, TellsMen, IsRaised, HasColumn, IsTable, entries_of, Column};
+ghost use Rattle.egt_check.specs.Prelude.{column_score, IsToldEntry, IsToldFrom, TellColumn, table_told, told, IsPut};
+ghost use Rattle.egt_check.specs.Prelude.{IsMaskOf};
 ghost use Rattle.egt_table.specs.declared.column.Column.TheVariants as columns;
 
 use crate::fitting::are_told;

@@ -1,8 +1,8 @@
 //! The judgement of one index's entries.
-ghost use Rattle.egt_check.specs.Prelude.{◌≡◌, ◌↔◌, ◌<◌, ◌==◌, if◌then◌else◌, Some, None, IsTrue, size_of, NoMove};
-ghost use Rattle.egt_check.specs.Prelude.{chess, Metric, Mate, Zeroing, rule_of, IsOfKind, Finds, FindsVoid, IsJudged};
-ghost use Rattle.egt_check.specs.Prelude.{number_at, IsAtEnd, IsDue, IsInClass, shown_by, table_at, beside};
-ghost use Rattle.egt_check.specs.Prelude.{HasChildren};
+ghost use Rattle.std.specs.Prelude.{◌≡◌, ◌↔◌, ◌<◌, ◌==◌, if◌then◌else◌, Some, None, IsTrue};
+ghost use Rattle.egt_check.specs.Prelude.{size_of, NoMove, chess, Metric, Mate, Zeroing, rule_of, IsOfKind, Finds};
+ghost use Rattle.egt_check.specs.Prelude.{FindsVoid, IsJudged, number_at, IsAtEnd, IsDue, IsInClass, shown_by};
+ghost use Rattle.egt_check.specs.Prelude.{table_at, beside, HasChildren};
 
 use crate::library::Library;
 use crate::successors::{best, entries_at};

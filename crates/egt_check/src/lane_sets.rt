@@ -1,5 +1,6 @@
 //! Rows compared square by square.
-ghost use Rattle.egt_check.specs.Prelude.{◌≡◌, ◌<◌, ◌==◌, if◌then◌else◌, ℕ, slice_index, IsMaskOf};
+ghost use Rattle.std.specs.Prelude.{◌≡◌, ◌<◌, ◌==◌, if◌then◌else◌, ℕ, slice_index};
+ghost use Rattle.egt_check.specs.Prelude.{IsMaskOf};
 
 use egt_board::SquareSet;
 use egt_lanes::Row;

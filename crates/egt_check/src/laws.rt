@@ -1,14 +1,14 @@
 //! What holds of tables and their rules. These functions do nothing: a caller calls one to know what it ensures.
-ghost use Rattle.egt_check.specs.Prelude.{◌≡◌, ◌≢◌, ◌↔◌, ◌<◌, max, ℕ, Bool, false, None, Some, IsSome, is_some, IsOf};
-ghost use Rattle.egt_check.specs.Prelude.{Spells, IsIndex, IsVoid, Setup, IsAdmissible, TableValue, IsTable, StepAlike};
-ghost use Rattle.egt_check.specs.Prelude.{Zeroes, chess, Side, Metric, K, HasStand, ShelfMen, stand_on, AreQuietCodes};
-ghost use Rattle.egt_check.specs.Prelude.{IsPlainCapture, AreAlike, AreGiven, IsJudged, KeepsBelow, KeepsReachBelow};
-ghost use Rattle.egt_check.specs.Prelude.{KeepsRules, IsAtEnd, byte_score, due_score, zeroing_score, IsTableOf};
-ghost use Rattle.egt_check.specs.Prelude.{AreLeftCodes, men_swapped, AreAllScores, AreTablesOf, four_in, tables_in};
-ghost use Rattle.egt_check.specs.Prelude.{AreAllScoresOf, IsRightLane, KeepsPart, FourMen, Part, Mate, Zeroing};
-ghost use Rattle.egt_check.specs.Prelude.{HasBytes, score_at, IsRaised, NoMove, Tables, entry_at, ReachesDown};
-ghost use Rattle.egt_check.specs.Prelude.{HasTrueChildren, HasTrueReachesBelow, HasTrueValues, HasTrueValuesBelow};
-ghost use Rattle.egt_check.specs.Prelude.{IsTrueReach, IsTrueTable, size_of};
+ghost use Rattle.std.specs.Prelude.{◌≡◌, ◌≢◌, ◌↔◌, ◌<◌, max, ℕ, Bool, false, None, Some, IsSome};
+ghost use Rattle.egt_check.specs.Prelude.{is_some, IsOf, Spells, IsIndex, IsVoid, Setup, IsAdmissible, TableValue};
+ghost use Rattle.egt_check.specs.Prelude.{IsTable, StepAlike, Zeroes, chess, Side, Metric, K, HasStand, ShelfMen};
+ghost use Rattle.egt_check.specs.Prelude.{stand_on, AreQuietCodes, IsPlainCapture, AreAlike, AreGiven, IsJudged};
+ghost use Rattle.egt_check.specs.Prelude.{KeepsBelow, KeepsReachBelow, KeepsRules, IsAtEnd, byte_score, due_score};
+ghost use Rattle.egt_check.specs.Prelude.{zeroing_score, IsTableOf, AreLeftCodes, men_swapped, AreAllScores};
+ghost use Rattle.egt_check.specs.Prelude.{AreTablesOf, four_in, tables_in, AreAllScoresOf, IsRightLane, KeepsPart};
+ghost use Rattle.egt_check.specs.Prelude.{FourMen, Part, Mate, Zeroing, HasBytes, score_at, IsRaised, NoMove, Tables};
+ghost use Rattle.egt_check.specs.Prelude.{entry_at, ReachesDown, HasTrueChildren, HasTrueReachesBelow, HasTrueValues};
+ghost use Rattle.egt_check.specs.Prelude.{HasTrueValuesBelow, IsTrueReach, IsTrueTable, size_of};
 
 use crate::pawn_laws::{
     codes_after_advances_beside_pawns_give_them, codes_after_advances_give_the_advances,

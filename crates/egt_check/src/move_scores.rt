@@ -1,9 +1,9 @@
 //! The greatest scores of the moves of a side with two men beside the kings, who stand on two squares.
-ghost use Rattle.egt_check.specs.Prelude.{◌≡◌, ◌<◌, max, ℕ, false, true, P, other_side, AreMenOf, at, IsRaised};
-ghost use Rattle.egt_check.specs.Prelude.{zeroing_score, HasColumn, AreKept, ScoresNoVoids, AreChildren};
-ghost use Rattle.egt_check.specs.Prelude.{AreFourMen, AreMoveScores, ArePassedScores, HoldsExits};
-ghost use Rattle.egt_check.specs.Prelude.{HoldsPassing, AreOwnPawnMoves, IsBestPromotion, AreLeftCodes, men_swapped};
-ghost use Rattle.egt_check.specs.Prelude.{column_score};
+ghost use Rattle.std.specs.Prelude.{◌≡◌, ◌<◌, max, ℕ, false, true};
+ghost use Rattle.egt_check.specs.Prelude.{P, other_side, AreMenOf, at, IsRaised, zeroing_score, HasColumn, AreKept};
+ghost use Rattle.egt_check.specs.Prelude.{ScoresNoVoids, AreChildren, AreFourMen, AreMoveScores, ArePassedScores};
+ghost use Rattle.egt_check.specs.Prelude.{HoldsExits, HoldsPassing, AreOwnPawnMoves, IsBestPromotion, AreLeftCodes};
+ghost use Rattle.egt_check.specs.Prelude.{men_swapped, column_score};
 ghost use Rattle.egt_table.specs.declared.column.Column.TheVariants as columns;
 
 use crate::found::Found;

@@ -1,6 +1,7 @@
 //! The entries of the class itself, beside those of its children: a table's, or those that are being found.
-ghost use Rattle.egt_check.specs.Prelude.{◌≡◌, ◌<◌, ℕ, IfSome, slice_index, IsShelfOf, IsWithin, stand_with, TellsMen};
-ghost use Rattle.egt_check.specs.Prelude.{IsRaised, HasColumn, IsTable, column_score};
+ghost use Rattle.std.specs.Prelude.{◌≡◌, ◌<◌, ℕ, IfSome, slice_index};
+ghost use Rattle.egt_check.specs.Prelude.{IsShelfOf, IsWithin, stand_with, TellsMen, IsRaised, HasColumn, IsTable};
+ghost use Rattle.egt_check.specs.Prelude.{column_score};
 
 use crate::found::Found;
 use crate::rows::row_of;

@@ -1,5 +1,6 @@
 //! In which order the pairs of kings' squares are judged: a king's steps lead to pairs whose entries were read shortly before.
-ghost use Rattle.egt_check.specs.Prelude.{◌≡◌, ◌*◌, ◌<◌, nth_pair};
+ghost use Rattle.std.specs.Prelude.{◌≡◌, ◌*◌, ◌<◌};
+ghost use Rattle.egt_check.specs.Prelude.{nth_pair};
 
 use egt_board::Side;
 

@@ -1,6 +1,7 @@
 //! The pairs of squares that the kings stand on, of a class with two men beside them.
-ghost use Rattle.egt_check.specs.Prelude.{◌*◌, ◌<◌, ◌≤◌, ℕ, IfSome, Side, size_of, ShelfMen, TableValue, Tables};
-ghost use Rattle.egt_check.specs.Prelude.{AreJudgedPairs, ArePairs, KeepsPart, Pairs, Part};
+ghost use Rattle.std.specs.Prelude.{◌*◌, ◌<◌, ◌≤◌, ℕ, IfSome};
+ghost use Rattle.egt_check.specs.Prelude.{Side, size_of, ShelfMen, TableValue, Tables, AreJudgedPairs, ArePairs};
+ghost use Rattle.egt_check.specs.Prelude.{KeepsPart, Pairs, Part};
 
 use egt_blocks::digits::digits_of;
 use egt_class::Class;

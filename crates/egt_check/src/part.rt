@@ -1,5 +1,6 @@
 //! The parts of a table that are judged one after the other.
-ghost use Rattle.egt_check.specs.Prelude.{◌≡◌, column_of};
+ghost use Rattle.std.specs.Prelude.{◌≡◌};
+ghost use Rattle.egt_check.specs.Prelude.{column_of};
 
 use egt_table::Column;
 

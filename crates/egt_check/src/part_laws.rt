@@ -1,6 +1,7 @@
 //! What holds of the entries of either part beside the greatest scores of all moves. This function does nothing: a caller calls it to know what it ensures.
-ghost use Rattle.egt_check.specs.Prelude.{◌≡◌, ◌≢◌, ℕ, Bool, K, Side, ShelfMen, Tables, AreTablesOf, four_in};
-ghost use Rattle.egt_check.specs.Prelude.{tables_in, AreAllScoresOf, IsRightLane, KeepsPart, FourMen, Part};
+ghost use Rattle.std.specs.Prelude.{◌≡◌, ◌≢◌, ℕ, Bool};
+ghost use Rattle.egt_check.specs.Prelude.{K, Side, ShelfMen, Tables, AreTablesOf, four_in, tables_in, AreAllScoresOf};
+ghost use Rattle.egt_check.specs.Prelude.{IsRightLane, KeepsPart, FourMen, Part};
 
 use crate::laws::{all_scores_give_all_moves, due_bytes_are_right};
 use crate::reach_laws::{all_reach_scores_give_all_moves, due_reaches_are_right};

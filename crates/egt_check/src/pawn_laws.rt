@@ -1,10 +1,10 @@
 //! The greatest scores of the codes after the moves of pawns. These functions do nothing: a caller calls one to know what it ensures.
-ghost use Rattle.egt_check.specs.Prelude.{◌≡◌, ◌≢◌, ◌<◌, ◌⊎◌, ℕ, max, Bool, true, false, Option, None, IsSome, Setup};
-ghost use Rattle.egt_check.specs.Prelude.{Kind, P, K, Side, HasStand, ShelfMen, IsRaised, zeroing_score, arriving};
-ghost use Rattle.egt_check.specs.Prelude.{TableValue, Mate, AreGiven, AreLeapCodes, ArePassingCodes, AreStepCodes};
-ghost use Rattle.egt_check.specs.Prelude.{IsPassingFrom, AreAdvancedCodes, ArePromotedCodes, IsAdvanceFrom};
-ghost use Rattle.egt_check.specs.Prelude.{IsPromotingCaptureFrom, officer_of, stand_in, IsTableAfter, IsTableOf};
-ghost use Rattle.egt_check.specs.Prelude.{Tables, score_at};
+ghost use Rattle.std.specs.Prelude.{◌≡◌, ◌≢◌, ◌<◌, ◌⊎◌, ℕ, max, Bool, true, false, Option, None, IsSome};
+ghost use Rattle.egt_check.specs.Prelude.{Setup, Kind, P, K, Side, HasStand, ShelfMen, IsRaised, zeroing_score};
+ghost use Rattle.egt_check.specs.Prelude.{arriving, TableValue, Mate, AreGiven, AreLeapCodes, ArePassingCodes};
+ghost use Rattle.egt_check.specs.Prelude.{AreStepCodes, IsPassingFrom, AreAdvancedCodes, ArePromotedCodes};
+ghost use Rattle.egt_check.specs.Prelude.{IsAdvanceFrom, IsPromotingCaptureFrom, officer_of, stand_in, IsTableAfter};
+ghost use Rattle.egt_check.specs.Prelude.{IsTableOf, Tables, score_at};
 
 use egt_index::laws::{a_code_is_an_index_or_void, codes_tell_turned_men, numbers_stand_for_codes};
 use egt_steps::facts::facts;

@@ -1,8 +1,8 @@
 //! The greatest scores of the moves of pawns beside two kings who stand on two squares.
-ghost use Rattle.egt_check.specs.Prelude.{◌≡◌, ◌<◌, ℕ, false, true, IfSome, AreMenOf, at, HasColumn, men_after};
-ghost use Rattle.egt_check.specs.Prelude.{AreStill, AreAdvanceScores, AreOwnPawnMoves, ArePromotionScores};
-ghost use Rattle.egt_check.specs.Prelude.{ArePromotionsOf, IsBestPromotion, IsPromotionOf, IsPromotionScore};
-ghost use Rattle.egt_check.specs.Prelude.{ScoresNoVoids, column_score};
+ghost use Rattle.std.specs.Prelude.{◌≡◌, ◌<◌, ℕ, false, true, IfSome};
+ghost use Rattle.egt_check.specs.Prelude.{AreMenOf, at, HasColumn, men_after, AreStill, AreAdvanceScores};
+ghost use Rattle.egt_check.specs.Prelude.{AreOwnPawnMoves, ArePromotionScores, ArePromotionsOf, IsBestPromotion};
+ghost use Rattle.egt_check.specs.Prelude.{IsPromotionOf, IsPromotionScore, ScoresNoVoids, column_score};
 
 use crate::own::Own;
 use crate::table_scores::TableScores;

@@ -1,6 +1,6 @@
 //! The judgement of the column of the nearest mates, block by block.
-ghost use Rattle.egt_check.specs.Prelude.{◌≡◌, true, IsSome, size_of, Metric, KeepsBelow, KeepsReachBelow, beside};
-ghost use Rattle.egt_check.specs.Prelude.{table_at};
+ghost use Rattle.std.specs.Prelude.{◌≡◌, true, IsSome};
+ghost use Rattle.egt_check.specs.Prelude.{size_of, Metric, KeepsBelow, KeepsReachBelow, beside, table_at};
 
 use crate::bytes::tells_reach_bytes;
 use crate::library::Library;

@@ -1,6 +1,7 @@
 //! The judgement of one index's entry of the column of the nearest mates.
-ghost use Rattle.egt_check.specs.Prelude.{◌<◌, IsSome, size_of, IsJudgedBy, KeepsReach, IsReachDue, ShowsReachOf};
-ghost use Rattle.egt_check.specs.Prelude.{FindsReach, IsInClass, table_at, beside, HasChildren, HasReachChildren};
+ghost use Rattle.std.specs.Prelude.{◌<◌, IsSome};
+ghost use Rattle.egt_check.specs.Prelude.{size_of, IsJudgedBy, KeepsReach, IsReachDue, ShowsReachOf, FindsReach};
+ghost use Rattle.egt_check.specs.Prelude.{IsInClass, table_at, beside, HasChildren, HasReachChildren};
 
 use crate::library::Library;
 use crate::successors::least_reach;

@@ -1,10 +1,10 @@
 //! What holds of the column of the nearest mates beside the moves. These functions do nothing: a caller calls one to
 //! know what it ensures.
-ghost use Rattle.egt_check.specs.Prelude.{◌≡◌, ◌≢◌, ◌<◌, ℕ, Bool, false, None, Setup, K, Side, Spells, IsVoid};
-ghost use Rattle.egt_check.specs.Prelude.{HasStand, ShelfMen, reach_due_score, reach_score, NoMove, chess, TableValue};
-ghost use Rattle.egt_check.specs.Prelude.{FourMen, Reach, stand_on, AreGiven, AreTablesOf, near_entry, near_tables};
-ghost use Rattle.egt_check.specs.Prelude.{four_in, AreAllReachScores, IsJudgedBy, KeepsReach, IsAtEnd, Tables};
-ghost use Rattle.egt_check.specs.Prelude.{reach_at};
+ghost use Rattle.std.specs.Prelude.{◌≡◌, ◌≢◌, ◌<◌, ℕ, Bool, false, None};
+ghost use Rattle.egt_check.specs.Prelude.{Setup, K, Side, Spells, IsVoid, HasStand, ShelfMen, reach_due_score};
+ghost use Rattle.egt_check.specs.Prelude.{reach_score, NoMove, chess, TableValue, FourMen, Reach, stand_on, AreGiven};
+ghost use Rattle.egt_check.specs.Prelude.{AreTablesOf, near_entry, near_tables, four_in, AreAllReachScores, IsJudgedBy};
+ghost use Rattle.egt_check.specs.Prelude.{KeepsReach, IsAtEnd, Tables, reach_at};
 
 use crate::laws::{all_scores_give_all_moves, due_bytes_are_right};
 use egt_index::laws::{

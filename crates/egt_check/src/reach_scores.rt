@@ -1,8 +1,9 @@
 //! The greatest scores, in the column of the nearest mates, of the moves of a side with two men beside the kings, who
 //! stand on two squares. That of a move is the less the more plies it is from there to a checkmate, and least where
 //! there is none.
-ghost use Rattle.egt_check.specs.Prelude.{◌≡◌, ◌<◌, ℕ, true, other_side, at, AreKept, AreFourMen, HoldsExits};
-ghost use Rattle.egt_check.specs.Prelude.{HoldsPassing, ArePassedReachScores, AreReachScores, column_score};
+ghost use Rattle.std.specs.Prelude.{◌≡◌, ◌<◌, ℕ, true};
+ghost use Rattle.egt_check.specs.Prelude.{other_side, at, AreKept, AreFourMen, HoldsExits, HoldsPassing};
+ghost use Rattle.egt_check.specs.Prelude.{ArePassedReachScores, AreReachScores, column_score};
 ghost use Rattle.egt_table.specs.declared.column.Column.TheVariants as columns;
 
 use crate::move_scores::{FourMen, advances, has_pawn};

@@ -1,8 +1,8 @@
 //! The judgement of a row of a table's entries by the greatest scores of the moves.
-ghost use Rattle.egt_check.specs.Prelude.{◌≡◌, ◌≢◌, ◌+◌, ◌*◌, ℕ, ◌<◌, slice_index, true, IfSome, Has, code_of};
-ghost use Rattle.egt_check.specs.Prelude.{kind_digits, kind_less, IsShelfOf, IsWithin, number_in, size_of, due_score};
-ghost use Rattle.egt_check.specs.Prelude.{HasColumn, Zeroing, column_of, IsRightAtOf, IsRightEndOf, due_in, IsAtEnd};
-ghost use Rattle.egt_check.specs.Prelude.{column_score, score_at};
+ghost use Rattle.std.specs.Prelude.{◌≡◌, ◌≢◌, ◌+◌, ◌*◌, ℕ, ◌<◌, slice_index, true, IfSome};
+ghost use Rattle.egt_check.specs.Prelude.{Has, code_of, kind_digits, kind_less, IsShelfOf, IsWithin, number_in};
+ghost use Rattle.egt_check.specs.Prelude.{size_of, due_score, HasColumn, Zeroing, column_of, IsRightAtOf, IsRightEndOf};
+ghost use Rattle.egt_check.specs.Prelude.{due_in, IsAtEnd, column_score, score_at};
 ghost use Rattle.egt_check.specs.declared.part.Part.TheVariants as parts;
 
 use crate::lane_sets::unlike;

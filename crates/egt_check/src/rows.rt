@@ -1,5 +1,5 @@
 //! The scores that a table gives the codes which differ by the last man's square alone.
-ghost use Rattle.egt_check.specs.Prelude.{◌≡◌, ◌↔◌, ℕ, ◌+◌, ◌*◌, ◌/◌, ◌%◌, ◌<◌, ◌≤◌, false, true, slice_index, IsTrue};
+ghost use Rattle.std.specs.Prelude.{◌≡◌, ◌↔◌, ℕ, ◌+◌, ◌*◌, ◌/◌, ◌%◌, ◌<◌, ◌≤◌, false, true, slice_index, IsTrue};
 ghost use Rattle.egt_check.specs.Prelude.{MayStand, material_of, code_of, places, IsShelf, IsShelfOf, IsWithin};
 ghost use Rattle.egt_check.specs.Prelude.{stand_with, has_target, size_of, TellsMen, IsRaised, HasColumn, IsShelfRow};
 ghost use Rattle.egt_check.specs.Prelude.{column_score, entry_score};

@@ -1,5 +1,5 @@
 //! The scores of all codes of a class with two men beside the kings, kept as rows of bytes.
-ghost use Rattle.egt_check.specs.Prelude.{◌≡◌, ◌+◌, ◌*◌, ◌<◌, ◌≤◌, ◌⊎◌, ℕ, IfOk, IfSome, length, slice_index, true};
+ghost use Rattle.std.specs.Prelude.{◌≡◌, ◌+◌, ◌*◌, ◌<◌, ◌≤◌, ◌⊎◌, ℕ, IfOk, IfSome, length, slice_index, true};
 ghost use Rattle.egt_check.specs.Prelude.{bit_at, side_number, Has, P, code_of, places, kind_digits, kind_less};
 ghost use Rattle.egt_check.specs.Prelude.{HasTwoBeside, IsShelf, IsWithin, number_in, size_of, IsShelfRow};
 ghost use Rattle.egt_check.specs.Prelude.{AreDrawnOrNone, HasNoVoidScore, IsDrawnIndex, IsLaneIn, IsMaskOf};

@@ -1,5 +1,5 @@
 //! The best of a position's steps.
-ghost use Rattle.egt_check.specs.Prelude.{◌≡◌, ◌↔◌, ◌<◌, ◌≤◌, max, ℕ, Some, None, IsTrue, IsSome, IfSome, IfNone};
+ghost use Rattle.std.specs.Prelude.{◌≡◌, ◌↔◌, ◌<◌, ◌≤◌, max, ℕ, Some, None, IsTrue, IsSome, IfSome, IfNone};
 ghost use Rattle.egt_check.specs.Prelude.{option_map, Setup, IsAdmissible, size_of, EachMove, NoMove, IsLeast, chess};
 ghost use Rattle.egt_check.specs.Prelude.{Zeroes, Leads, IsLegal, Metric, nearer, IsPlaceOf, HasReachAt, AreRaised};
 ghost use Rattle.egt_check.specs.Prelude.{HasReachEntry, ShowsReach, ShowsReachOf, number_at, greater, Scores, IsBest};

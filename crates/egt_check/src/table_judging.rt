@@ -1,12 +1,12 @@
 //! The judgement of a whole table of a class with two men beside the kings, block by block.
-ghost use Rattle.egt_check.specs.Prelude.{◌≡◌, ◌≢◌, ◌+◌, ◌*◌, ◌<◌, ℕ, false, true, Some, None, IfSome, other_side};
-ghost use Rattle.egt_check.specs.Prelude.{turned_man, Setup, K, Side, IsOf, AreNonKings, IsLoneMan, AreMenOf, size_of};
-ghost use Rattle.egt_check.specs.Prelude.{ShelfMen, IsOfficer, HasColumn, TableValue, Metric, with_kings, AreKept};
-ghost use Rattle.egt_check.specs.Prelude.{AreChildren, AreFourMen, AreTablesOf, IsOwnTable, column_of, four_in};
-ghost use Rattle.egt_check.specs.Prelude.{promotion_in, promotions_in, table_in, tables_in, AreJudgedPairs, AreNamed};
-ghost use Rattle.egt_check.specs.Prelude.{ArePromotionsOf, HasPromotion, HasPromotions, IsPromotionOf, AreJudged};
-ghost use Rattle.egt_check.specs.Prelude.{KeepsPart, FourMen, KeepsBelow, men_swapped, Tables, beside, table_at};
-ghost use Rattle.egt_check.specs.Prelude.{IsTrueTable, HasBytes, column_score};
+ghost use Rattle.std.specs.Prelude.{◌≡◌, ◌≢◌, ◌+◌, ◌*◌, ◌<◌, ℕ, false, true, Some, None, IfSome};
+ghost use Rattle.egt_check.specs.Prelude.{other_side, turned_man, Setup, K, Side, IsOf, AreNonKings, IsLoneMan};
+ghost use Rattle.egt_check.specs.Prelude.{AreMenOf, size_of, ShelfMen, IsOfficer, HasColumn, TableValue, Metric};
+ghost use Rattle.egt_check.specs.Prelude.{with_kings, AreKept, AreChildren, AreFourMen, AreTablesOf, IsOwnTable};
+ghost use Rattle.egt_check.specs.Prelude.{column_of, four_in, promotion_in, promotions_in, table_in, tables_in};
+ghost use Rattle.egt_check.specs.Prelude.{AreJudgedPairs, AreNamed, ArePromotionsOf, HasPromotion, HasPromotions};
+ghost use Rattle.egt_check.specs.Prelude.{IsPromotionOf, AreJudged, KeepsPart, FourMen, KeepsBelow, men_swapped};
+ghost use Rattle.egt_check.specs.Prelude.{Tables, beside, table_at, IsTrueTable, HasBytes, column_score};
 
 use crate::block_judging::block_is_right;
 use crate::bytes::{tells_bytes, true_table_tells};

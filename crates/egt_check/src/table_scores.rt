@@ -1,6 +1,6 @@
 //! What the codes of a table's class are worth by its entries.
-ghost use Rattle.egt_check.specs.Prelude.{◌≡◌, ◌<◌, ℕ, false, slice_index, IsLoneRow, lone_stand, TellsMen, IsRaised};
-ghost use Rattle.egt_check.specs.Prelude.{HasColumn, column_score};
+ghost use Rattle.std.specs.Prelude.{◌≡◌, ◌<◌, ℕ, false, slice_index};
+ghost use Rattle.egt_check.specs.Prelude.{IsLoneRow, lone_stand, TellsMen, IsRaised, HasColumn, column_score};
 
 use crate::rows::{column_scores, row_of};
 use egt_blocks::own_men::is_pawn;

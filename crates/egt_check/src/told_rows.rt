@@ -1,5 +1,6 @@
 //! The entries that rows of scores tell.
-ghost use Rattle.egt_check.specs.Prelude.{◌≡◌, ◌<◌, ℕ, slice_index, near_told, told, value_told};
+ghost use Rattle.std.specs.Prelude.{◌≡◌, ◌<◌, ℕ, slice_index};
+ghost use Rattle.egt_check.specs.Prelude.{near_told, told, value_told};
 
 use egt_lanes::Row;
 use egt_lanes::score::Entries;

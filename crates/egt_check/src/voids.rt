@@ -1,7 +1,7 @@
 //! Tables whose mate entries are 0 exactly at the codes that no position has.
-ghost use Rattle.egt_check.specs.Prelude.{◌≡◌, ℕ, ◌<◌, ◌==◌, if◌then◌else◌, true, IfSome, bit_at, Side, code_of};
-ghost use Rattle.egt_check.specs.Prelude.{kind_digits, AreMenOf, IsShelfOf, IsWithin, number_in, HasColumn};
-ghost use Rattle.egt_check.specs.Prelude.{AreAllAlike, TellsVoids, TellsVoidsIn, column_score};
+ghost use Rattle.std.specs.Prelude.{◌≡◌, ℕ, ◌<◌, ◌==◌, if◌then◌else◌, true, IfSome};
+ghost use Rattle.egt_check.specs.Prelude.{bit_at, Side, code_of, kind_digits, AreMenOf, IsShelfOf, IsWithin, number_in};
+ghost use Rattle.egt_check.specs.Prelude.{HasColumn, AreAllAlike, TellsVoids, TellsVoidsIn, column_score};
 
 use crate::own::Own;
 use egt_blocks::digits::first_square;

@@ -1,7 +1,7 @@
 -- Counts of men that agree at every man but the kings.
-use Rattle.egt_class.specs.Prelude.{◌≡◌, ◌≢◌, ℕ, Bool, true, false, eqb, List, [], ◌∷◌, refl, ap, ◌∙◌, eq-eqb, eqb-true}
-use Rattle.egt_class.specs.Prelude.{false≢true, Side, White, Black, Kind, Q, R, B, N, P, K, Man, men_beside, agree_at}
-use Rattle.egt_class.specs.Prelude.{man_of}
+use Rattle.std.proofs.Common.{◌≡◌, ◌≢◌, ℕ, Bool, true, false, eqb, List, [], ◌∷◌, refl, ap, ◌∙◌}
+use Rattle.egt_class.specs.Prelude.{eq-eqb, eqb-true, false≢true, Side, White, Black, Kind, Q, R, B, N, P, K, Man}
+use Rattle.egt_class.specs.Prelude.{men_beside, agree_at, man_of}
 
 abbrev Agree : List Man → (Man → ℕ) → (Man → ℕ) → Type 0
 Agree [] f g = Unit {0}

@@ -1,7 +1,7 @@
 -- The table of children is right at each class.
-use Rattle.egt_class.specs.Prelude.{◌≡◌, ℕ, ◌<◌, ◌≤◌, ◌+◌, ◌++◌, ◌∷◌, ◌&&◌, Bool, true, [], leb, refl, lit<}
-use Rattle.egt_class.specs.Prelude.{slice_index, and_parts, leb-true, all_below, passes_below, materials, material_of}
-use Rattle.egt_class.specs.Prelude.{children_of, child_at, listed, CHILDREN, STARTS}
+use Rattle.std.proofs.Common.{◌≡◌, ℕ, ◌<◌, ◌≤◌, ◌+◌, ◌++◌, ◌∷◌, ◌&&◌, Bool, true, [], leb, refl, lit<, slice_index}
+use Rattle.egt_class.specs.Prelude.{and_parts, leb-true, all_below, passes_below, materials, material_of, children_of}
+use Rattle.egt_class.specs.Prelude.{child_at, listed, CHILDREN, STARTS}
 use Rattle.egt_class.proofs.Tables.{same_list, same_list-equal, all_less, all_less-at, part_none, part_more}
 
 abbrev start_of : ℕ → ℕ

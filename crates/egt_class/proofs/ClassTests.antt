@@ -1,11 +1,11 @@
 -- Tests of all classes.
-use Rattle.egt_class.specs.Prelude.{◌≡◌, ◌≢◌, ℕ, zero, suc, ◌+◌, ◌<◌, ◌&&◌, ◌||◌, ◌⊎◌, Bool, true, false, eqb, ltb}
-use Rattle.egt_class.specs.Prelude.{List, [], ◌∷◌, Option, Some, None, IfSome, refl, sym, ap₂, ◌∙◌, subst, inl, inr}
-use Rattle.egt_class.specs.Prelude.{arith, list_any, list_all, Contains, and_parts, eqb-true, eq-eqb, ltb-true}
-use Rattle.egt_class.specs.Prelude.{false≢true, slice_index, Side, White, Black, Kind, Q, R, B, N, P, K, Man, all_below}
-use Rattle.egt_class.specs.Prelude.{passes_below, Material, materials, material_of, men_in, has_equal_sides, count_in}
-use Rattle.egt_class.specs.Prelude.{kinds_of, name_of, Change, is_possible, follows, men_of, men_beside, agree_at}
-use Rattle.egt_class.specs.Prelude.{takings, promotions, children_of, listed, STARTS}
+use Rattle.std.proofs.Common.{◌≡◌, ◌≢◌, ℕ, zero, suc, ◌+◌, ◌<◌, ◌&&◌, ◌||◌, ◌⊎◌, Bool, true, false, eqb, ltb, List, []}
+use Rattle.std.proofs.Common.{◌∷◌, Option, Some, None, IfSome, refl, sym, ap₂, ◌∙◌, subst, inl, inr, arith, slice_index}
+use Rattle.egt_class.specs.Prelude.{list_any, list_all, Contains, and_parts, eqb-true, eq-eqb, ltb-true, false≢true}
+use Rattle.egt_class.specs.Prelude.{Side, White, Black, Kind, Q, R, B, N, P, K, Man, all_below, passes_below, Material}
+use Rattle.egt_class.specs.Prelude.{materials, material_of, men_in, has_equal_sides, count_in, kinds_of, name_of}
+use Rattle.egt_class.specs.Prelude.{Change, is_possible, follows, men_of, men_beside, agree_at, takings, promotions}
+use Rattle.egt_class.specs.Prelude.{children_of, listed, STARTS}
 use Rattle.egt_class.proofs.Tables.{same_list, same_list-same, all_less}
 use Rattle.egt_class.proofs.Agreeing.{same_agree}
 use Rattle.egt_class.proofs.ChildTable.{children_are_right}

@@ -1,6 +1,6 @@
 -- The table of names is right at each class.
-use Rattle.egt_class.specs.Prelude.{◌≡◌, ℕ, ◌<◌, ◌&&◌, Bool, true, List, [], refl, lit<, filter, slice_index}
-use Rattle.egt_class.specs.Prelude.{slice_index_or, and_parts, all_below, passes_below, materials, material_of, name_of}
+use Rattle.std.proofs.Common.{◌≡◌, ℕ, ◌<◌, ◌&&◌, Bool, true, List, [], refl, lit<, slice_index, slice_index_or}
+use Rattle.egt_class.specs.Prelude.{filter, and_parts, all_below, passes_below, materials, material_of, name_of}
 use Rattle.egt_class.specs.Prelude.{is_letter, NAMES}
 use Rattle.egt_class.proofs.Tables.{same_list, same_list-equal, all_less, all_less-at}
 

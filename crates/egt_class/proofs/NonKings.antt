@@ -1,10 +1,9 @@
 -- The men beside the kings, gathered from a list.
-use Rattle.egt_class.specs.Prelude.{◌≡◌, ◌≢◌, ℕ, ◌+◌, ◌*◌, ◌<◌, ◌≤◌, List, [], ◌∷◌, map, length, Option, Some, None}
-use Rattle.egt_class.specs.Prelude.{IfSome, Bool, true, false, cond, arith, add-zero, refl, sym, ap, ◌∙◌, inl, inr}
-use Rattle.egt_class.specs.Prelude.{count_by, sum_by, length-map, sum_by-cons, false≢true, eqb_tells, Side, White}
-use Rattle.egt_class.specs.Prelude.{Black, Kind, Q, R, B, N, P, K, Man, king_of, Placement, man_entry, Setup}
-use Rattle.egt_class.specs.Prelude.{IsAdmissible, IsKingOn, kind_number, side_number, man_number, stands_here, count_of}
-use Rattle.egt_class.specs.Prelude.{is_man, AreNonKings}
+use Rattle.std.proofs.Common.{◌≡◌, ◌≢◌, ℕ, ◌+◌, ◌*◌, ◌<◌, ◌≤◌, List, [], ◌∷◌, map, length, Option, Some, None, IfSome}
+use Rattle.std.proofs.Common.{Bool, true, false, cond, arith, add-zero, refl, sym, ap, ◌∙◌, inl, inr, count_by}
+use Rattle.egt_class.specs.Prelude.{sum_by, length-map, sum_by-cons, false≢true, eqb_tells, Side, White, Black, Kind, Q}
+use Rattle.egt_class.specs.Prelude.{R, B, N, P, K, Man, king_of, Placement, man_entry, Setup, IsAdmissible, IsKingOn}
+use Rattle.egt_class.specs.Prelude.{kind_number, side_number, man_number, stands_here, count_of, is_man, AreNonKings}
 use Rattle.std.specs.FinMap as placement
 
 abbrev pub is_king : Kind → Bool

@@ -1,7 +1,8 @@
 -- Positions of a class: one class, the settled form, the images.
-use Rattle.egt_class.specs.Prelude.{◌≡◌, ℕ, ◌<◌, ◌⊎◌, ◌↔◌, Bool, true, false, not, if◌then◌else◌, refl, sym, ap, ◌∙◌}
-use Rattle.egt_class.specs.Prelude.{inl, inr, Side, White, Black, Kind, Man, other_side, Placement, Setup, SettlesTo}
-use Rattle.egt_class.specs.Prelude.{count_of, SameMen, ExchangedMen, men_in, has_equal_sides, IsOf}
+use Rattle.std.proofs.Common.{◌≡◌, ℕ, ◌<◌, ◌⊎◌, ◌↔◌, Bool, true, false, not, if◌then◌else◌, refl, sym, ap, ◌∙◌, inl}
+use Rattle.std.proofs.Common.{inr}
+use Rattle.egt_class.specs.Prelude.{Side, White, Black, Kind, Man, other_side, Placement, Setup, SettlesTo, count_of}
+use Rattle.egt_class.specs.Prelude.{SameMen, ExchangedMen, men_in, has_equal_sides, IsOf}
 use Rattle.egt_class.proofs.ClassTests.{one_class, equal_sides}
 use Rattle.egt_board.proofs.SettledForms.{settles_men}
 use Rattle.egt_board.proofs.Sides.{side_twice}

@@ -1,6 +1,6 @@
 -- The table of classes by two men is right at each pair.
-use Rattle.egt_class.specs.Prelude.{◌≡◌, ◌≢◌, ℕ, ◌+◌, ◌*◌, ◌<◌, ◌≤◌, ◌&&◌, Bool, true, false, not, cond, eqb, ltb}
-use Rattle.egt_class.specs.Prelude.{Option, Some, None, IfSome, if◌then◌else◌, refl, sym, ap, ap₂, ◌∙◌, arith, inl, inr}
+use Rattle.std.proofs.Common.{◌≡◌, ◌≢◌, ℕ, ◌+◌, ◌*◌, ◌<◌, ◌≤◌, ◌&&◌, Bool, true, false, not, cond, eqb, ltb, Option}
+use Rattle.std.proofs.Common.{Some, None, IfSome, if◌then◌else◌, refl, sym, ap, ap₂, ◌∙◌, arith, inl, inr}
 use Rattle.egt_class.specs.Prelude.{and_parts, ltb-true, eqb-true, eq-eqb, false≢true, eqb_tells, Side, White, Black}
 use Rattle.egt_class.specs.Prelude.{Kind, Q, R, B, N, P, K, Man, other_side, kind_number, side_number, stands_here}
 use Rattle.egt_class.specs.Prelude.{count_of, Setup, all_below, passes_below, materials, material_of, men_in}

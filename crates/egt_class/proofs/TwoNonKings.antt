@@ -1,8 +1,8 @@
 -- The men beside the kings, counted by taking them off the board.
-use Rattle.egt_class.specs.Prelude.{◌≡◌, ◌≢◌, ℕ, zero, suc, ◌+◌, ◌<◌, Bool, true, false, Option, Some, None, IfSome}
-use Rattle.egt_class.specs.Prelude.{arith, refl, sym, ap, ◌∙◌, inl, inr, option_map, K, Man, HasBeside, stands_here}
-use Rattle.egt_class.specs.Prelude.{count_of, Placement, Stands, get-remove_same, get-remove_other, total, Setup}
-use Rattle.egt_class.specs.Prelude.{AreNonKings}
+use Rattle.std.proofs.Common.{◌≡◌, ◌≢◌, ℕ, zero, suc, ◌+◌, ◌<◌, Bool, true, false, Option, Some, None, IfSome, arith}
+use Rattle.std.proofs.Common.{refl, sym, ap, ◌∙◌, inl, inr}
+use Rattle.egt_class.specs.Prelude.{option_map, K, Man, HasBeside, stands_here, count_of, Placement, Stands}
+use Rattle.egt_class.specs.Prelude.{get-remove_same, get-remove_other, total, Setup, AreNonKings}
 use Rattle.std.specs.FinMap as placement
 use Rattle.egt_class.proofs.NonKings.{OneKing, is_king, king_told, other_told, king_stands}
 

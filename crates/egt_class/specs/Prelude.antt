@@ -33,10 +33,6 @@ pub use Rattle.egt_class.specs.Pair.{AreNonKings, first_slot, kind_slot, slot_of
 unfoldable pub use Rattle.egt_class.specs.Pair.{class_at, flip_at}
 pub use Rattle.egt_class.specs.declared.descent.TheConstants.{CHILDREN, STARTS}
 pub use Rattle.egt_class.specs.declared.naming.TheConstants.{NAMES}
-pub use Rattle.std.proofs.Common.{Bool, IfSome, List, None, Option, Some, [], add-zero, ap, ap₂, arith, cond, eqb}
-pub use Rattle.std.proofs.Common.{false, if◌then◌else◌, inl, inr, leb, length, lit<, ltb, map, not, refl, subst, suc}
-pub use Rattle.std.proofs.Common.{sym, take, true, zero, ℕ, ◌&&◌, ◌*◌, ◌++◌, ◌+◌, ◌<◌, ◌||◌, ◌∙◌, ◌∷◌, ◌≡◌, ◌≢◌, ◌≤◌}
-pub use Rattle.std.proofs.Common.{◌⊎◌}
 pub use Rattle.std.proofs.lemmas.Bool.{and_parts, eq-eqb, eqb-true, false≢true, leb-true, ltb-true}
 pub use Rattle.std.proofs.lemmas.Bool.Decides.{eqb_tells}
 pub use Rattle.std.proofs.lemmas.Grind.{common_steps}
@@ -47,4 +43,3 @@ pub use Rattle.std.proofs.lemmas.List.Sums.{sum_by-cons}
 pub use Rattle.std.specs.List.{Contains, filter, list_all, list_any, range_with_len, sum_by}
 pub use Rattle.std.specs.List.Sorted.{IsStrictlyIncreasing}
 pub use Rattle.std.specs.Option.{option_map}
-pub use Rattle.std.specs.Prelude.{IfNone, IsTrue, count_by, slice_index, slice_index_or, ◌↔◌}

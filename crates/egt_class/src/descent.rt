@@ -1,5 +1,6 @@
 //! Which classes a capture or a promotion leads to.
-ghost use Rattle.egt_class.specs.Prelude.{◌≡◌, ◌<◌, ◌≤◌, ◌+◌, children_of, listed, child_at};
+ghost use Rattle.std.specs.Prelude.{◌≡◌, ◌<◌, ◌≤◌, ◌+◌};
+ghost use Rattle.egt_class.specs.Prelude.{children_of, listed, child_at};
 
 use crate::class::Class;
 use arrayvec::ArrayVec;

@@ -1,8 +1,8 @@
 //! What holds of classes and positions. These functions do nothing: a caller calls one to know what it ensures.
-ghost use Rattle.egt_class.specs.Prelude.{◌≡◌, ◌<◌, ◌↔◌, ◌⊎◌, ℕ, Bool, not, Option, IsTrue, Contains, option_map};
-ghost use Rattle.egt_class.specs.Prelude.{IsStrictlyIncreasing, HasBeside, other_side, Man, White, Black, Kind, Setup};
-ghost use Rattle.egt_class.specs.Prelude.{IsAdmissible, SettlesTo, AreImages, men_in, has_equal_sides, name_of, IsOf};
-ghost use Rattle.egt_class.specs.Prelude.{AreNonKings, children_of};
+ghost use Rattle.std.specs.Prelude.{◌≡◌, ◌<◌, ◌↔◌, ◌⊎◌, ℕ, Bool, not, Option, IsTrue};
+ghost use Rattle.egt_class.specs.Prelude.{Contains, option_map, IsStrictlyIncreasing, HasBeside, other_side, Man};
+ghost use Rattle.egt_class.specs.Prelude.{White, Black, Kind, Setup, IsAdmissible, SettlesTo, AreImages, men_in};
+ghost use Rattle.egt_class.specs.Prelude.{has_equal_sides, name_of, IsOf, AreNonKings, children_of};
 
 use egt_board::counting::{listed_men_are_counted, one_king_is_counted, one_square_changes};
 use egt_board::laws::images_keep_men;

@@ -1,6 +1,7 @@
 //! Of what class a position is.
-ghost use Rattle.egt_class.specs.Prelude.{◌≡◌, ◌<◌, ◌+◌, ◌*◌, IsTrue, false, option_map, Setup, has_equal_sides, IsOf};
-ghost use Rattle.egt_class.specs.Prelude.{slot_of, class_at, flip_at, AreNonKings};
+ghost use Rattle.std.specs.Prelude.{◌≡◌, ◌<◌, ◌+◌, ◌*◌, IsTrue, false};
+ghost use Rattle.egt_class.specs.Prelude.{option_map, Setup, has_equal_sides, IsOf, slot_of, class_at, flip_at};
+ghost use Rattle.egt_class.specs.Prelude.{AreNonKings};
 
 use crate::class::Class;
 use egt_board::counting::{one_king_is_counted, one_square_changes};

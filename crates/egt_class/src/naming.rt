@@ -1,6 +1,6 @@
 //! The names of classes.
-ghost use Rattle.egt_class.specs.Prelude.{◌≡◌, ◌≢◌, ◌<◌, ◌+◌, ℕ, [], ◌∷◌, ◌++◌, IfSome, IfNone, slice_index, filter};
-ghost use Rattle.egt_class.specs.Prelude.{array_string_len, name_of, is_letter};
+ghost use Rattle.std.specs.Prelude.{◌≡◌, ◌≢◌, ◌<◌, ◌+◌, ℕ, [], ◌∷◌, ◌++◌, IfSome, IfNone, slice_index};
+ghost use Rattle.egt_class.specs.Prelude.{filter, array_string_len, name_of, is_letter};
 
 use crate::class::Class;
 use arrayvec::ArrayString;

@@ -1,6 +1,6 @@
 -- The tables that are there after each load.
-use Rattle.egt_commands.specs.Prelude.{◌≡◌, ℕ, ◌+◌, ◌<◌, ◌⊎◌, inl, inr, sym, subst, arith, IsSome, cases_lt, Tables}
-use Rattle.egt_commands.specs.Prelude.{HasExactly}
+use Rattle.std.proofs.Common.{◌≡◌, ℕ, ◌+◌, ◌<◌, ◌⊎◌, inl, inr, sym, subst, arith, IsSome}
+use Rattle.egt_commands.specs.Prelude.{cases_lt, Tables, HasExactly}
 
 -- a class with a table more
 pub one_more : (old new : Tables) (n : ℕ) (P : ℕ → Type 0) → P n → HasExactly old (λ d. (d < n) × P d)

@@ -1,9 +1,9 @@
 -- Classes marked as descendants: the children of this class, and those of each marked class that is not less than a bound.
-use Rattle.egt_commands.specs.Prelude.{◌≡◌, ℕ, zero, suc, ◌+◌, ◌<◌, ◌≤◌, ◌⊎◌, ◌↔◌, inl, inr, Bool, true, false, List}
-use Rattle.egt_commands.specs.Prelude.{[], ◌∷◌, ◌++◌, length, get_or, set, take, replicate, refl, sym, ap, subst, ◌∙◌}
-use Rattle.egt_commands.specs.Prelude.{arith, Contains, cases_lt, eqb_tells, get_or-set_other, get_or-set_same}
-use Rattle.egt_commands.specs.Prelude.{length-set, take_more, Contains-append_left, Contains-push, Contains-push_cases}
-use Rattle.egt_commands.specs.Prelude.{children_of, Descends, DescendsBy, IsMarked}
+use Rattle.std.proofs.Common.{◌≡◌, ℕ, zero, suc, ◌+◌, ◌<◌, ◌≤◌, ◌⊎◌, ◌↔◌, inl, inr, Bool, true, false, List, [], ◌∷◌}
+use Rattle.std.proofs.Common.{◌++◌, length, get_or, set, take, replicate, refl, sym, ap, subst, ◌∙◌, arith}
+use Rattle.egt_commands.specs.Prelude.{Contains, cases_lt, eqb_tells, get_or-set_other, get_or-set_same, length-set}
+use Rattle.egt_commands.specs.Prelude.{take_more, Contains-append_left, Contains-push, Contains-push_cases, children_of}
+use Rattle.egt_commands.specs.Prelude.{Descends, DescendsBy, IsMarked}
 
 -- the marks of these classes are added
 abbrev pub Marks : List Bool → List Bool → List ℕ → Type 0

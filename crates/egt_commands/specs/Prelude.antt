@@ -14,12 +14,8 @@ pub use Rattle.egt_fen.specs.declared.fen.Fen.{Fen}
 unfoldable pub use Rattle.egt_index.specs.Size.{size_of}
 pub use Rattle.egt_table.specs.Table.{HasColumn, entries_of}
 pub use Rattle.egt_table.specs.declared.column.Column.TheVariants.{Mate}
-pub use Rattle.std.proofs.Common.{Bool, List, [], add-one, ap, arith, count_by, false, get_or, inl, inr, length, refl}
-pub use Rattle.std.proofs.Common.{replicate, set, subst, suc, sym, take, true, zero, ℕ, ◌+◌, ◌-◌, ◌<◌, ◌∙◌, ◌∷◌, ◌≡◌}
-pub use Rattle.std.proofs.Common.{◌≤◌}
 pub use Rattle.std.proofs.lemmas.Bool.{cases_lt, false≢true}
 pub use Rattle.std.proofs.lemmas.Bool.Decides.{eqb_tells}
 pub use Rattle.std.proofs.lemmas.List.{get_or-set_other, get_or-set_same, length-set, take_all, take_more}
 pub use Rattle.std.proofs.lemmas.List.Elements.{Contains-append_left, Contains-push, Contains-push_cases}
 pub use Rattle.std.specs.List.{Contains}
-pub use Rattle.std.specs.Prelude.{Err, IfOk, IsSome, IsTrue, OnOk, max, option_map, unwrap_or, ◌++◌, ◌↔◌, ◌⊎◌}

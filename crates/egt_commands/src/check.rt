@@ -1,5 +1,6 @@
 //! The check of a table's file.
-ghost use Rattle.egt_commands.specs.Prelude.{OnOk, IsAccepted, table_at};
+ghost use Rattle.std.specs.Prelude.{OnOk};
+ghost use Rattle.egt_commands.specs.Prelude.{IsAccepted, table_at};
 
 use crate::line::name_line;
 use crate::loading::load_whole;

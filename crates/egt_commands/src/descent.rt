@@ -1,5 +1,6 @@
 //! The classes that play can lead to.
-ghost use Rattle.egt_commands.specs.Prelude.{◌↔◌, ◌<◌, ◌⊎◌, ℕ, Contains, children_of, Descends, IsMarked};
+ghost use Rattle.std.specs.Prelude.{◌↔◌, ◌<◌, ◌⊎◌, ℕ};
+ghost use Rattle.egt_commands.specs.Prelude.{Contains, children_of, Descends, IsMarked};
 
 use egt_class::laws::children_have_smaller_numbers;
 use egt_class::{Class, children};

@@ -1,5 +1,6 @@
 //! The classes of positions as text.
-ghost use Rattle.egt_commands.specs.Prelude.{◌≡◌, ◌++◌, IfOk, OnOk, class_line, lines_below};
+ghost use Rattle.std.specs.Prelude.{◌≡◌, ◌++◌, IfOk, OnOk};
+ghost use Rattle.egt_commands.specs.Prelude.{class_line, lines_below};
 
 use crate::printer::print;
 use crate::run_fault::RunFault;

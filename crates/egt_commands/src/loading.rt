@@ -1,5 +1,6 @@
 //! Tables read from the files of a folder into a library.
-ghost use Rattle.egt_commands.specs.Prelude.{◌≡◌, ◌⊎◌, IfOk, OnOk, IsSome, table_at, Descends, HasExactly};
+ghost use Rattle.std.specs.Prelude.{◌≡◌, ◌⊎◌, IfOk, OnOk, IsSome};
+ghost use Rattle.egt_commands.specs.Prelude.{table_at, Descends, HasExactly};
 
 use crate::descent::descendants;
 use crate::run_fault::RunFault;

@@ -1,6 +1,7 @@
 //! The search for mate from a FEN, as text.
-ghost use Rattle.egt_commands.specs.Prelude.{◌≡◌, ◌<◌, ◌≤◌, IfOk, Err, FenFault, Fen, Spells, IsFirstFault, TellsMate};
-ghost use Rattle.egt_commands.specs.Prelude.{mate_line, no_mate_line, side_name};
+ghost use Rattle.std.specs.Prelude.{◌≡◌, ◌<◌, ◌≤◌, IfOk, Err};
+ghost use Rattle.egt_commands.specs.Prelude.{FenFault, Fen, Spells, IsFirstFault, TellsMate, mate_line, no_mate_line};
+ghost use Rattle.egt_commands.specs.Prelude.{side_name};
 
 use crate::fault::MovesFault;
 use crate::printer::print;

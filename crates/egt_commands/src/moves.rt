@@ -1,5 +1,6 @@
 //! The legal moves of a FEN as text.
-ghost use Rattle.egt_commands.specs.Prelude.{◌≡◌, IfOk, Err, FenFault, Fen, Spells, IsFirstFault, ListsMoves, lines_of};
+ghost use Rattle.std.specs.Prelude.{◌≡◌, IfOk, Err};
+ghost use Rattle.egt_commands.specs.Prelude.{FenFault, Fen, Spells, IsFirstFault, ListsMoves, lines_of};
 
 use crate::fault::MovesFault;
 use crate::printer::print;

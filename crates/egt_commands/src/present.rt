@@ -1,5 +1,6 @@
 //! The tables of all files that a folder has, read into a library.
-ghost use Rattle.egt_commands.specs.Prelude.{◌≡◌, ◌⊎◌, IfOk, IsSome, IsTrue, table_at, HasExactly};
+ghost use Rattle.std.specs.Prelude.{◌≡◌, ◌⊎◌, IfOk, IsSome, IsTrue};
+ghost use Rattle.egt_commands.specs.Prelude.{table_at, HasExactly};
 
 use crate::descent::descendants;
 use crate::loading::{load, open};

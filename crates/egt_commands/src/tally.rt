@@ -1,6 +1,6 @@
 //! How many entries of a table show something, and the most plies.
-ghost use Rattle.egt_commands.specs.Prelude.{◌≡◌, length, count_by, max, option_map, unwrap_or, HasColumn, entries_of};
-ghost use Rattle.egt_commands.specs.Prelude.{Mate, shows, plies_of, IsLongest};
+ghost use Rattle.std.specs.Prelude.{◌≡◌, length, count_by, max, option_map, unwrap_or};
+ghost use Rattle.egt_commands.specs.Prelude.{HasColumn, entries_of, Mate, shows, plies_of, IsLongest};
 ghost use Rattle.egt_commands.specs.declared.tally.Shown.TheVariants as kinds;
 
 use egt_index::size;

@@ -1,6 +1,7 @@
 -- What fits beside the successors of one position fits beside those of another that plays like it.
-use Rattle.egt_entries.specs.Prelude.{ℕ, zero, suc, ◌≤◌, ◌↔◌, ⊎_map, Setup, Value, Win, Loss, Draw, SomeMove}
-use Rattle.egt_entries.specs.Prelude.{IsStalemate, chess, Metric, Mate, Zeroing, Shown, Counts, FitsBeside}
+use Rattle.std.specs.Prelude.{ℕ, zero, suc, ◌≤◌, ◌↔◌}
+use Rattle.egt_entries.specs.Prelude.{⊎_map, Setup, Value, Win, Loss, Draw, SomeMove, IsStalemate, chess, Metric, Mate}
+use Rattle.egt_entries.specs.Prelude.{Zeroing, Shown, Counts, FitsBeside}
 
 -- the same is shown of both positions
 abbrev pub ShownAlike : Shown → Shown → Setup → Setup → Type 0

@@ -1,11 +1,11 @@
 -- Which entry is due, by the best score of a step.
-use Rattle.egt_entries.specs.Prelude.{◌≡◌, ℕ, zero, suc, IfSome, ◌+◌, ◌<◌, ◌≤◌, ◌⊎◌, ◌↔◌, inl, inr, Bool, true, false}
-use Rattle.egt_entries.specs.Prelude.{IsTrue, Option, Some, None, refl, sym, ap, subst, ◌∙◌, arith, cases_lt, Setup}
-use Rattle.egt_entries.specs.Prelude.{Value, Win, Loss, Draw, NoMove, SomeMove, IsStalemate, Ends, chess, StandsAs}
-use Rattle.egt_entries.specs.Prelude.{Standing, Checkmate, Stalemate, HasMove, Metric, Mate, Zeroing, ByMetric, Outcome}
-use Rattle.egt_entries.specs.Prelude.{longest, IsShort, entry_of, Shown, Counts, FitsBeside, number_at, value_of, Says}
-use Rattle.egt_entries.specs.Prelude.{IsCounted, IsSaid, score_of, IsBest, loss_in, win_in, zeroing_said, IsAtEnd}
-use Rattle.egt_entries.specs.Prelude.{entry_before, IsDueDraw, IsDue}
+use Rattle.std.proofs.Common.{◌≡◌, ℕ, zero, suc, IfSome, ◌+◌, ◌<◌, ◌≤◌, ◌⊎◌, ◌↔◌, inl, inr, Bool, true, false, IsTrue}
+use Rattle.std.proofs.Common.{Option, Some, None, refl, sym, ap, subst, ◌∙◌, arith}
+use Rattle.egt_entries.specs.Prelude.{cases_lt, Setup, Value, Win, Loss, Draw, NoMove, SomeMove, IsStalemate, Ends}
+use Rattle.egt_entries.specs.Prelude.{chess, StandsAs, Standing, Checkmate, Stalemate, HasMove, Metric, Mate, Zeroing}
+use Rattle.egt_entries.specs.Prelude.{ByMetric, Outcome, longest, IsShort, entry_of, Shown, Counts, FitsBeside}
+use Rattle.egt_entries.specs.Prelude.{number_at, value_of, Says, IsCounted, IsSaid, score_of, IsBest, loss_in, win_in}
+use Rattle.egt_entries.specs.Prelude.{zeroing_said, IsAtEnd, entry_before, IsDueDraw, IsDue}
 use Rattle.egt_entries.specs.declared.outcome.Outcome.TheVariants as outcomes
 
 -- what each column shows of a position is one thing, for which an entry has room

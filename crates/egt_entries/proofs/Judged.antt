@@ -1,7 +1,7 @@
 -- One index more is judged.
-use Rattle.egt_entries.specs.Prelude.{◌≡◌, ℕ, ◌+◌, inl, inr, Option, Some, None, subst, arith, cases_lt, Metric, Mate}
-use Rattle.egt_entries.specs.Prelude.{Zeroing, TableValue, Rule, earlier, IsFirstBad, Keeps, KeepsReach, IsJudged}
-use Rattle.egt_entries.specs.Prelude.{IsJudgedBy, KeepsBelow, KeepsReachBelow, Tables}
+use Rattle.std.proofs.Common.{◌≡◌, ℕ, ◌+◌, inl, inr, Option, Some, None, subst, arith}
+use Rattle.egt_entries.specs.Prelude.{cases_lt, Metric, Mate, Zeroing, TableValue, Rule, earlier, IsFirstBad, Keeps}
+use Rattle.egt_entries.specs.Prelude.{KeepsReach, IsJudged, IsJudgedBy, KeepsBelow, KeepsReachBelow, Tables}
 
 module _ (tables : Tables) (t : TableValue) where
   pub keeps_more : (metric : Metric) (n : ℕ) → KeepsBelow tables t metric n → IsJudged tables t metric n None → KeepsBelow tables t metric (n + 1)

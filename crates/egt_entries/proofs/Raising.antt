@@ -1,9 +1,9 @@
 -- The best score grows move by move.
-use Rattle.egt_entries.specs.Prelude.{◌≡◌, ℕ, ◌+◌, ◌<◌, ◌≤◌, ◌⊎◌, max, List, get_or, length, Option, Some, None, IfSome}
-use Rattle.egt_entries.specs.Prelude.{refl, sym, ap, subst, ◌∙◌, inl, inr, arith, IfNone, Contains, cases_lt}
-use Rattle.egt_entries.specs.Prelude.{get_or_default, Setup, NoMove, chess, Leads, IsLegal, Move, Metric, Mate}
-use Rattle.egt_entries.specs.Prelude.{ByMetric, Shown, AtMost, IsReached, IsRaised, best_in, AreRaised, number_at}
-use Rattle.egt_entries.specs.Prelude.{greater, Scores, IsBest}
+use Rattle.std.proofs.Common.{◌≡◌, ℕ, ◌+◌, ◌<◌, ◌≤◌, ◌⊎◌, max, List, get_or, length, Option, Some, None, IfSome, refl}
+use Rattle.std.proofs.Common.{sym, ap, subst, ◌∙◌, inl, inr, arith}
+use Rattle.egt_entries.specs.Prelude.{IfNone, Contains, cases_lt, get_or_default, Setup, NoMove, chess, Leads, IsLegal}
+use Rattle.egt_entries.specs.Prelude.{Move, Metric, Mate, ByMetric, Shown, AtMost, IsReached, IsRaised, best_in}
+use Rattle.egt_entries.specs.Prelude.{AreRaised, number_at, greater, Scores, IsBest}
 
 more : (low high : ℕ) (best : Option ℕ) → low ≤ high → AtMost high best → AtMost low best
 more low high None le h = absurd h

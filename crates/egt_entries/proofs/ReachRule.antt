@@ -1,7 +1,8 @@
 -- From what comparing finds to the first rule that an entry of the column of the nearest mates breaks.
-use Rattle.egt_entries.specs.Prelude.{◌≡◌, ◌≢◌, ℕ, ◌-◌, ◌<◌, Option, Some, None, sym, subst, ◌∙◌, arith, Setup, Spells}
-use Rattle.egt_entries.specs.Prelude.{IsVoid, TableValue, Rule, FitsReachBeside, IsReachDue, ShowsReach, ShowsReachOf}
-use Rattle.egt_entries.specs.Prelude.{FindsReach, FitsReach, IsJudgedBy, KeepsReach, rule_place, Tables, reach_at}
+use Rattle.std.proofs.Common.{◌≡◌, ◌≢◌, ℕ, ◌-◌, ◌<◌, Option, Some, None, sym, subst, ◌∙◌, arith}
+use Rattle.egt_entries.specs.Prelude.{Setup, Spells, IsVoid, TableValue, Rule, FitsReachBeside, IsReachDue, ShowsReach}
+use Rattle.egt_entries.specs.Prelude.{ShowsReachOf, FindsReach, FitsReach, IsJudgedBy, KeepsReach, rule_place, Tables}
+use Rattle.egt_entries.specs.Prelude.{reach_at}
 use Rattle.egt_entries.specs.declared.rule.Rule.TheVariants as rules
 
 module _ (tables : Tables) (t : TableValue) (i : ℕ) where

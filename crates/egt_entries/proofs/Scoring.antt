@@ -1,7 +1,8 @@
 -- The scores of what entries show.
-use Rattle.egt_entries.specs.Prelude.{◌≡◌, ◌≢◌, ℕ, ◌-◌, ◌/◌, ◌%◌, ◌<◌, ◌≤◌, Bool, true, false, leb, Option, Some, None}
-use Rattle.egt_entries.specs.Prelude.{arith, refl, inl, inr, cases_eq, cases_lt, le-leb, leb-true, Win, Loss, Draw}
-use Rattle.egt_entries.specs.Prelude.{Outcome, IsShownBy, is_decisive, score_of}
+use Rattle.std.proofs.Common.{◌≡◌, ◌≢◌, ℕ, ◌-◌, ◌/◌, ◌%◌, ◌<◌, ◌≤◌, Bool, true, false, leb, Option, Some, None, arith}
+use Rattle.std.proofs.Common.{refl, inl, inr}
+use Rattle.egt_entries.specs.Prelude.{cases_eq, cases_lt, le-leb, leb-true, Win, Loss, Draw, Outcome, IsShownBy}
+use Rattle.egt_entries.specs.Prelude.{is_decisive, score_of}
 use Rattle.egt_entries.specs.declared.outcome.Outcome.TheVariants as outcomes
 
 -- an entry from 3 to 64,003 shows something

@@ -27,9 +27,6 @@ pub use Rattle.egt_moves.specs.declared.chess_move.Move.{Move}
 pub use Rattle.egt_moves.specs.declared.outcome.Standing.{Standing}
 pub use Rattle.egt_moves.specs.declared.outcome.Standing.TheVariants.{Checkmate, HasMove, Stalemate}
 pub use Rattle.egt_table.specs.Table.{TableValue}
-pub use Rattle.std.proofs.Common.{Bool, IfSome, IsTrue, List, None, Option, Some, ap, arith, false, get_or, inl, inr}
-pub use Rattle.std.proofs.Common.{leb, length, max, refl, subst, suc, sym, true, zero, ℕ, ◌%◌, ◌+◌, ◌-◌, ◌/◌, ◌<◌, ◌↔◌}
-pub use Rattle.std.proofs.Common.{◌∙◌, ◌≡◌, ◌≢◌, ◌≤◌, ◌⊎◌}
 pub use Rattle.std.proofs.Math.Logic.{⊎_map}
 pub use Rattle.std.proofs.lemmas.Bool.{cases_eq, cases_lt, le-leb, leb-true}
 pub use Rattle.std.proofs.lemmas.List.{get_or_default}

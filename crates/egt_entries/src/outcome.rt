@@ -1,6 +1,7 @@
 //! What entries show, and the scores of steps by what they say.
-ghost use Rattle.egt_entries.specs.Prelude.{◌≡◌, ◌<◌, ◌≤◌, true, Option, IfSome, IsShownBy, IsCounted, is_decisive};
-ghost use Rattle.egt_entries.specs.Prelude.{zeroing_said, score_of, entry_before, Outcome};
+ghost use Rattle.std.specs.Prelude.{◌≡◌, ◌<◌, ◌≤◌, true, Option, IfSome};
+ghost use Rattle.egt_entries.specs.Prelude.{IsShownBy, IsCounted, is_decisive, zeroing_said, score_of, entry_before};
+ghost use Rattle.egt_entries.specs.Prelude.{Outcome};
 
 /// What an entry shows of a position, for the side to move: a win or a loss in so many plies, or a draw.
 #[derive(Clone, Copy)]

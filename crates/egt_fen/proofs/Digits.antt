@@ -1,8 +1,8 @@
 -- The digits of a clock.
-use Rattle.egt_fen.specs.Prelude.{◌≡◌, ℕ, zero, suc, ◌+◌, ◌-◌, ◌*◌, ◌^◌, ◌<◌, ◌≤◌, true, List, [], ◌∷◌, length, take}
-use Rattle.egt_fen.specs.Prelude.{get_or, arith, lit≤, digit_value, is_ascii_digit, list_all, digits_value, AllDigits}
-use Rattle.egt_fen.specs.Prelude.{and_parts, nat_tests, digits_value_more, digits_value-lt, digits_value-take-le}
-use Rattle.egt_fen.specs.Prelude.{pow-le-pow_right}
+use Rattle.std.proofs.Common.{◌≡◌, ℕ, zero, suc, ◌+◌, ◌-◌, ◌*◌, ◌^◌, ◌<◌, ◌≤◌, true, List, [], ◌∷◌, length, take}
+use Rattle.std.proofs.Common.{get_or, arith, lit≤}
+use Rattle.egt_fen.specs.Prelude.{digit_value, is_ascii_digit, list_all, digits_value, AllDigits, and_parts, nat_tests}
+use Rattle.egt_fen.specs.Prelude.{digits_value_more, digits_value-lt, digits_value-take-le, pow-le-pow_right}
 
 -- a byte whose value is below ten is a decimal digit
 pub record IsDigit (c : ℕ) : Type 0 where

@@ -1,7 +1,8 @@
 -- A text has one first fault at most, and none where it spells a position.
-use Rattle.egt_fen.specs.Prelude.{◌≡◌, ℕ, List, Result, Ok, Err, refl, sym, ap, ◌∙◌, subst, MatchResult, PosFault}
-use Rattle.egt_fen.specs.Prelude.{MenCount, KingCount, PawnRank, EpMismatch, WaitingInCheck, Man, Setup, IsAdmissible}
-use Rattle.egt_fen.specs.Prelude.{FenFault, Fen, fault_of, Parts, parts_of, Spells, IsSetupFault, IsFirstFault}
+use Rattle.std.proofs.Common.{◌≡◌, ℕ, List, Result, Ok, Err, refl, sym, ap, ◌∙◌, subst}
+use Rattle.egt_fen.specs.Prelude.{MatchResult, PosFault, MenCount, KingCount, PawnRank, EpMismatch, WaitingInCheck, Man}
+use Rattle.egt_fen.specs.Prelude.{Setup, IsAdmissible, FenFault, Fen, fault_of, Parts, parts_of, Spells, IsSetupFault}
+use Rattle.egt_fen.specs.Prelude.{IsFirstFault}
 use Rattle.egt_board.specs.Listed as listed
 use Rattle.egt_fen.proofs.Spelling.{parts_with, spelled_read, spelled_admits}
 

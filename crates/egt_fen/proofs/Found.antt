@@ -1,8 +1,8 @@
 -- The men of a placement, rank by rank and square by square, and the placement that they make.
-use Rattle.egt_fen.specs.Prelude.{◌≡◌, ◌≢◌, ℕ, zero, suc, ◌+◌, ◌-◌, ◌*◌, ◌<◌, ◌≤◌, true, false, cond, List, [], ◌∷◌}
-use Rattle.egt_fen.specs.Prelude.{◌++◌, length, map, get_or, Option, Some, None, arith, refl, sym, ap, ◌∙◌, inl, inr}
-use Rattle.egt_fen.specs.Prelude.{subst, nat_cmp, eq_by_cmp, nat_cmp_total, option_or, is_some, cases_lt, cases_eq}
-use Rattle.egt_fen.specs.Prelude.{append-nil, Man, Placement, Stands, same_men, tied, untied, squares_of}
+use Rattle.std.proofs.Common.{◌≡◌, ◌≢◌, ℕ, zero, suc, ◌+◌, ◌-◌, ◌*◌, ◌<◌, ◌≤◌, true, false, cond, List, [], ◌∷◌, ◌++◌}
+use Rattle.std.proofs.Common.{length, map, get_or, Option, Some, None, arith, refl, sym, ap, ◌∙◌, inl, inr, subst}
+use Rattle.egt_fen.specs.Prelude.{nat_cmp, eq_by_cmp, nat_cmp_total, option_or, is_some, cases_lt, cases_eq, append-nil}
+use Rattle.egt_fen.specs.Prelude.{Man, Placement, Stands, same_men, tied, untied, squares_of}
 use Rattle.std.specs.FinMap as placement
 use Rattle.egt_board.specs.Listed as board
 use Rattle.egt_fen.proofs.Written.{squares_of-at, length-squares_of}

@@ -1,12 +1,12 @@
 -- The fields of a written text have neither spaces nor carriage returns, so they are found again.
-use Rattle.egt_fen.specs.Prelude.{◌≡◌, ◌≢◌, ℕ, zero, suc, ◌+◌, ◌-◌, ◌<◌, Bool, true, false, cond, ◌&&◌, not, ltb, leb}
-use Rattle.egt_fen.specs.Prelude.{List, [], ◌∷◌, ◌++◌, length, get_or, take, filter, Option, Some, None, arith, refl}
-use Rattle.egt_fen.specs.Prelude.{ap, ◌∙◌, slice_split, onto_first, list_all, join_with_byte, is_ascii_digit, decimal}
-use Rattle.egt_fen.specs.Prelude.{AllDigits, digits_value, and_from, and_parts, ltb-true, lt-ltb, le-leb, ne_eqb}
-use Rattle.egt_fen.specs.Prelude.{nat_tests, list_all-append, decimal_is_IsNumeral, decimal_nonempty, length-decimal-le}
-use Rattle.egt_fen.specs.Prelude.{Side, White, Black, Kind, Q, R, B, N, P, K, Man, Placement, file_of, rank_of}
-use Rattle.egt_fen.specs.Prelude.{letter_of, line_of, is_space, has_bytes, runs_of, counter_of, gap_text, squares_text}
-use Rattle.egt_fen.specs.Prelude.{squares_of, rank_text, ranks_text, placement_text, side_text, target_text}
+use Rattle.std.proofs.Common.{◌≡◌, ◌≢◌, ℕ, zero, suc, ◌+◌, ◌-◌, ◌<◌, Bool, true, false, cond, ◌&&◌, not, ltb, leb, List}
+use Rattle.std.proofs.Common.{[], ◌∷◌, ◌++◌, length, get_or, take, filter, Option, Some, None, arith, refl, ap, ◌∙◌}
+use Rattle.egt_fen.specs.Prelude.{slice_split, onto_first, list_all, join_with_byte, is_ascii_digit, decimal, AllDigits}
+use Rattle.egt_fen.specs.Prelude.{digits_value, and_from, and_parts, ltb-true, lt-ltb, le-leb, ne_eqb, nat_tests}
+use Rattle.egt_fen.specs.Prelude.{list_all-append, decimal_is_IsNumeral, decimal_nonempty, length-decimal-le, Side}
+use Rattle.egt_fen.specs.Prelude.{White, Black, Kind, Q, R, B, N, P, K, Man, Placement, file_of, rank_of, letter_of}
+use Rattle.egt_fen.specs.Prelude.{line_of, is_space, has_bytes, runs_of, counter_of, gap_text, squares_text, squares_of}
+use Rattle.egt_fen.specs.Prelude.{rank_text, ranks_text, placement_text, side_text, target_text}
 use Rattle.egt_fen.proofs.Digits.{IsDigit, digit_is}
 
 -- above the space, and so no carriage return either

@@ -1,8 +1,8 @@
 -- What a man's letter is not, and what a byte adds to a placement that is read from its front.
-use Rattle.egt_fen.specs.Prelude.{◌≡◌, ℕ, ◌+◌, ◌-◌, ◌*◌, ◌<◌, Bool, true, false, cond, ◌&&◌, leb, ltb, List, [], ◌∷◌}
-use Rattle.egt_fen.specs.Prelude.{◌++◌, Option, Some, None, arith, refl, sym, ap, ◌∙◌, option_map, is_some, false≢true}
-use Rattle.egt_fen.specs.Prelude.{agree_below_at, le-leb, append_assoc, Man, man_of, is_slash, width_of, on_square}
-use Rattle.egt_fen.specs.Prelude.{men_left}
+use Rattle.std.proofs.Common.{◌≡◌, ℕ, ◌+◌, ◌-◌, ◌*◌, ◌<◌, Bool, true, false, cond, ◌&&◌, leb, ltb, List, [], ◌∷◌, ◌++◌}
+use Rattle.std.proofs.Common.{Option, Some, None, arith, refl, sym, ap, ◌∙◌}
+use Rattle.egt_fen.specs.Prelude.{option_map, is_some, false≢true, agree_below_at, le-leb, append_assoc, Man, man_of}
+use Rattle.egt_fen.specs.Prelude.{is_slash, width_of, on_square, men_left}
 
 -- neither a slash nor a digit is a letter
 slash_no_letter : (c : ℕ) → c < 256 → (is_slash c && is_some (man_of c)) ≡ false

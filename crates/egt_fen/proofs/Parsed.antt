@@ -1,10 +1,10 @@
 -- The written placement, read again.
-use Rattle.egt_fen.specs.Prelude.{◌≡◌, ℕ, zero, suc, ◌+◌, ◌-◌, ◌*◌, ◌<◌, ◌≤◌, Bool, false, cond, ◌&&◌, ltb, leb, List}
-use Rattle.egt_fen.specs.Prelude.{[], ◌∷◌, ◌++◌, length, Option, Some, None, arith, refl, sym, ap, ◌∙◌, option_map}
-use Rattle.egt_fen.specs.Prelude.{add-zero, lt-ltb, le-leb, append_assoc, append-nil, Side, White, Black, Kind, Q, R, B}
-use Rattle.egt_fen.specs.Prelude.{N, P, K, Man, Placement, man_of, letter_of, is_slash, width_of, on_square}
-use Rattle.egt_fen.specs.Prelude.{placement_of, men_left, gap_text, squares_text, squares_of, rank_text, ranks_text}
-use Rattle.egt_fen.specs.Prelude.{placement_text}
+use Rattle.std.proofs.Common.{◌≡◌, ℕ, zero, suc, ◌+◌, ◌-◌, ◌*◌, ◌<◌, ◌≤◌, Bool, false, cond, ◌&&◌, ltb, leb, List, []}
+use Rattle.std.proofs.Common.{◌∷◌, ◌++◌, length, Option, Some, None, arith, refl, sym, ap, ◌∙◌}
+use Rattle.egt_fen.specs.Prelude.{option_map, add-zero, lt-ltb, le-leb, append_assoc, append-nil, Side, White, Black}
+use Rattle.egt_fen.specs.Prelude.{Kind, Q, R, B, N, P, K, Man, Placement, man_of, letter_of, is_slash, width_of}
+use Rattle.egt_fen.specs.Prelude.{on_square, placement_of, men_left, gap_text, squares_text, squares_of, rank_text}
+use Rattle.egt_fen.specs.Prelude.{ranks_text, placement_text}
 use Rattle.egt_fen.proofs.Written.{length-squares_of}
 use Rattle.egt_fen.proofs.Letters.{men_left-letter}
 use Rattle.egt_fen.proofs.Ranks.{men_left_is}

@@ -1,10 +1,11 @@
 -- A placement read from its front is the placement read by ranks.
-use Rattle.egt_fen.specs.Prelude.{◌≡◌, ◌≢◌, ℕ, zero, suc, ◌+◌, ◌-◌, ◌*◌, ◌<◌, Bool, true, false, cond, ◌&&◌, eqb, ltb}
-use Rattle.egt_fen.specs.Prelude.{leb, List, [], ◌∷◌, ◌++◌, length, Option, Some, None, arith, refl, sym, ap, ◌∙◌, inl}
-use Rattle.egt_fen.specs.Prelude.{inr, add_assoc, slice_split, list_all, onto_first, sum_by, option_map, add-zero}
-use Rattle.egt_fen.specs.Prelude.{zero-add, cases_Bool, lt-ltb, eqb-true, eqb-false, eq-eqb, ne_eqb, leb-false}
-use Rattle.egt_fen.specs.Prelude.{append_assoc, sum_by-cons, Man, man_of, is_slash, width_of, has_width, is_rank}
-use Rattle.egt_fen.specs.Prelude.{on_square, men_from, men_of_ranks, ranks_of, placement_of, men_left}
+use Rattle.std.proofs.Common.{◌≡◌, ◌≢◌, ℕ, zero, suc, ◌+◌, ◌-◌, ◌*◌, ◌<◌, Bool, true, false, cond, ◌&&◌, eqb, ltb, leb}
+use Rattle.std.proofs.Common.{List, [], ◌∷◌, ◌++◌, length, Option, Some, None, arith, refl, sym, ap, ◌∙◌, inl, inr}
+use Rattle.std.proofs.Common.{add_assoc}
+use Rattle.egt_fen.specs.Prelude.{slice_split, list_all, onto_first, sum_by, option_map, add-zero, zero-add, cases_Bool}
+use Rattle.egt_fen.specs.Prelude.{lt-ltb, eqb-true, eqb-false, eq-eqb, ne_eqb, leb-false, append_assoc, sum_by-cons}
+use Rattle.egt_fen.specs.Prelude.{Man, man_of, is_slash, width_of, has_width, is_rank, on_square, men_from}
+use Rattle.egt_fen.specs.Prelude.{men_of_ranks, ranks_of, placement_of, men_left}
 
 abbrev Men : Type 0
 Men = List (Man × ℕ)

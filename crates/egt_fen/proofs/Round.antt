@@ -1,10 +1,11 @@
 -- The written text of a position with its clocks spells it, and no bytes spell two.
-use Rattle.egt_fen.specs.Prelude.{and_from, le-leb, ◌≡◌, ℕ, ◌+◌, ◌-◌, ◌*◌, ◌/◌, ◌%◌, ◌<◌, ◌⊎◌, inl, inr, cond, leb}
-use Rattle.egt_fen.specs.Prelude.{List, [], ◌∷◌, Option, Some, None, arith, refl, sym, ap, ◌∙◌, subst, props, setup_of}
-use Rattle.egt_fen.specs.Prelude.{Setup, IsAdmissible, Placement, FitsTarget, target_rank, Fen, Side, White, Black}
-use Rattle.egt_fen.specs.Prelude.{Fields, fields_of, named, runs_of, side_of, file_of, rank_of, is_file, is_passed_rank}
-use Rattle.egt_fen.specs.Prelude.{target_of, both, counter_of, clocks_of, Parts, canonical, fields_text, placement_text}
-use Rattle.egt_fen.specs.Prelude.{side_text, target_text, Spells, decimal}
+use Rattle.std.proofs.Common.{◌≡◌, ℕ, ◌+◌, ◌-◌, ◌*◌, ◌/◌, ◌%◌, ◌<◌, ◌⊎◌, inl, inr, cond, leb, List, [], ◌∷◌, Option}
+use Rattle.std.proofs.Common.{Some, None, arith, refl, sym, ap, ◌∙◌, subst}
+use Rattle.egt_fen.specs.Prelude.{and_from, le-leb, props, setup_of, Setup, IsAdmissible, Placement, FitsTarget}
+use Rattle.egt_fen.specs.Prelude.{target_rank, Fen, Side, White, Black, Fields, fields_of, named, runs_of, side_of}
+use Rattle.egt_fen.specs.Prelude.{file_of, rank_of, is_file, is_passed_rank, target_of, both, counter_of, clocks_of}
+use Rattle.egt_fen.specs.Prelude.{Parts, canonical, fields_text, placement_text, side_text, target_text, Spells}
+use Rattle.egt_fen.specs.Prelude.{decimal}
 use Rattle.egt_fen.proofs.Found.{listed_ranks, men_of-ranks, ranks-FitsBoard}
 use Rattle.egt_fen.proofs.Ink.{AreWords, placement_word, side_word, target_word, decimal_word, runs_of-words, line_of-words, counter_read}
 use Rattle.egt_fen.proofs.Parsed.{placement_read}

@@ -1,6 +1,6 @@
 -- The runs of a text: where the first ends and the rest begins.
-use Rattle.egt_fen.specs.Prelude.{◌≡◌, ◌≢◌, ℕ, suc, ◌+◌, ◌<◌, Bool, true, false, cond, not, ltb, List, [], ◌∷◌, length}
-use Rattle.egt_fen.specs.Prelude.{take, drop, get_or, filter, Some, None, unwrap_or, arith, refl, sym, ap, ◌∙◌, subst}
+use Rattle.std.proofs.Common.{◌≡◌, ◌≢◌, ℕ, suc, ◌+◌, ◌<◌, Bool, true, false, cond, not, ltb, List, [], ◌∷◌, length}
+use Rattle.std.proofs.Common.{take, drop, get_or, filter, Some, None, unwrap_or, arith, refl, sym, ap, ◌∙◌, subst}
 use Rattle.egt_fen.specs.Prelude.{slice_split, position_or_len, position, onto_first, false≢true, ne_eqb, eqb-false}
 use Rattle.egt_fen.specs.Prelude.{ltb-false, slice_split-cons_yes, prefix_len-le-length, is_space, is_other, has_bytes}
 use Rattle.egt_fen.specs.Prelude.{runs_of}

@@ -1,8 +1,8 @@
 -- What a text spells and what its parts say are the same.
-use Rattle.egt_fen.specs.Prelude.{◌≡◌, ℕ, List, Option, Some, None, Result, Ok, Err, refl, sym, ap, ◌∙◌, subst, IsOk}
-use Rattle.egt_fen.specs.Prelude.{IsErr, Side, Man, setup_of, FitsBoard, Setup, IsAdmissible, FenFault, Fen, Fields}
-use Rattle.egt_fen.specs.Prelude.{fields_of, placement_of, side_of, castling_of, target_of, clocks_of, Parts, ◌>>=◌}
-use Rattle.egt_fen.specs.Prelude.{expect, parts_of, Spells}
+use Rattle.std.proofs.Common.{◌≡◌, ℕ, List, Option, Some, None, Result, Ok, Err, refl, sym, ap, ◌∙◌, subst}
+use Rattle.egt_fen.specs.Prelude.{IsOk, IsErr, Side, Man, setup_of, FitsBoard, Setup, IsAdmissible, FenFault, Fen}
+use Rattle.egt_fen.specs.Prelude.{Fields, fields_of, placement_of, side_of, castling_of, target_of, clocks_of, Parts}
+use Rattle.egt_fen.specs.Prelude.{◌>>=◌, expect, parts_of, Spells}
 use Rattle.egt_fen.specs.declared.fault.FenFault.TheVariants.{FieldCount, Placement, Colour, Castling, EpField, Counter}
 
 pub not_both : {T E : Type 0} (r : Result T E) → IsErr r → IsOk r → ⊥

@@ -1,8 +1,8 @@
 -- The placement as it is written: a rank square by square, and the ranks one below the other.
-use Rattle.egt_fen.specs.Prelude.{◌≡◌, ℕ, zero, suc, ◌+◌, ◌*◌, ◌<◌, ◌≤◌, List, [], ◌∷◌, ◌++◌, length, drop, get_or}
-use Rattle.egt_fen.specs.Prelude.{Some, None, arith, refl, sym, ap, ◌∙◌, add-zero, append_assoc, append-nil}
-use Rattle.egt_fen.specs.Prelude.{at_drop_more, at_drop_all, Man, Placement, letter_of, gap_text, squares_text}
-use Rattle.egt_fen.specs.Prelude.{squares_of, rank_text, ranks_text, placement_text}
+use Rattle.std.proofs.Common.{◌≡◌, ℕ, zero, suc, ◌+◌, ◌*◌, ◌<◌, ◌≤◌, List, [], ◌∷◌, ◌++◌, length, drop, get_or, Some}
+use Rattle.std.proofs.Common.{None, arith, refl, sym, ap, ◌∙◌}
+use Rattle.egt_fen.specs.Prelude.{add-zero, append_assoc, append-nil, at_drop_more, at_drop_all, Man, Placement}
+use Rattle.egt_fen.specs.Prelude.{letter_of, gap_text, squares_text, squares_of, rank_text, ranks_text, placement_text}
 use Rattle.std.specs.FinMap as placement
 
 -- what stands on a square of the rank

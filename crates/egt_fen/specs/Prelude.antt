@@ -34,10 +34,6 @@ pub use Rattle.egt_fen.specs.Walk.{men_left}
 pub use Rattle.egt_fen.specs.Walked.{walked}
 pub use Rattle.egt_fen.specs.declared.fault.FenFault.{FenFault}
 pub use Rattle.egt_fen.specs.declared.fen.Fen.{Fen}
-pub use Rattle.std.proofs.Common.{Bool, Err, List, None, Ok, Option, Result, Some, [], add_assoc, ap, arith, cond, drop}
-pub use Rattle.std.proofs.Common.{eqb, false, filter, get_or, inl, inr, leb, length, lit≤, ltb, map, not, refl, subst}
-pub use Rattle.std.proofs.Common.{suc, sym, take, true, unwrap_or, zero, ℕ, ◌%◌, ◌&&◌, ◌*◌, ◌++◌, ◌+◌, ◌-◌, ◌/◌, ◌<◌}
-pub use Rattle.std.proofs.Common.{◌^◌, ◌∙◌, ◌∷◌, ◌≡◌, ◌≢◌, ◌≤◌, ◌⊎◌}
 pub use Rattle.std.proofs.Math.Nat.{add-zero, pow-le-pow_right, zero-add}
 pub use Rattle.std.proofs.Props.{props}
 pub use Rattle.std.proofs.lemmas.Bool.{agree_below_at, and_from, and_parts, cases_Bool, cases_eq, cases_lt, eq-eqb}
@@ -58,6 +54,5 @@ pub use Rattle.std.specs.Fmt.{decimal}
 pub use Rattle.std.specs.List.{join_with_byte, list_all, onto_first, position, position_or_len, slice_split, sum_by}
 pub use Rattle.std.specs.Option.{is_some, option_map, option_or}
 pub use Rattle.std.specs.Ordering.{eq_by_cmp, nat_cmp}
-pub use Rattle.std.specs.Prelude.{IfErr, IfNone, IfOk, IfSome, OnOk, slice_index, ◌↔◌}
 pub use Rattle.std.specs.Result.{IsErr, IsOk, MatchResult}
 pub use Rattle.std.specs.Str.Parse.{AllDigits, digits_value}

@@ -1,5 +1,6 @@
 //! The placement as it is written.
-ghost use Rattle.egt_fen.specs.Prelude.{◌≡◌, ◌<◌, ◌≤◌, ◌++◌, OnOk, gap_text, rank_text, placement_text};
+ghost use Rattle.std.specs.Prelude.{◌≡◌, ◌<◌, ◌≤◌, ◌++◌, OnOk};
+ghost use Rattle.egt_fen.specs.Prelude.{gap_text, rank_text, placement_text};
 
 use crate::letter::letter_of;
 use egt_board::{Board, Square};

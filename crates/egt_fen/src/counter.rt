@@ -1,6 +1,7 @@
 //! The clocks.
-ghost use Rattle.egt_fen.specs.Prelude.{◌≡◌, ◌≤◌, ◌<◌, length, IfSome, Some, option_map, is_ascii_digit, list_all};
-ghost use Rattle.egt_fen.specs.Prelude.{digits_value, AllDigits, counter_of, clocks_of};
+ghost use Rattle.std.specs.Prelude.{◌≡◌, ◌≤◌, ◌<◌, length, IfSome, Some};
+ghost use Rattle.egt_fen.specs.Prelude.{option_map, is_ascii_digit, list_all, digits_value, AllDigits, counter_of};
+ghost use Rattle.egt_fen.specs.Prelude.{clocks_of};
 
 /// The halfmove clock and the fullmove number, each below a thousand million; 0 and 1 where the fields are left out.
 /// `None` where one is not one to nine decimal digits.

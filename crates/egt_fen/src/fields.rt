@@ -1,6 +1,7 @@
 //! The fields of a text.
-ghost use Rattle.egt_fen.specs.Prelude.{◌≡◌, ◌≢◌, [], ◌∷◌, length, slice_index, IfSome, IfNone, position, option_map};
-ghost use Rattle.egt_fen.specs.Prelude.{line_of, is_space, is_other, runs_of, fields_of, shown_fields};
+ghost use Rattle.std.specs.Prelude.{◌≡◌, ◌≢◌, [], ◌∷◌, length, slice_index, IfSome, IfNone};
+ghost use Rattle.egt_fen.specs.Prelude.{position, option_map, line_of, is_space, is_other, runs_of, fields_of};
+ghost use Rattle.egt_fen.specs.Prelude.{shown_fields};
 
 /// The fields by name. The clocks may be left out, both of them.
 #[derive(Clone, Copy)]

@@ -1,6 +1,7 @@
 //! Laws of the texts. These functions call nothing and answer nothing: their contracts are the laws.
-ghost use Rattle.egt_fen.specs.Prelude.{◌≡◌, ℕ, List, IsAdmissible, canonical, Fen, PosFault, number_of, name_of};
-ghost use Rattle.egt_fen.specs.Prelude.{fault_of, FenFault, Spells, IsFirstFault};
+ghost use Rattle.std.specs.Prelude.{◌≡◌, ℕ, List};
+ghost use Rattle.egt_fen.specs.Prelude.{IsAdmissible, canonical, Fen, PosFault, number_of, name_of, fault_of, FenFault};
+ghost use Rattle.egt_fen.specs.Prelude.{Spells, IsFirstFault};
 ghost use Rattle.egt_board.specs.Fault as setup;
 
 /// The text that is written for a position with its clocks spells it: what was written is read again.

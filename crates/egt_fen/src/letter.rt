@@ -1,5 +1,6 @@
 //! The letters of the men.
-ghost use Rattle.egt_fen.specs.Prelude.{◌≡◌, man_of, letter_of};
+ghost use Rattle.std.specs.Prelude.{◌≡◌};
+ghost use Rattle.egt_fen.specs.Prelude.{man_of, letter_of};
 
 use egt_board::{Kind, Man, Side};
 

@@ -1,5 +1,6 @@
 //! The placement.
-ghost use Rattle.egt_fen.specs.Prelude.{◌≡◌, option_map, placement_of};
+ghost use Rattle.std.specs.Prelude.{◌≡◌};
+ghost use Rattle.egt_fen.specs.Prelude.{option_map, placement_of};
 
 use crate::walk::Walk;
 use arrayvec::ArrayVec;

@@ -1,5 +1,6 @@
 //! A FEN text read (PGN standard of 1994, section 16.1).
-ghost use Rattle.egt_fen.specs.Prelude.{◌≡◌, ◌↔◌, IsOk, IfOk, IfErr, Fen, Spells, IsFirstFault, parts_of, shown_result};
+ghost use Rattle.std.specs.Prelude.{◌≡◌, ◌↔◌, IfOk, IfErr};
+ghost use Rattle.egt_fen.specs.Prelude.{IsOk, Fen, Spells, IsFirstFault, parts_of, shown_result};
 
 use crate::castling::castling_of;
 use crate::counter::clocks_of;

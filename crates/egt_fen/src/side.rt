@@ -1,5 +1,6 @@
 //! The side to move.
-ghost use Rattle.egt_fen.specs.Prelude.{◌≡◌, side_of};
+ghost use Rattle.std.specs.Prelude.{◌≡◌};
+ghost use Rattle.egt_fen.specs.Prelude.{side_of};
 
 use egt_board::Side;
 

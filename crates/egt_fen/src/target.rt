@@ -1,5 +1,6 @@
 //! The en passant target.
-ghost use Rattle.egt_fen.specs.Prelude.{◌≡◌, target_of};
+ghost use Rattle.std.specs.Prelude.{◌≡◌};
+ghost use Rattle.egt_fen.specs.Prelude.{target_of};
 
 use egt_board::Square;
 

@@ -1,5 +1,6 @@
 //! A FEN text written (PGN standard of 1994, section 16.1).
-ghost use Rattle.egt_fen.specs.Prelude.{◌≡◌, ◌∷◌, [], ◌++◌, OnOk, IfOk, canonical, side_text, target_text, Spells};
+ghost use Rattle.std.specs.Prelude.{◌≡◌, ◌∷◌, [], ◌++◌, OnOk, IfOk};
+ghost use Rattle.egt_fen.specs.Prelude.{canonical, side_text, target_text, Spells};
 
 use crate::board_text::push_placement;
 use crate::fen::Fen;

@@ -1,5 +1,5 @@
 -- Items of which no ends are known.
-use Rattle.egt_fill.specs.Prelude.{◌≡◌, ◌≢◌, ℕ, ◌+◌, ◌<◌, true, false, List, slice_index_or, arith, ap, ◌∙◌, subst}
+use Rattle.std.proofs.Common.{◌≡◌, ◌≢◌, ℕ, ◌+◌, ◌<◌, true, false, List, slice_index_or, arith, ap, ◌∙◌, subst}
 use Rattle.egt_fill.specs.Prelude.{bit_at, bit_at-zero, SquareSet, kind_less, ShelfMen, TableValue, AreShelvesOf}
 use Rattle.egt_fill.specs.Prelude.{HoldsExits, column_of, Part, IsItem, men_of, passed_shelves_of, shelves_of, AllEnded}
 use Rattle.egt_fill.specs.Prelude.{no_squares, Filling, Item, Shelf}

@@ -1,6 +1,6 @@
 -- Before the first look.
-use Rattle.egt_fill.specs.Prelude.{◌≡◌, ℕ, zero, suc, List, length, replicate, slice_index, refl, arith, All}
-use Rattle.egt_fill.specs.Prelude.{TableValue, AreNumbered, IsItem, IsUnderWay, Filling, Item}
+use Rattle.std.proofs.Common.{◌≡◌, ℕ, zero, suc, List, length, replicate, slice_index, refl, arith}
+use Rattle.egt_fill.specs.Prelude.{All, TableValue, AreNumbered, IsItem, IsUnderWay, Filling, Item}
 
 pub begun_under_way : (f : Filling) (t : TableValue) (items : List Item) (places stamps : List ℕ) → All (IsItem f t) items → All (λ (item : Item). item.looked ≡ 0) items → AreNumbered items places → length stamps ≡ 8192 → ((i : ℕ) → slice_index stamps i ≡ 0)
     → IsUnderWay f t items places stamps 1

@@ -1,7 +1,7 @@
 -- Columns in which all positions are drawn have bytes of their own.
-use Rattle.egt_fill.specs.Prelude.{◌≡◌, ℕ, ◌<◌, ◌∙◌, arith, ap, IsVoid, size_of, TableValue, entries_or_none}
-use Rattle.egt_fill.specs.Prelude.{near_entry, entry_at, Metric, Mate, Zeroing, AreAlike, IsKnown, table_in, HasBytes}
-use Rattle.egt_fill.specs.Prelude.{near_at, IsDrawn, IsDrawnAt}
+use Rattle.std.proofs.Common.{◌≡◌, ℕ, ◌<◌, ◌∙◌, arith, ap}
+use Rattle.egt_fill.specs.Prelude.{IsVoid, size_of, TableValue, entries_or_none, near_entry, entry_at, Metric, Mate}
+use Rattle.egt_fill.specs.Prelude.{Zeroing, AreAlike, IsKnown, table_in, HasBytes, near_at, IsDrawn, IsDrawnAt}
 use Rattle.egt_check.specs.declared.part.Part.TheVariants as parts
 
 known : (entry : ℕ) → entry ≡ 1 → IsKnown entry

@@ -1,7 +1,7 @@
 -- Entries that scores of draws tell.
-use Rattle.egt_fill.specs.Prelude.{◌≡◌, ◌∙◌, ℕ, ◌<◌, length, map, refl, ap, sym, subst, inl, inr}
-use Rattle.egt_fill.specs.Prelude.{IsVoid, size_of, Column, TellColumn, TellsEntry, told, AreDrawnOrNone}
-use Rattle.egt_fill.specs.Prelude.{CodeScores, HasNoVoidScore, IsDrawnIndex, told_at, told_none, IsDrawn}
+use Rattle.std.proofs.Common.{◌≡◌, ◌∙◌, ℕ, ◌<◌, length, map, refl, ap, sym, subst, inl, inr}
+use Rattle.egt_fill.specs.Prelude.{IsVoid, size_of, Column, TellColumn, TellsEntry, told, AreDrawnOrNone, CodeScores}
+use Rattle.egt_fill.specs.Prelude.{HasNoVoidScore, IsDrawnIndex, told_at, told_none, IsDrawn}
 use Rattle.egt_table.specs.declared.column.Column.TheVariants.{Mate, Zeroing, Reach}
 
 draw_told : (column : Column) → told column 128 ≡ 1

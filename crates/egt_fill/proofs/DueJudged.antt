@@ -1,8 +1,8 @@
 -- Entries that are due to the greatest scores of all moves keep the rules.
-use Rattle.egt_fill.specs.Prelude.{◌≡◌, ◌≢◌, ℕ, ◌+◌, Bool, true, false, inl, inr, refl, subst, arith, cases_eq, K, Side}
-use Rattle.egt_fill.specs.Prelude.{code_of, kind_less, number_in, ShelfMen, TableValue, Tables, AreTablesOf, four_in}
-use Rattle.egt_fill.specs.Prelude.{tables_in, AreAllScoresOf, AreJudged, IsRightLane, KeepsPart, Children, FourMen}
-use Rattle.egt_fill.specs.Prelude.{Part, AreAllDue, AreDue}
+use Rattle.std.proofs.Common.{◌≡◌, ◌≢◌, ℕ, ◌+◌, Bool, true, false, inl, inr, refl, subst, arith}
+use Rattle.egt_fill.specs.Prelude.{cases_eq, K, Side, code_of, kind_less, number_in, ShelfMen, TableValue, Tables}
+use Rattle.egt_fill.specs.Prelude.{AreTablesOf, four_in, tables_in, AreAllScoresOf, AreJudged, IsRightLane, KeepsPart}
+use Rattle.egt_fill.specs.Prelude.{Children, FourMen, Part, AreAllDue, AreDue}
 
 -- entries of a part that are due to the greatest scores of all moves keep the rules, one by one
 abbrev pub DueAreRight : Type 0

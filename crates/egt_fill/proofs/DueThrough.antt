@@ -1,10 +1,9 @@
 -- Entries that are due to the greatest scores of all moves stay so when entries of other kings are put that no move leads to.
-use Rattle.egt_fill.specs.Prelude.{◌≡◌, ℕ, ◌+◌, ◌<◌, Bool, true, false, refl, sym, ap, ◌∙◌, inl, inr, subst}
-use Rattle.egt_fill.specs.Prelude.{slice_index, Side, Spells, code_of, kind_less, number_in, size_of, TellsMen}
-use Rattle.egt_fill.specs.Prelude.{ShelfMen, TableValue, entries_of, Column, near_entry, stand_on, column_of}
-use Rattle.egt_fill.specs.Prelude.{IsRightLane, IsRightAtOf, IsRightEnd, IsRightReachEnd, column_score, Children}
-use Rattle.egt_fill.specs.Prelude.{FourMen, Part, Values, Reach, IsMended, IsOfKings, ReadsKings, AreAllDue, AreDue}
-use Rattle.egt_fill.specs.Prelude.{AreScoresIn}
+use Rattle.std.proofs.Common.{◌≡◌, ℕ, ◌+◌, ◌<◌, Bool, true, false, refl, sym, ap, ◌∙◌, inl, inr, subst, slice_index}
+use Rattle.egt_fill.specs.Prelude.{Side, Spells, code_of, kind_less, number_in, size_of, TellsMen, ShelfMen, TableValue}
+use Rattle.egt_fill.specs.Prelude.{entries_of, Column, near_entry, stand_on, column_of, IsRightLane, IsRightAtOf}
+use Rattle.egt_fill.specs.Prelude.{IsRightEnd, IsRightReachEnd, column_score, Children, FourMen, Part, Values, Reach}
+use Rattle.egt_fill.specs.Prelude.{IsMended, IsOfKings, ReadsKings, AreAllDue, AreDue, AreScoresIn}
 use Rattle.egt_table.specs.declared.column.Column.TheVariants as columns
 use Rattle.egt_fill.proofs.KeptThrough.{score_stays}
 use Rattle.egt_fill.proofs.ScoresThrough.{scores_stay}

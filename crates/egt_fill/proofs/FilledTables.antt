@@ -1,10 +1,10 @@
 -- Tables whose entries keep the rules beside the true tables of the children are true.
-use Rattle.egt_fill.specs.Prelude.{◌≡◌, ℕ, ◌<◌, ◌↔◌, ◌∙◌, None, Some, IsSome, IfSome, Option, List, arith, ap, refl}
-use Rattle.egt_fill.specs.Prelude.{subst, sym, slice_index, Contains, false≢true, ne_eqb, children_of, IsIndex, IsVoid}
-use Rattle.egt_fill.specs.Prelude.{size_of, IsTable, TableValue, Shows, ReachesDown, KeepsReachBelow, KeepsRules}
-use Rattle.egt_fill.specs.Prelude.{Tables, HasReachChildren, beside, entry_at, HasTrueChildren, IsTrueReach}
-use Rattle.egt_fill.specs.Prelude.{IsTrueTable, Metric, Mate, Zeroing, KeepsPart, Part, Reach, Values, beside_other}
-use Rattle.egt_fill.specs.Prelude.{beside_own, IsWithReach}
+use Rattle.std.proofs.Common.{◌≡◌, ℕ, ◌<◌, ◌↔◌, ◌∙◌, None, Some, IsSome, IfSome, Option, List, arith, ap, refl, subst}
+use Rattle.std.proofs.Common.{sym, slice_index, Contains}
+use Rattle.egt_fill.specs.Prelude.{false≢true, ne_eqb, children_of, IsIndex, IsVoid, size_of, IsTable, TableValue}
+use Rattle.egt_fill.specs.Prelude.{Shows, ReachesDown, KeepsReachBelow, KeepsRules, Tables, HasReachChildren, beside}
+use Rattle.egt_fill.specs.Prelude.{entry_at, HasTrueChildren, IsTrueReach, IsTrueTable, Metric, Mate, Zeroing}
+use Rattle.egt_fill.specs.Prelude.{KeepsPart, Part, Reach, Values, beside_other, beside_own, IsWithReach}
 
 -- the part's entries keep the rules at all codes
 abbrev pub KeepsAll : Part → Tables → TableValue → Type 0

@@ -1,8 +1,9 @@
 -- The entries of an item, without a target and with one.
-use Rattle.egt_fill.specs.Prelude.{◌≡◌, ◌≢◌, ℕ, ◌+◌, ◌<◌, Bool, true, false, List, sym, subst, false≢true, SquareSet}
-use Rattle.egt_fill.specs.Prelude.{code_of, kind_digits, kind_less, number_in, stand_with, TellsMen, TableValue}
-use Rattle.egt_fill.specs.Prelude.{AreShelvesOf, IsItem, men_of, passed_shelves_of, shelves_of, AllEnded, AreRightRows}
-use Rattle.egt_fill.specs.Prelude.{IsCodeIn, IsMended, IsMendedAt, IsOfKings, IsShelf, shelf_at, Filling, Item, Shelf}
+use Rattle.std.proofs.Common.{◌≡◌, ◌≢◌, ℕ, ◌+◌, ◌<◌, Bool, true, false, List, sym, subst}
+use Rattle.egt_fill.specs.Prelude.{false≢true, SquareSet, code_of, kind_digits, kind_less, number_in, stand_with}
+use Rattle.egt_fill.specs.Prelude.{TellsMen, TableValue, AreShelvesOf, IsItem, men_of, passed_shelves_of, shelves_of}
+use Rattle.egt_fill.specs.Prelude.{AllEnded, AreRightRows, IsCodeIn, IsMended, IsMendedAt, IsOfKings, IsShelf, shelf_at}
+use Rattle.egt_fill.specs.Prelude.{Filling, Item, Shelf}
 use Rattle.egt_fill.proofs.PutEntries.{mended_after, widened}
 use Rattle.egt_fill.proofs.RowsMended.{all_ended_stay, rows_stay}
 use Rattle.egt_fill.proofs.ShelfLanes.{codes_of_kings}

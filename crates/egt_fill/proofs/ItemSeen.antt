@@ -1,9 +1,9 @@
 -- What a look sees of an item.
-use Rattle.egt_fill.specs.Prelude.{◌≡◌, ℕ, ◌+◌, ◌<◌, Bool, true, false, List, sym, ap, ◌∙◌, subst, Side, code_of}
-use Rattle.egt_fill.specs.Prelude.{kind_digits, kind_less, size_of, ShelfMen, at, TableValue, AreShelvesOf, with_kings}
-use Rattle.egt_fill.specs.Prelude.{square_in, Children, Part, right_lane, AreBlockScores, AreItemScores, AreSeen}
-use Rattle.egt_fill.specs.Prelude.{IsItem, IsRightItem, IsSameItem, IsSeenItem, men_of, AreRightRows, Filling, Item}
-use Rattle.egt_fill.specs.Prelude.{Scores}
+use Rattle.std.proofs.Common.{◌≡◌, ℕ, ◌+◌, ◌<◌, Bool, true, false, List, sym, ap, ◌∙◌, subst}
+use Rattle.egt_fill.specs.Prelude.{Side, code_of, kind_digits, kind_less, size_of, ShelfMen, at, TableValue}
+use Rattle.egt_fill.specs.Prelude.{AreShelvesOf, with_kings, square_in, Children, Part, right_lane, AreBlockScores}
+use Rattle.egt_fill.specs.Prelude.{AreItemScores, AreSeen, IsItem, IsRightItem, IsSameItem, IsSeenItem, men_of}
+use Rattle.egt_fill.specs.Prelude.{AreRightRows, Filling, Item, Scores}
 
 rows_seen : (part : Part) (passed : Bool) (old new : TableValue) (children : Children) (men : ShelfMen) (first : ℕ) (side : Side) (scores clocks : List (List ℕ)) → AreShelvesOf passed new.class men first
     → ((n : ℕ) → n < size_of new.class → code_of new.class n < size_of new.class)

@@ -1,10 +1,10 @@
 -- What was read of positions stays when entries of others are put.
-use Rattle.egt_fill.specs.Prelude.{◌≡◌, ℕ, ◌/◌, ◌%◌, ◌<◌, Bool, true, false, eqb, List, [], length, Option, Some, None}
-use Rattle.egt_fill.specs.Prelude.{IfSome, refl, sym, ap, ◌∙◌, inl, inr, slice_index_or, arith, other_side, turned_side}
-use Rattle.egt_fill.specs.Prelude.{turned_square, Side, White, Black, IsInEitherOrder, IsSeenBy, IsSomeTurnedCodeWith}
-use Rattle.egt_fill.specs.Prelude.{turned_by, ShelfMen, Stand, at, IsRaised, stand_on, TableValue, Column, with_kings}
-use Rattle.egt_fill.specs.Prelude.{AreKept, IsKept, BlockKey, column_score, entry_score, Part, IsMended, IsOfKings}
-use Rattle.egt_fill.specs.Prelude.{TakesKings, TurnsTo}
+use Rattle.std.proofs.Common.{◌≡◌, ℕ, ◌/◌, ◌%◌, ◌<◌, Bool, true, false, eqb, List, [], length, Option, Some, None}
+use Rattle.std.proofs.Common.{IfSome, refl, sym, ap, ◌∙◌, inl, inr, slice_index_or, arith}
+use Rattle.egt_fill.specs.Prelude.{other_side, turned_side, turned_square, Side, White, Black, IsInEitherOrder}
+use Rattle.egt_fill.specs.Prelude.{IsSeenBy, IsSomeTurnedCodeWith, turned_by, ShelfMen, Stand, at, IsRaised, stand_on}
+use Rattle.egt_fill.specs.Prelude.{TableValue, Column, with_kings, AreKept, IsKept, BlockKey, column_score, entry_score}
+use Rattle.egt_fill.specs.Prelude.{Part, IsMended, IsOfKings, TakesKings, TurnsTo}
 use Rattle.egt_fill.proofs.ToldOnce.{kings_told, side_told}
 
 -- ---- a code that is read tells the kings where a turn takes them

@@ -1,6 +1,6 @@
 -- Blocks that are forgotten where entries are put: those that stay were read from others.
-use Rattle.egt_fill.specs.Prelude.{◌≡◌, ◌≢◌, ◌∙◌, ℕ, ◌/◌, ◌%◌, ◌==◌, ◌<◌, Bool, true, false, List, [], length, Option}
-use Rattle.egt_fill.specs.Prelude.{Some, None, IfSome, arith, ap, refl, sym, subst, inl, inr, slice_index_or}
+use Rattle.std.proofs.Common.{◌≡◌, ◌≢◌, ◌∙◌, ℕ, ◌/◌, ◌%◌, ◌==◌, ◌<◌, Bool, true, false, List, [], length, Option, Some}
+use Rattle.std.proofs.Common.{None, IfSome, arith, ap, refl, sym, subst, inl, inr, slice_index_or}
 use Rattle.egt_fill.specs.Prelude.{false≢true, other_side, turned_square, Side, White, Black, has_equal_sides}
 use Rattle.egt_fill.specs.Prelude.{material_of, IsTurnWith, symmetries, has_pawns, ShelfMen, turn_number, eight}
 use Rattle.egt_fill.specs.Prelude.{undoing, undoing_in, undone, TableValue, Column, AreKept, IsKept, IsPlaced}

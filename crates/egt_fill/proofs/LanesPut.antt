@@ -1,8 +1,8 @@
 -- Tables with the entries of a row's squares put anew.
-use Rattle.egt_fill.specs.Prelude.{◌≡◌, ◌≢◌, ◌∙◌, ℕ, ◌+◌, ◌*◌, ◌-◌, ◌%◌, ◌<◌, ◌==◌, if◌then◌else◌, Bool, true}
-use Rattle.egt_fill.specs.Prelude.{false, List, arith, refl, sym, ap, inl, inr, slice_index, subst, cases_eq, nat_tests}
-use Rattle.egt_fill.specs.Prelude.{Has, SquareSet, IsVoid, code_of, kind_digits, kind_less, number_in}
-use Rattle.egt_fill.specs.Prelude.{size_of, byte_score, reach_score, TableValue, near_entry, entry_at}
+use Rattle.std.proofs.Common.{◌≡◌, ◌≢◌, ◌∙◌, ℕ, ◌+◌, ◌*◌, ◌-◌, ◌%◌, ◌<◌, ◌==◌, if◌then◌else◌, Bool, true, false, List}
+use Rattle.std.proofs.Common.{arith, refl, sym, ap, inl, inr, slice_index, subst}
+use Rattle.egt_fill.specs.Prelude.{cases_eq, nat_tests, Has, SquareSet, IsVoid, code_of, kind_digits, kind_less}
+use Rattle.egt_fill.specs.Prelude.{number_in, size_of, byte_score, reach_score, TableValue, near_entry, entry_at}
 use Rattle.egt_fill.specs.Prelude.{reach_at, Metric, Mate, Zeroing, IsPutIn, IsToldAt, AreAlike, IsKnown, column_of}
 use Rattle.egt_fill.specs.Prelude.{table_in, IsRightEndOf, IsLaneIn, HasBytes, column_score, Part, if_not, if_same}
 use Rattle.egt_fill.specs.Prelude.{near_at, AreOfEnd, IsEndScore, IsLaneOf, IsMendedAt, IsPutAt, Shelf}

@@ -1,10 +1,10 @@
 -- A pass over items, one item more.
-use Rattle.egt_fill.specs.Prelude.{◌≡◌, ◌≢◌, ◌∙◌, ℕ, ◌+◌, ◌<◌, Bool, true, false, List, [], None, Option, length}
-use Rattle.egt_fill.specs.Prelude.{slice_index_or, slice_set, inl, inr, refl, ap, sym, subst, arith, cases_lt}
-use Rattle.egt_fill.specs.Prelude.{false≢true, get_or_default, length-set, set-get_or, All, other_side, Side, White}
-use Rattle.egt_fill.specs.Prelude.{Black, TableValue, IsKept, IsPlaced, BlockKey, column_score, IsDueItem, IsMendedAt}
-use Rattle.egt_fill.specs.Prelude.{IsOfKings, AreAllKept, AreFreshItems, IsFreshItem, IsUntouched, IsUntouchedPass}
-use Rattle.egt_fill.specs.Prelude.{IsLookedAt, IsStamped, IsUnderWay, Filling, Item}
+use Rattle.std.proofs.Common.{◌≡◌, ◌≢◌, ◌∙◌, ℕ, ◌+◌, ◌<◌, Bool, true, false, List, [], None, Option, length}
+use Rattle.std.proofs.Common.{slice_index_or, slice_set, inl, inr, refl, ap, sym, subst, arith}
+use Rattle.egt_fill.specs.Prelude.{cases_lt, false≢true, get_or_default, length-set, set-get_or, All, other_side, Side}
+use Rattle.egt_fill.specs.Prelude.{White, Black, TableValue, IsKept, IsPlaced, BlockKey, column_score, IsDueItem}
+use Rattle.egt_fill.specs.Prelude.{IsMendedAt, IsOfKings, AreAllKept, AreFreshItems, IsFreshItem, IsUntouched}
+use Rattle.egt_fill.specs.Prelude.{IsUntouchedPass, IsLookedAt, IsStamped, IsUnderWay, Filling, Item}
 use Rattle.egt_fill.proofs.PutEntries.{mended_after}
 use Rattle.egt_fill.proofs.StillUnderWay.{still_under_way}
 

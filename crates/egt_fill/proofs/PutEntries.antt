@@ -1,9 +1,7 @@
 -- Tables with some entries put anew.
-use Rattle.egt_fill.specs.Prelude.{◌≡◌, ℕ, ◌*◌, ◌-◌, ◌%◌, refl, ap, ◌∙◌, inl, inr}
-use Rattle.egt_fill.specs.Prelude.{slice_index, subst, Spells, TableValue}
-use Rattle.egt_fill.specs.Prelude.{entries_of, Column}
-use Rattle.egt_fill.specs.Prelude.{byte_score, reach_score, table_in, IsRightEndOf, HasBytes, Part}
-use Rattle.egt_fill.specs.Prelude.{IsMendedAt, IsPutAt}
+use Rattle.std.proofs.Common.{◌≡◌, ℕ, ◌*◌, ◌-◌, ◌%◌, refl, ap, ◌∙◌, inl, inr, slice_index, subst}
+use Rattle.egt_fill.specs.Prelude.{Spells, TableValue, entries_of, Column, byte_score, reach_score, table_in}
+use Rattle.egt_fill.specs.Prelude.{IsRightEndOf, HasBytes, Part, IsMendedAt, IsPutAt}
 use Rattle.egt_table.specs.declared.column.Column.TheVariants as columns
 use Rattle.egt_check.specs.declared.part.Part.TheVariants as parts
 

@@ -1,10 +1,10 @@
 -- A row whose entries are put where they are not due.
-use Rattle.egt_fill.specs.Prelude.{◌≡◌, ◌≢◌, ◌∙◌, ℕ, ◌+◌, ◌%◌, ◌<◌, List, max, min, arith, sym, ap, inl, inr}
-use Rattle.egt_fill.specs.Prelude.{slice_index, subst, bit_at, cases_eq, bit_at-lt, SquareSet, code_of, number_of}
-use Rattle.egt_fill.specs.Prelude.{kind_digits, kind_less, number_in, size_of, due_score, TableValue, column_of}
-use Rattle.egt_fill.specs.Prelude.{IsRightAtOf, IsRightEndOf, due_in, column_score, entry_score, Part, Values, Reach}
-use Rattle.egt_fill.specs.Prelude.{AreEnded, IsCodeOf, IsLaneOf, IsMendedAt, IsPutAt, IsRightRow, IsRowSeen, IsShelf}
-use Rattle.egt_fill.specs.Prelude.{Shelf}
+use Rattle.std.proofs.Common.{◌≡◌, ◌≢◌, ◌∙◌, ℕ, ◌+◌, ◌%◌, ◌<◌, List, max, min, arith, sym, ap, inl, inr, slice_index}
+use Rattle.std.proofs.Common.{subst}
+use Rattle.egt_fill.specs.Prelude.{bit_at, cases_eq, bit_at-lt, SquareSet, code_of, number_of, kind_digits, kind_less}
+use Rattle.egt_fill.specs.Prelude.{number_in, size_of, due_score, TableValue, column_of, IsRightAtOf, IsRightEndOf}
+use Rattle.egt_fill.specs.Prelude.{due_in, column_score, entry_score, Part, Values, Reach, AreEnded, IsCodeOf, IsLaneOf}
+use Rattle.egt_fill.specs.Prelude.{IsMendedAt, IsPutAt, IsRightRow, IsRowSeen, IsShelf, Shelf}
 use Rattle.egt_fill.proofs.PutEntries.{end_stays, mended_after, put_stays, widened}
 use Rattle.egt_fill.proofs.ShelfLanes.{one_digit}
 

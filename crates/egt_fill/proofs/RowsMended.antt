@@ -1,12 +1,12 @@
 -- Rows that stay right while others are put.
-use Rattle.egt_fill.specs.Prelude.{◌≡◌, ◌≢◌, ◌∙◌, ℕ, ◌+◌, ◌*◌, ◌%◌, ◌<◌, List, [], length, arith, sym, ap, inl, inr}
-use Rattle.egt_fill.specs.Prelude.{slice_index, slice_index_or, slice_set, subst, cases_eq, get_or-set_other}
-use Rattle.egt_fill.specs.Prelude.{get_or-set_same, side_number, Kind, Q, R, B, N, P, K, SquareSet, code_of, number_of}
-use Rattle.egt_fill.specs.Prelude.{kind_digits, kind_less, number_in, size_of, TableValue, entries_of, Column, ShelfMen}
-use Rattle.egt_fill.specs.Prelude.{men_on, AreShelvesOf, square_in, byte_score, reach_score, column_of, IsRightAtOf}
-use Rattle.egt_fill.specs.Prelude.{IsRightEndOf, column_score, entry_score, Part, Values, Reach, AllEnded, AreEnded}
-use Rattle.egt_fill.specs.Prelude.{AreRightRows, IsCodeIn, IsCodeOf, IsMendedAt, IsRightRow, IsShelf, no_squares}
-use Rattle.egt_fill.specs.Prelude.{shelf_at, Shelf}
+use Rattle.std.proofs.Common.{◌≡◌, ◌≢◌, ◌∙◌, ℕ, ◌+◌, ◌*◌, ◌%◌, ◌<◌, List, [], length, arith, sym, ap, inl, inr}
+use Rattle.std.proofs.Common.{slice_index, slice_index_or, slice_set, subst}
+use Rattle.egt_fill.specs.Prelude.{cases_eq, get_or-set_other, get_or-set_same, side_number, Kind, Q, R, B, N, P, K}
+use Rattle.egt_fill.specs.Prelude.{SquareSet, code_of, number_of, kind_digits, kind_less, number_in, size_of}
+use Rattle.egt_fill.specs.Prelude.{TableValue, entries_of, Column, ShelfMen, men_on, AreShelvesOf, square_in}
+use Rattle.egt_fill.specs.Prelude.{byte_score, reach_score, column_of, IsRightAtOf, IsRightEndOf, column_score}
+use Rattle.egt_fill.specs.Prelude.{entry_score, Part, Values, Reach, AllEnded, AreEnded, AreRightRows, IsCodeIn}
+use Rattle.egt_fill.specs.Prelude.{IsCodeOf, IsMendedAt, IsRightRow, IsShelf, no_squares, shelf_at, Shelf}
 use Rattle.egt_table.specs.declared.column.Column.TheVariants as columns
 use Rattle.egt_fill.proofs.PutEntries.{end_stays, mended_after}
 use Rattle.egt_fill.proofs.ShelfLanes.{number_within}

@@ -1,11 +1,11 @@
 -- The greatest scores of all moves stay when entries that no move leads to are put.
-use Rattle.egt_fill.specs.Prelude.{◌≡◌, ◌⊎◌, ℕ, Bool, true, false, Option, refl, sym, ap, inl, inr, subst, other_side}
-use Rattle.egt_fill.specs.Prelude.{Man, Side, IsSomeTurnedCodeWith, ShelfMen, Stand, IsRaised, TableValue, Column}
-use Rattle.egt_fill.specs.Prelude.{AreLeapCodes, AreStepCodes, stand_after, AreQuietCodes, IsQuietStand, IsBesideKing}
-use Rattle.egt_fill.specs.Prelude.{with_king, men_swapped, AreAllScores, AreMoveScores, AreZeroingMoves, ArePawnScores}
-use Rattle.egt_fill.specs.Prelude.{AreRaisedByPawns, IsRaisedByPawn, AreAllReachScores, AreAllScoresOf, AreReachScores}
-use Rattle.egt_fill.specs.Prelude.{column_score, Children, FourMen, Part, Values, Reach, Promotions, IsMended}
-use Rattle.egt_fill.specs.Prelude.{IsOfKings, ReadsKings, TurnsTo}
+use Rattle.std.proofs.Common.{◌≡◌, ◌⊎◌, ℕ, Bool, true, false, Option, refl, sym, ap, inl, inr, subst}
+use Rattle.egt_fill.specs.Prelude.{other_side, Man, Side, IsSomeTurnedCodeWith, ShelfMen, Stand, IsRaised, TableValue}
+use Rattle.egt_fill.specs.Prelude.{Column, AreLeapCodes, AreStepCodes, stand_after, AreQuietCodes, IsQuietStand}
+use Rattle.egt_fill.specs.Prelude.{IsBesideKing, with_king, men_swapped, AreAllScores, AreMoveScores, AreZeroingMoves}
+use Rattle.egt_fill.specs.Prelude.{ArePawnScores, AreRaisedByPawns, IsRaisedByPawn, AreAllReachScores, AreAllScoresOf}
+use Rattle.egt_fill.specs.Prelude.{AreReachScores, column_score, Children, FourMen, Part, Values, Reach, Promotions}
+use Rattle.egt_fill.specs.Prelude.{IsMended, IsOfKings, ReadsKings, TurnsTo}
 use Rattle.egt_table.specs.declared.column.Column.TheVariants as columns
 use Rattle.egt_fill.proofs.KeptThrough.{raised_worth, read_of_kings, score_stays}
 

@@ -1,7 +1,8 @@
 -- The codes of a shelf.
-use Rattle.egt_fill.specs.Prelude.{◌≡◌, ℕ, ◌+◌, ◌*◌, ◌<◌, arith, refl, sym, ap, subst, ◌∙◌, Side, code_of, number_of}
-use Rattle.egt_fill.specs.Prelude.{kind_digits, kind_less, number_in, stand_with, size_of, side_few, Has, SquareSet}
-use Rattle.egt_fill.specs.Prelude.{TableValue, Part, IsCodeOf, IsLaneOf, IsMendedAt, IsOfKings, IsShelf, Shelf}
+use Rattle.std.proofs.Common.{◌≡◌, ℕ, ◌+◌, ◌*◌, ◌<◌, arith, refl, sym, ap, subst, ◌∙◌}
+use Rattle.egt_fill.specs.Prelude.{Side, code_of, number_of, kind_digits, kind_less, number_in, stand_with, size_of}
+use Rattle.egt_fill.specs.Prelude.{side_few, Has, SquareSet, TableValue, Part, IsCodeOf, IsLaneOf, IsMendedAt}
+use Rattle.egt_fill.specs.Prelude.{IsOfKings, IsShelf, Shelf}
 use Rattle.egt_fill.proofs.PutEntries.{mended_after}
 
 module _ (c : ℕ) (shelf : Shelf) (is : IsShelf c shelf) where

@@ -1,5 +1,5 @@
 -- Places of stamps, stamps that rise, and the stamps that turns lead to.
-use Rattle.egt_fill.specs.Prelude.{◌≡◌, ℕ, ◌%◌, ◌<◌, ◌≤◌, List, slice_index, true, false, IsTrue, arith, refl, inl, inr}
+use Rattle.std.proofs.Common.{◌≡◌, ℕ, ◌%◌, ◌<◌, ◌≤◌, List, slice_index, true, false, IsTrue, arith, refl, inl, inr}
 use Rattle.egt_fill.specs.Prelude.{other_side, turned_square, Side, White, Black, has_equal_sides, material_of}
 use Rattle.egt_fill.specs.Prelude.{IsTurnWith, has_pawns, ShelfMen, IsFresh, stamp_place, TurnsTo}
 

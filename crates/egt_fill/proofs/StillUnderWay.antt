@@ -1,10 +1,11 @@
 -- A look at one item leaves what holds of all.
-use Rattle.egt_fill.specs.Prelude.{◌≡◌, ◌≢◌, ◌∙◌, ℕ, ◌+◌, ◌<◌, ◌≤◌, Bool, List, length, slice_index, slice_index_or}
-use Rattle.egt_fill.specs.Prelude.{slice_set, inl, inr, refl, ap, sym, subst, arith, true, false, cases_eq}
-use Rattle.egt_fill.specs.Prelude.{get_or-set_other, get_or-set_same, length-set, Side, code_of, kind_digits, kind_less}
-use Rattle.egt_fill.specs.Prelude.{number_in, ShelfMen, TableValue, AreShelvesOf, Children, Part, IsDueItem, AreSeen}
-use Rattle.egt_fill.specs.Prelude.{IsItem, men_of, passed_shelves_of, shelves_of, IsMended, IsOfKings, ReadsKings}
-use Rattle.egt_fill.specs.Prelude.{AreDue, IsFresh, IsLookedAt, IsStamped, IsUnderWay, place_of, Filling, Item, Shelf}
+use Rattle.std.proofs.Common.{◌≡◌, ◌≢◌, ◌∙◌, ℕ, ◌+◌, ◌<◌, ◌≤◌, Bool, List, length, slice_index, slice_index_or}
+use Rattle.std.proofs.Common.{slice_set, inl, inr, refl, ap, sym, subst, arith, true, false}
+use Rattle.egt_fill.specs.Prelude.{cases_eq, get_or-set_other, get_or-set_same, length-set, Side, code_of, kind_digits}
+use Rattle.egt_fill.specs.Prelude.{kind_less, number_in, ShelfMen, TableValue, AreShelvesOf, Children, Part, IsDueItem}
+use Rattle.egt_fill.specs.Prelude.{AreSeen, IsItem, men_of, passed_shelves_of, shelves_of, IsMended, IsOfKings}
+use Rattle.egt_fill.specs.Prelude.{ReadsKings, AreDue, IsFresh, IsLookedAt, IsStamped, IsUnderWay, place_of, Filling}
+use Rattle.egt_fill.specs.Prelude.{Item, Shelf}
 use Rattle.egt_fill.proofs.DueThrough.{all_due_stay, scores_in_stay}
 use Rattle.egt_fill.proofs.ItemMended.{codes_in_kings}
 use Rattle.egt_fill.proofs.RowsMended.{all_ended_stay}

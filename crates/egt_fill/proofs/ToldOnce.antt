@@ -1,7 +1,7 @@
 -- A code tells one side to move and one square for each man.
-use Rattle.egt_fill.specs.Prelude.{◌≡◌, ℕ, ◌<◌, Bool, true, false, cond, List, [], ◌∷◌, refl, sym, ap, subst, ◌∙◌}
-use Rattle.egt_fill.specs.Prelude.{arith, king_of, side_number, Man, Side, White, Black, material_of, AreDigits}
-use Rattle.egt_fill.specs.Prelude.{has_target, men_bases, men_at, list_of, TellsMen, Stand, number_from-same, side_few}
+use Rattle.std.proofs.Common.{◌≡◌, ℕ, ◌<◌, Bool, true, false, cond, List, [], ◌∷◌, refl, sym, ap, subst, ◌∙◌, arith}
+use Rattle.egt_fill.specs.Prelude.{king_of, side_number, Man, Side, White, Black, material_of, AreDigits, has_target}
+use Rattle.egt_fill.specs.Prelude.{men_bases, men_at, list_of, TellsMen, Stand, number_from-same, side_few}
 
 flag_few : (passed : Bool) → cond passed 1 0 < 2
 flag_few true = omega arith

@@ -103,10 +103,6 @@ pub use Rattle.egt_steps.specs.QuietStands.{AreQuietCodes, IsQuietStand}
 pub use Rattle.egt_steps.specs.Stands.{IsBesideKing, men_on, stand_on, with_king}
 pub use Rattle.egt_table.specs.Table.{HasColumn, IsTable, TableValue, entries_of, entries_or_none}
 pub use Rattle.egt_table.specs.declared.column.Column.{Column}
-pub use Rattle.std.proofs.Common.{Bool, IfSome, IsSome, List, None, Option, Some, Vec, [], ap, arith, cond, eqb, false}
-pub use Rattle.std.proofs.Common.{get_or, if◌then◌else◌, inl, inr, length, map, max, min, refl, replicate, slice_index}
-pub use Rattle.std.proofs.Common.{slice_index_or, slice_set, subst, suc, sym, true, zero, ℕ, ◌%◌, ◌*◌, ◌+◌, ◌-◌, ◌/◌}
-pub use Rattle.std.proofs.Common.{◌<◌, ◌==◌, ◌∙◌, ◌∷◌, ◌≡◌, ◌≢◌, ◌≤◌, ◌⊎◌}
 pub use Rattle.std.proofs.lemmas.Bool.{cases_eq, cases_lt, false≢true, ne_eqb}
 pub use Rattle.std.proofs.lemmas.Bool.Decides.{nat_tests}
 pub use Rattle.std.proofs.lemmas.List.{get_or-replicate, get_or-set_other, get_or-set_same, get_or_default, get_or_past}
@@ -115,4 +111,3 @@ pub use Rattle.std.proofs.lemmas.List.Elements.{All-contains, All-push, All-same
 pub use Rattle.std.proofs.lemmas.Nat.Bits.{bit_at-lt, bit_at-zero}
 pub use Rattle.std.specs.Int.{bit_at}
 pub use Rattle.std.specs.List.{All}
-pub use Rattle.std.specs.Prelude.{Contains, IfErr, IfOk, IsTrue, ◌↔◌}

@@ -1,7 +1,7 @@
 //! The items that looks begin with, one for each pair of kings' squares and side to move with entries of positions, and where the number of each stands.
-ghost use Rattle.egt_fill.specs.Prelude.{◌≡◌, ◌≢◌, ◌+◌, ◌*◌, ◌<◌, ◌≤◌, ℕ, false, true, All, IfOk, IfSome, length};
-ghost use Rattle.egt_fill.specs.Prelude.{slice_index_or, AreShelvesOf, with_kings, IsOwnTable, AreMenOf, TableValue};
-ghost use Rattle.egt_fill.specs.Prelude.{AreNumbered, IsItem, no_squares, IsFilling};
+ghost use Rattle.std.specs.Prelude.{◌≡◌, ◌≢◌, ◌+◌, ◌*◌, ◌<◌, ◌≤◌, ℕ, false, true, IfOk, IfSome, length, slice_index_or};
+ghost use Rattle.egt_fill.specs.Prelude.{All, AreShelvesOf, with_kings, IsOwnTable, AreMenOf, TableValue, AreNumbered};
+ghost use Rattle.egt_fill.specs.Prelude.{IsItem, no_squares, IsFilling};
 
 use crate::filling::Filling;
 use crate::items::Item;

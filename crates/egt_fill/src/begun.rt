@@ -1,6 +1,7 @@
 //! Entries that are to be found, before any look: all positions are drawn in the part's columns, or dead.
-ghost use Rattle.egt_fill.specs.Prelude.{◌≡◌, ◌<◌, ℕ, None, length, IfErr, IfOk, IfSome, size_of, IsTable, table_in};
-ghost use Rattle.egt_fill.specs.Prelude.{AreDrawnOrNone, HasNoVoidScore, IsDrawnIndex, HasBytes, IsWithReach};
+ghost use Rattle.std.specs.Prelude.{◌≡◌, ◌<◌, ℕ, None, length, IfErr, IfOk, IfSome};
+ghost use Rattle.egt_fill.specs.Prelude.{size_of, IsTable, table_in, AreDrawnOrNone, HasNoVoidScore, IsDrawnIndex};
+ghost use Rattle.egt_fill.specs.Prelude.{HasBytes, IsWithReach};
 ghost use Rattle.egt_check.specs.declared.part.Part.TheVariants as parts;
 
 use egt_check::found::Found;

@@ -1,6 +1,7 @@
 //! Whole tables whose entries are due with the kings on all squares: of those that were looked at they are, and of the rest all are of no position.
-ghost use Rattle.egt_fill.specs.Prelude.{◌≡◌, ◌+◌, ◌<◌, ℕ, true, All, Contains, size_of, IsOwnTable, KeepsPart};
-ghost use Rattle.egt_fill.specs.Prelude.{AreAllJudged, IsDueItem, tables_with, IsFilling, Item};
+ghost use Rattle.std.specs.Prelude.{◌≡◌, ◌+◌, ◌<◌, ℕ, true, Contains};
+ghost use Rattle.egt_fill.specs.Prelude.{All, size_of, IsOwnTable, KeepsPart, AreAllJudged, IsDueItem, tables_with};
+ghost use Rattle.egt_fill.specs.Prelude.{IsFilling, Item};
 
 use crate::filling::Filling;
 use crate::items::Item;

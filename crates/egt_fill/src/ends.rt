@@ -1,5 +1,6 @@
 //! Positions without a move.
-ghost use Rattle.egt_fill.specs.Prelude.{◌≡◌, ◌<◌, ℕ, IfSome, size_of, IsEndScore};
+ghost use Rattle.std.specs.Prelude.{◌≡◌, ◌<◌, ℕ, IfSome};
+ghost use Rattle.egt_fill.specs.Prelude.{size_of, IsEndScore};
 
 use egt_check::row_judging::entry_without_move;
 use egt_class::Class;

@@ -1,5 +1,6 @@
 //! What a part of a class's table is filled by.
-ghost use Rattle.egt_fill.specs.Prelude.{◌≡◌, IfSome, IsFilling};
+ghost use Rattle.std.specs.Prelude.{◌≡◌, IfSome};
+ghost use Rattle.egt_fill.specs.Prelude.{IsFilling};
 
 use egt_check::Library;
 use egt_check::move_scores::Children;

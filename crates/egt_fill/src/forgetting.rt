@@ -1,7 +1,7 @@
 //! Blocks that are forgotten: those that were read from entries in whose place others were put.
-ghost use Rattle.egt_fill.specs.Prelude.{◌≡◌, ◌<◌, ◌/◌, ◌%◌, ◌==◌, ℕ, None, length, slice_index_or, other_side};
-ghost use Rattle.egt_fill.specs.Prelude.{turned_square, Side, material_of, IsTurnWith, has_pawns, wide_place, Column};
-ghost use Rattle.egt_fill.specs.Prelude.{AreFewer, AreForgotten};
+ghost use Rattle.std.specs.Prelude.{◌≡◌, ◌<◌, ◌/◌, ◌%◌, ◌==◌, ℕ, None, length, slice_index_or};
+ghost use Rattle.egt_fill.specs.Prelude.{other_side, turned_square, Side, material_of, IsTurnWith, has_pawns};
+ghost use Rattle.egt_fill.specs.Prelude.{wide_place, Column, AreFewer, AreForgotten};
 
 use crate::turns::turns_of;
 use egt_blocks::kept_blocks::{BlockKey, wide_place};

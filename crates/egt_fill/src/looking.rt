@@ -1,7 +1,7 @@
 //! A look at an item: what is due to the greatest scores of all moves is put in its entries.
-ghost use Rattle.egt_fill.specs.Prelude.{◌≡◌, ◌≢◌, ◌<◌, ℕ, true, other_side, AreKept, IsOwnTable, column_score};
-ghost use Rattle.egt_fill.specs.Prelude.{AreItemScores, IsItem, IsRightItem, IsSameItem, IsSeenItem, men_of, IsMended};
-ghost use Rattle.egt_fill.specs.Prelude.{IsFilling};
+ghost use Rattle.std.specs.Prelude.{◌≡◌, ◌≢◌, ◌<◌, ℕ, true};
+ghost use Rattle.egt_fill.specs.Prelude.{other_side, AreKept, IsOwnTable, column_score, AreItemScores, IsItem};
+ghost use Rattle.egt_fill.specs.Prelude.{IsRightItem, IsSameItem, IsSeenItem, men_of, IsMended, IsFilling};
 ghost use Rattle.egt_fill.specs.declared.mending.Mended.TheVariants as mends;
 
 use crate::filling::Filling;

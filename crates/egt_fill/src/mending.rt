@@ -1,6 +1,6 @@
 //! Entries that are put where they are not due to the greatest scores of the moves.
-ghost use Rattle.egt_fill.specs.Prelude.{◌≡◌, ◌≢◌, ◌+◌, ◌*◌, ◌<◌, ◌==◌, if◌then◌else◌, ℕ, true, slice_index, bit_at};
-ghost use Rattle.egt_fill.specs.Prelude.{Has, code_of, kind_digits, kind_less, AreMenOf, number_in, size_of};
+ghost use Rattle.std.specs.Prelude.{◌≡◌, ◌≢◌, ◌+◌, ◌*◌, ◌<◌, ◌==◌, if◌then◌else◌, ℕ, true, slice_index};
+ghost use Rattle.egt_fill.specs.Prelude.{bit_at, Has, code_of, kind_digits, kind_less, AreMenOf, number_in, size_of};
 ghost use Rattle.egt_fill.specs.Prelude.{AreShelvesOf, HasColumn, column_of, table_in, Zeroing, IsToldAt, IsRightEndOf};
 ghost use Rattle.egt_fill.specs.Prelude.{IsMaskOf, HasBytes, score_at, AllEnded, AreEnded, AreRightRows, IsCodeIn};
 ghost use Rattle.egt_fill.specs.Prelude.{IsCodeOf, IsLaneOf, IsMendedAt, IsPutAt, IsRightRow, IsRowSeen, IsShelf};

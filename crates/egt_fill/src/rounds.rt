@@ -1,8 +1,8 @@
 //! Rounds of looks: an item is looked at where something that it reads has changed since it was, until nothing has.
-ghost use Rattle.egt_fill.specs.Prelude.{◌≡◌, ◌≢◌, ◌↔◌, ℕ, length, Some, IfSome, IsTrue, false, true, All, other_side};
-ghost use Rattle.egt_fill.specs.Prelude.{Black, White, IsOwnTable, IsDueItem, IsItem, men_of, IsMended, IsMendedAt};
-ghost use Rattle.egt_fill.specs.Prelude.{AreAllKept, AreFreshItems, IsFreshItem, IsUntouched, IsUntouchedPass};
-ghost use Rattle.egt_fill.specs.Prelude.{IsFilling, IsFresh, IsLookedAt, IsStamped, IsUnderWay, Item};
+ghost use Rattle.std.specs.Prelude.{◌≡◌, ◌≢◌, ◌↔◌, ℕ, length, Some, IfSome, IsTrue, false, true};
+ghost use Rattle.egt_fill.specs.Prelude.{All, other_side, Black, White, IsOwnTable, IsDueItem, IsItem, men_of};
+ghost use Rattle.egt_fill.specs.Prelude.{IsMended, IsMendedAt, AreAllKept, AreFreshItems, IsFreshItem, IsUntouched};
+ghost use Rattle.egt_fill.specs.Prelude.{IsUntouchedPass, IsFilling, IsFresh, IsLookedAt, IsStamped, IsUnderWay, Item};
 ghost use Rattle.egt_fill.specs.declared.rounds.Visited.TheVariants as visits;
 
 use crate::filling::Filling;

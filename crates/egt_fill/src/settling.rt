@@ -1,7 +1,7 @@
 //! Entries that are put until all are due.
-ghost use Rattle.egt_fill.specs.Prelude.{◌≡◌, ◌<◌, ℕ, true, length, slice_index, IfOk, Black, White, size_of};
-ghost use Rattle.egt_fill.specs.Prelude.{HasColumn, Column, beside, table_at, IsOwnTable, table_in, KeepsPart};
-ghost use Rattle.egt_fill.specs.Prelude.{HasBytes, IsMendedAt, AreAllKept, IsFilling, IsUnderWay};
+ghost use Rattle.std.specs.Prelude.{◌≡◌, ◌<◌, ℕ, true, length, slice_index, IfOk};
+ghost use Rattle.egt_fill.specs.Prelude.{Black, White, size_of, HasColumn, Column, beside, table_at, IsOwnTable};
+ghost use Rattle.egt_fill.specs.Prelude.{table_in, KeepsPart, HasBytes, IsMendedAt, AreAllKept, IsFilling, IsUnderWay};
 ghost use Rattle.egt_check.specs.declared.part.Part.TheVariants as parts;
 
 use crate::beginning::{PLACES, begun_items, places_of};

@@ -1,6 +1,7 @@
 //! Stamps: for each pair of kings' squares and side to move, when entries of such positions last changed.
-ghost use Rattle.egt_fill.specs.Prelude.{◌≡◌, ◌<◌, ◌≤◌, ◌/◌, ◌%◌, ◌==◌, ℕ, false, length, slice_index, turned_square};
-ghost use Rattle.egt_fill.specs.Prelude.{Side, material_of, IsTurnWith, has_pawns, IsFresh, stamp_place, TurnsTo};
+ghost use Rattle.std.specs.Prelude.{◌≡◌, ◌<◌, ◌≤◌, ◌/◌, ◌%◌, ◌==◌, ℕ, false, length, slice_index};
+ghost use Rattle.egt_fill.specs.Prelude.{turned_square, Side, material_of, IsTurnWith, has_pawns, IsFresh, stamp_place};
+ghost use Rattle.egt_fill.specs.Prelude.{TurnsTo};
 
 use crate::turns::turns_of;
 use egt_blocks::king_blocks::beside_king;

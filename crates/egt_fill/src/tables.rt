@@ -1,6 +1,7 @@
 //! Tables of classes with two men beside the kings, filled beside those of their children.
-ghost use Rattle.egt_fill.specs.Prelude.{◌≡◌, None, IfOk, IfSome, HasChildren, HasReachChildren, table_at};
-ghost use Rattle.egt_fill.specs.Prelude.{HasTrueChildren, IsTrueTable, IsReached};
+ghost use Rattle.std.specs.Prelude.{◌≡◌, None, IfOk, IfSome};
+ghost use Rattle.egt_fill.specs.Prelude.{HasChildren, HasReachChildren, table_at, HasTrueChildren, IsTrueTable};
+ghost use Rattle.egt_fill.specs.Prelude.{IsReached};
 
 use crate::begun::{begun_values, with_drawn_reach};
 use crate::filling::filling_of;

@@ -1,5 +1,6 @@
 //! The turns of a class, by their numbers.
-ghost use Rattle.egt_fill.specs.Prelude.{◌<◌, ◌≤◌, ℕ, material_of, IsTurnWith, has_pawns};
+ghost use Rattle.std.specs.Prelude.{◌<◌, ◌≤◌, ℕ};
+ghost use Rattle.egt_fill.specs.Prelude.{material_of, IsTurnWith, has_pawns};
 
 use egt_class::Class;
 use egt_index::men::has_pawns;

@@ -1,13 +1,14 @@
 -- What a run begins with.
-use Rattle.egt_graph.specs.Prelude.{◌≡◌, ℕ, ◌+◌, ◌<◌, ◌≤◌, ◌^◌, Bool, true, false, cond, not, ◌&&◌, eqb, ltb, List, []}
-use Rattle.egt_graph.specs.Prelude.{◌∷◌, ◌++◌, length, slice_index, slice_index_or, get_or, take, refl, sym, ap, ap₂}
-use Rattle.egt_graph.specs.Prelude.{◌∙◌, inl, inr, arith, count_by, replicate, list_any, cases_Bool, cases_eq, cases_lt}
-use Rattle.egt_graph.specs.Prelude.{eq-eqb, ne_eqb, and_left, and_right, le-ltb, or_from, get_or_append_left}
-use Rattle.egt_graph.specs.Prelude.{get_or_push, get_or_past, length_push, length-replicate, sum_by_more, Graph}
-use Rattle.egt_graph.specs.Prelude.{is_empty, is_lost_before, is_won_before, mated_within, Adds, IsFilled, IsBegun}
-use Rattle.egt_graph.specs.Prelude.{outs, leaves, has_moves, count_of, decided, entry_at, later_at, is_loss, is_win_of}
-use Rattle.egt_graph.specs.Prelude.{is_loss_of, waits_at, is_winning, is_win_from, done_of, Amid, Await, Exit, Win}
-use Rattle.egt_graph.specs.Prelude.{Loss, Draw, is_node, blocks_of, IsRun, IsSchedule, Running}
+use Rattle.std.proofs.Common.{◌≡◌, ℕ, ◌+◌, ◌<◌, ◌≤◌, ◌^◌, Bool, true, false, cond, not, ◌&&◌, eqb, ltb, List, [], ◌∷◌}
+use Rattle.std.proofs.Common.{◌++◌, length, slice_index, slice_index_or, get_or, take, refl, sym, ap, ap₂, ◌∙◌, inl}
+use Rattle.std.proofs.Common.{inr, arith, count_by, replicate}
+use Rattle.egt_graph.specs.Prelude.{list_any, cases_Bool, cases_eq, cases_lt, eq-eqb, ne_eqb, and_left, and_right}
+use Rattle.egt_graph.specs.Prelude.{le-ltb, or_from, get_or_append_left, get_or_push, get_or_past, length_push}
+use Rattle.egt_graph.specs.Prelude.{length-replicate, sum_by_more, Graph, is_empty, is_lost_before, is_won_before}
+use Rattle.egt_graph.specs.Prelude.{mated_within, Adds, IsFilled, IsBegun, outs, leaves, has_moves, count_of, decided}
+use Rattle.egt_graph.specs.Prelude.{entry_at, later_at, is_loss, is_win_of, is_loss_of, waits_at, is_winning}
+use Rattle.egt_graph.specs.Prelude.{is_win_from, done_of, Amid, Await, Exit, Win, Loss, Draw, is_node, blocks_of, IsRun}
+use Rattle.egt_graph.specs.Prelude.{IsSchedule, Running}
 use Rattle.egt_graph.proofs.Lists.{all_count, count_by-cons}
 use Rattle.egt_graph.proofs.Holding.{decided_none}
 use Rattle.egt_graph.proofs.Nodes.{outs_none, leaves_none}

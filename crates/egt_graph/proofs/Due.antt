@@ -1,12 +1,12 @@
 -- Entries that are due are the ranks and the numbers of the nearest mates: by the number in the entry each is reached, and by plies none is sooner.
-use Rattle.egt_graph.specs.Prelude.{◌≡◌, ℕ, zero, suc, ◌+◌, ◌*◌, ◌<◌, ◌≤◌, ◌&&◌, true, false, not, List, [], ◌∷◌}
-use Rattle.egt_graph.specs.Prelude.{Contains, length, slice_index, Option, Some, None, refl, sym, ap, subst, ◌∙◌, inl}
-use Rattle.egt_graph.specs.Prelude.{inr, arith, list_any, list_all, option_map, and_from, and_parts, both_ways}
-use Rattle.egt_graph.specs.Prelude.{cases_Bool, false_from_ne_true, false≢true, lt-ltb, ltb-true, or_cases, or_from}
-use Rattle.egt_graph.specs.Prelude.{or_left, or_right, All-contains, AreDue, IsAsGood, IsAsNear, IsBest, IsDueAt}
-use Rattle.egt_graph.specs.Prelude.{IsNext, Measure, SameNext, near_outside, nears, value_before, values, Graph, IsGame}
-use Rattle.egt_graph.specs.Prelude.{IsNode, AreNears, HasNear, IsShort, SomeFar, is_near_exit, near_entry_of}
-use Rattle.egt_graph.specs.Prelude.{near_within, AreRanks, HasRank, IsWithin, SomeAbove, entry_of, has_move, is_empty}
+use Rattle.std.proofs.Common.{◌≡◌, ℕ, zero, suc, ◌+◌, ◌*◌, ◌<◌, ◌≤◌, ◌&&◌, true, false, not, List, [], ◌∷◌, Contains}
+use Rattle.std.proofs.Common.{length, slice_index, Option, Some, None, refl, sym, ap, subst, ◌∙◌, inl, inr, arith}
+use Rattle.egt_graph.specs.Prelude.{list_any, list_all, option_map, and_from, and_parts, both_ways, cases_Bool}
+use Rattle.egt_graph.specs.Prelude.{false_from_ne_true, false≢true, lt-ltb, ltb-true, or_cases, or_from, or_left}
+use Rattle.egt_graph.specs.Prelude.{or_right, All-contains, AreDue, IsAsGood, IsAsNear, IsBest, IsDueAt, IsNext}
+use Rattle.egt_graph.specs.Prelude.{Measure, SameNext, near_outside, nears, value_before, values, Graph, IsGame, IsNode}
+use Rattle.egt_graph.specs.Prelude.{AreNears, HasNear, IsShort, SomeFar, is_near_exit, near_entry_of, near_within}
+use Rattle.egt_graph.specs.Prelude.{AreRanks, HasRank, IsWithin, SomeAbove, entry_of, has_move, is_empty}
 use Rattle.egt_graph.specs.Prelude.{is_lost_before, is_won_before, mated_within, mates_within, Exit, Win, Loss, Draw}
 use Rattle.egt_graph.proofs.Lists.{all_contains, any_contains, contains_all, contains_any}
 use Rattle.egt_graph.proofs.Nearby.{near_by_exit, near_by_move}

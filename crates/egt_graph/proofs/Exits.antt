@@ -1,10 +1,10 @@
 -- Exits that fall due: those of number r count from the end of round r on.
-use Rattle.egt_graph.specs.Prelude.{◌≡◌, ℕ, ◌+◌, ◌<◌, ◌≤◌, Bool, true, false, cond, not, ◌||◌, eqb, ltb, List}
-use Rattle.egt_graph.specs.Prelude.{refl, sym, ap, ◌∙◌, inl, inr, arith, count_by, list_any, false≢true, lt-ltb, le-ltb}
-use Rattle.egt_graph.specs.Prelude.{le-leb, lt-leb, eq-eqb, ne_eqb, and_right, not_from_false, cases_order, Graph}
-use Rattle.egt_graph.specs.Prelude.{is_empty, is_lost_before, is_won_before, outs, leaves, has_moves, count_of}
-use Rattle.egt_graph.specs.Prelude.{is_known_loss, waits_at, is_winning, is_win_of, is_loss_of, is_win_from, later_at}
-use Rattle.egt_graph.specs.Prelude.{Amid, Marks, TakesBack, Exit, Win, Loss, Draw}
+use Rattle.std.proofs.Common.{◌≡◌, ℕ, ◌+◌, ◌<◌, ◌≤◌, Bool, true, false, cond, not, ◌||◌, eqb, ltb, List, refl, sym, ap}
+use Rattle.std.proofs.Common.{◌∙◌, inl, inr, arith, count_by}
+use Rattle.egt_graph.specs.Prelude.{list_any, false≢true, lt-ltb, le-ltb, le-leb, lt-leb, eq-eqb, ne_eqb, and_right}
+use Rattle.egt_graph.specs.Prelude.{not_from_false, cases_order, Graph, is_empty, is_lost_before, is_won_before, outs}
+use Rattle.egt_graph.specs.Prelude.{leaves, has_moves, count_of, is_known_loss, waits_at, is_winning, is_win_of}
+use Rattle.egt_graph.specs.Prelude.{is_loss_of, is_win_from, later_at, Amid, Marks, TakesBack, Exit, Win, Loss, Draw}
 use Rattle.egt_graph.proofs.Lists.{counted_some, count_split, count_weaker, any_or, some_counts}
 use Rattle.egt_graph.proofs.Holding.{Hold-mark, Hold-take}
 

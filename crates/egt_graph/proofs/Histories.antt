@@ -1,16 +1,16 @@
 -- Any list of events.
-use Rattle.egt_graph.specs.Prelude.{◌≡◌, ℕ, zero, suc, ◌+◌, ◌<◌, Bool, true, false, cond, not, ◌&&◌, ◌||◌, eqb, List}
-use Rattle.egt_graph.specs.Prelude.{[], ◌∷◌, ◌++◌, length, slice_index_or, set, refl, sym, ap, ap₂, subst, ◌∙◌, inl}
-use Rattle.egt_graph.specs.Prelude.{inr, ◌⊎◌, arith, count_by, list_any, list_all, cases_eq, cases_order}
-use Rattle.egt_graph.specs.Prelude.{eq-eqb, ne_eqb, both_ways, or_left, true≢false, length-set, length-replicate}
-use Rattle.egt_graph.specs.Prelude.{get_or-replicate, get_or-set_same, get_or-set_other, Graph, IsNode, IsGame, IsAlike}
-use Rattle.egt_graph.specs.Prelude.{AreRanks, SomeAbove, NoneAbove, mated_within, mates_within, mated_before}
-use Rattle.egt_graph.specs.Prelude.{mates_before, decided_within, is_empty, is_lost_before, is_won_before, HasRank}
-use Rattle.egt_graph.specs.Prelude.{blocks_of, front, State, begun, listed, listed_in, is_posted_in, none_posted}
-use Rattle.egt_graph.specs.Prelude.{ClosesIn, ClosesRunning, Event, Expanded, Received, Closed, Steps, Runs, is_next}
-use Rattle.egt_graph.specs.Prelude.{is_end, ticked_by, ticked_after, phase_by, phase_after, is_running, AfterEvents}
-use Rattle.egt_graph.specs.Prelude.{EventsLeave, EachRoundIsOfItsRank, FinishedRunsAgree, Phase, Posted, Repeat, Stale}
-use Rattle.egt_graph.specs.Prelude.{Close, Exit, Win, Loss, Draw}
+use Rattle.std.proofs.Common.{◌≡◌, ℕ, zero, suc, ◌+◌, ◌<◌, Bool, true, false, cond, not, ◌&&◌, ◌||◌, eqb, List, [], ◌∷◌}
+use Rattle.std.proofs.Common.{◌++◌, length, slice_index_or, set, refl, sym, ap, ap₂, subst, ◌∙◌, inl, inr, ◌⊎◌, arith}
+use Rattle.std.proofs.Common.{count_by}
+use Rattle.egt_graph.specs.Prelude.{list_any, list_all, cases_eq, cases_order, eq-eqb, ne_eqb, both_ways, or_left}
+use Rattle.egt_graph.specs.Prelude.{true≢false, length-set, length-replicate, get_or-replicate, get_or-set_same}
+use Rattle.egt_graph.specs.Prelude.{get_or-set_other, Graph, IsNode, IsGame, IsAlike, AreRanks, SomeAbove, NoneAbove}
+use Rattle.egt_graph.specs.Prelude.{mated_within, mates_within, mated_before, mates_before, decided_within, is_empty}
+use Rattle.egt_graph.specs.Prelude.{is_lost_before, is_won_before, HasRank, blocks_of, front, State, begun, listed}
+use Rattle.egt_graph.specs.Prelude.{listed_in, is_posted_in, none_posted, ClosesIn, ClosesRunning, Event, Expanded}
+use Rattle.egt_graph.specs.Prelude.{Received, Closed, Steps, Runs, is_next, is_end, ticked_by, ticked_after, phase_by}
+use Rattle.egt_graph.specs.Prelude.{phase_after, is_running, AfterEvents, EventsLeave, EachRoundIsOfItsRank}
+use Rattle.egt_graph.specs.Prelude.{FinishedRunsAgree, Phase, Posted, Repeat, Stale, Close, Exit, Win, Loss, Draw}
 use Rattle.egt_graph.specs.declared.answer.Phase.TheVariants.{Running, Finished as IsOver, TooDeep as IsPastLimit}
 use Rattle.egt_graph.specs.declared.answer.Close.TheVariants.{Next, Finished, NotAll, TooDeep}
 use Rattle.egt_graph.proofs.Lists.{count_by-cons, any_same_on, all_same_on}

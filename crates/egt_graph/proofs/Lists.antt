@@ -1,11 +1,11 @@
 -- Counts and tests over lists.
-use Rattle.egt_graph.specs.Prelude.{◌≡◌, ℕ, zero, suc, ◌+◌, ◌<◌, ◌≤◌, Bool, true, false, cond, not, ◌&&◌, ◌||◌, eqb}
-use Rattle.egt_graph.specs.Prelude.{ltb, List, [], ◌∷◌, length, get_or, refl, sym, ap, ap₂, ◌∙◌, inl, inr}
-use Rattle.egt_graph.specs.Prelude.{arith, count_by, All, Contains, list_any, list_all, IsStrictlyIncreasing, count_of}
-use Rattle.egt_graph.specs.Prelude.{is_empty}
-use Rattle.egt_graph.specs.Prelude.{or_left, or_right, false≢true, cases_Bool, lt-ltb}
-use Rattle.egt_graph.specs.Prelude.{eqb-true, eq-eqb, ne_eqb, AllPass-from_list_all, list_all-from_AllPass, sum_by-cons}
-use Rattle.egt_graph.specs.Prelude.{All-contains, All-contains_itself, All-head, All-tail, All-weaker}
+use Rattle.std.proofs.Common.{◌≡◌, ℕ, zero, suc, ◌+◌, ◌<◌, ◌≤◌, Bool, true, false, cond, not, ◌&&◌, ◌||◌, eqb, ltb}
+use Rattle.std.proofs.Common.{List, [], ◌∷◌, length, get_or, refl, sym, ap, ap₂, ◌∙◌, inl, inr, arith, count_by, All}
+use Rattle.std.proofs.Common.{Contains}
+use Rattle.egt_graph.specs.Prelude.{list_any, list_all, IsStrictlyIncreasing, count_of, is_empty, or_left, or_right}
+use Rattle.egt_graph.specs.Prelude.{false≢true, cases_Bool, lt-ltb, eqb-true, eq-eqb, ne_eqb, AllPass-from_list_all}
+use Rattle.egt_graph.specs.Prelude.{list_all-from_AllPass, sum_by-cons, All-contains, All-contains_itself, All-head}
+use Rattle.egt_graph.specs.Prelude.{All-tail, All-weaker}
 
 -- ---- tests of each and of some element
 

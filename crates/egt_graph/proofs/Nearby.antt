@@ -1,16 +1,15 @@
 -- The nearest mate, ply by ply: what is found in a round is what is one ply further away, and where nothing more is found all is known.
-use Rattle.egt_graph.specs.Prelude.{◌≡◌, ◌≢◌, ℕ, zero, suc, ◌+◌, ◌*◌, ◌/◌, ◌<◌, ◌≤◌, ◌⊎◌, Bool, true, false, cond, ◌||◌}
-use Rattle.egt_graph.specs.Prelude.{eqb, ltb, List, [], ◌∷◌, ◌++◌, length, slice_index, slice_index_or, get_or, refl}
-use Rattle.egt_graph.specs.Prelude.{sym, ap, ◌∙◌, subst, inl, inr, ⊎_elim, arith, All, Contains, count_by, Option, Some}
-use Rattle.egt_graph.specs.Prelude.{None, list_any, false≢true, cases_Bool, cases_lt, cases_eq, or_cases}
-use Rattle.egt_graph.specs.Prelude.{or_left, or_right, ltb-true, lt-ltb, le-ltb, eq-eqb, ne_eqb, both_ways}
-use Rattle.egt_graph.specs.Prelude.{get_or_default, length_push, All-head, All-tail, All-contains, Contains-append_left}
-use Rattle.egt_graph.specs.Prelude.{Contains-append_right, Contains-append_cases, Graph, IsNode, IsGame}
-use Rattle.egt_graph.specs.Prelude.{HasShortDistance, is_node, leaves, count_of, decided, Marks, is_loss_of, is_win_of}
-use Rattle.egt_graph.specs.Prelude.{Adds, IsFilled, is_near_exit, near_within, near_before, HasNear, near_entry_of}
-use Rattle.egt_graph.specs.Prelude.{IsShort, AreNears, SomeFar, near_at, IsNearing, IsNearingTo, led_from, found_by}
-use Rattle.egt_graph.specs.Prelude.{Finds, AreFound, NoneLater, near_of_entry, AreTold, IsOver, Exit, Win, Loss, Draw}
-use Rattle.egt_graph.specs.Prelude.{Nearing}
+use Rattle.std.proofs.Common.{◌≡◌, ◌≢◌, ℕ, zero, suc, ◌+◌, ◌*◌, ◌/◌, ◌<◌, ◌≤◌, ◌⊎◌, Bool, true, false, cond, ◌||◌, eqb}
+use Rattle.std.proofs.Common.{ltb, List, [], ◌∷◌, ◌++◌, length, slice_index, slice_index_or, get_or, refl, sym, ap, ◌∙◌}
+use Rattle.std.proofs.Common.{subst, inl, inr, ⊎_elim, arith, All, Contains, count_by, Option, Some, None}
+use Rattle.egt_graph.specs.Prelude.{list_any, false≢true, cases_Bool, cases_lt, cases_eq, or_cases, or_left, or_right}
+use Rattle.egt_graph.specs.Prelude.{ltb-true, lt-ltb, le-ltb, eq-eqb, ne_eqb, both_ways, get_or_default, length_push}
+use Rattle.egt_graph.specs.Prelude.{All-head, All-tail, All-contains, Contains-append_left, Contains-append_right}
+use Rattle.egt_graph.specs.Prelude.{Contains-append_cases, Graph, IsNode, IsGame, HasShortDistance, is_node, leaves}
+use Rattle.egt_graph.specs.Prelude.{count_of, decided, Marks, is_loss_of, is_win_of, Adds, IsFilled, is_near_exit}
+use Rattle.egt_graph.specs.Prelude.{near_within, near_before, HasNear, near_entry_of, IsShort, AreNears, SomeFar}
+use Rattle.egt_graph.specs.Prelude.{near_at, IsNearing, IsNearingTo, led_from, found_by, Finds, AreFound, NoneLater}
+use Rattle.egt_graph.specs.Prelude.{near_of_entry, AreTold, IsOver, Exit, Win, Loss, Draw, Nearing}
 use Rattle.egt_graph.proofs.Beginning.{at_every, Filled_more, pushed, outside}
 use Rattle.egt_graph.proofs.Exits.{below_next}
 use Rattle.egt_graph.proofs.Values.{stays_later}

@@ -1,8 +1,8 @@
 -- A filter of consecutive numbers.
-use Rattle.egt_graph.specs.Prelude.{◌≡◌, ℕ, zero, suc, ◌+◌, ◌<◌, ◌≤◌, Bool, true, false, cond, List, [], ◌∷◌, ◌++◌}
-use Rattle.egt_graph.specs.Prelude.{length, refl, ap, ◌∙◌, arith, filter, slice_index, IsFalse, frontier_below}
-use Rattle.egt_graph.specs.Prelude.{is_entry_of_round, range_with_len, append-nil, filter-append, length-filter}
-use Rattle.egt_graph.specs.Prelude.{count_by-le-length, length-range_with_len}
+use Rattle.std.proofs.Common.{◌≡◌, ℕ, zero, suc, ◌+◌, ◌<◌, ◌≤◌, Bool, true, false, cond, List, [], ◌∷◌, ◌++◌, length}
+use Rattle.std.proofs.Common.{refl, ap, ◌∙◌, arith, filter, slice_index, IsFalse}
+use Rattle.egt_graph.specs.Prelude.{frontier_below, is_entry_of_round, range_with_len, append-nil, filter-append}
+use Rattle.egt_graph.specs.Prelude.{length-filter, count_by-le-length, length-range_with_len}
 
 pub range_with_len-append : (a n m : ℕ) → range_with_len a (n + m) ≡ range_with_len a n ++ range_with_len (a + n) m
 range_with_len-append a zero m = let e : a + 0 ≡ a = omega arith in let f : 0 + m ≡ m = omega arith in rw (f, e) refl

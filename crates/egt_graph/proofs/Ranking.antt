@@ -1,6 +1,6 @@
 -- What entries say of ranks, and when no further rank can come.
-use Rattle.egt_graph.specs.Prelude.{◌≡◌, ℕ, zero, suc, ◌+◌, ◌*◌, ◌<◌, ◌≤◌, Bool, true, false, cond, eqb, List, length}
-use Rattle.egt_graph.specs.Prelude.{slice_index, refl, sym, ap, ap₂, ◌∙◌, inl, inr, ⊎_elim, arith, IsFalse}
+use Rattle.std.proofs.Common.{◌≡◌, ℕ, zero, suc, ◌+◌, ◌*◌, ◌<◌, ◌≤◌, Bool, true, false, cond, eqb, List, length}
+use Rattle.std.proofs.Common.{slice_index, refl, sym, ap, ap₂, ◌∙◌, inl, inr, ⊎_elim, arith, IsFalse}
 use Rattle.egt_graph.specs.Prelude.{cases_Bool, eq-eqb, both_ways, or_cases, or_left, or_right, cases_order}
 use Rattle.egt_graph.specs.Prelude.{false_from_ne_true, ext_get_or, Graph, IsNode, IsGame, mated_within, mates_within}
 use Rattle.egt_graph.specs.Prelude.{decided_within, HasRank, IsWithin, entry_of, AreRanks, NoneAbove, is_node, entry_at}

@@ -1,12 +1,12 @@
 -- What a run keeps, as it goes on.
-use Rattle.egt_graph.specs.Prelude.{◌≡◌, ◌≢◌, ℕ, ◌+◌, ◌/◌, ◌<◌, ◌≤◌, Bool, true, false, List, [], ◌++◌, length}
-use Rattle.egt_graph.specs.Prelude.{slice_index, slice_index_or, get_or, set, take, drop, sym, ap, subst, ◌∙◌, inl, inr}
-use Rattle.egt_graph.specs.Prelude.{arith, All, IsFalse, IsTrue, count_by, replicate, drop_all, append-nil, take_all}
-use Rattle.egt_graph.specs.Prelude.{length-set, get_or_default, get_or-replicate, get_or_past, length-replicate, Graph}
-use Rattle.egt_graph.specs.Prelude.{IsNode, IsGame, SomeAbove, NoneAbove, front, entry_front, blocks_of, State, listed}
-use Rattle.egt_graph.specs.Prelude.{listed_in, IsRun, Holds, IsSchedule, leaves, count_of, done_of, Amid, Await, Marks}
-use Rattle.egt_graph.specs.Prelude.{TakesBack, is_open_at, Phase, Running, Finished, Exit, is_node, cases_Bool}
-use Rattle.egt_graph.specs.Prelude.{cases_lt}
+use Rattle.std.proofs.Common.{◌≡◌, ◌≢◌, ℕ, ◌+◌, ◌/◌, ◌<◌, ◌≤◌, Bool, true, false, List, [], ◌++◌, length, slice_index}
+use Rattle.std.proofs.Common.{slice_index_or, get_or, set, take, drop, sym, ap, subst, ◌∙◌, inl, inr, arith, All}
+use Rattle.std.proofs.Common.{IsFalse, IsTrue, count_by, replicate}
+use Rattle.egt_graph.specs.Prelude.{drop_all, append-nil, take_all, length-set, get_or_default, get_or-replicate}
+use Rattle.egt_graph.specs.Prelude.{get_or_past, length-replicate, Graph, IsNode, IsGame, SomeAbove, NoneAbove, front}
+use Rattle.egt_graph.specs.Prelude.{entry_front, blocks_of, State, listed, listed_in, IsRun, Holds, IsSchedule, leaves}
+use Rattle.egt_graph.specs.Prelude.{count_of, done_of, Amid, Await, Marks, TakesBack, is_open_at, Phase, Running}
+use Rattle.egt_graph.specs.Prelude.{Finished, Exit, is_node, cases_Bool, cases_lt}
 use Rattle.egt_graph.proofs.Lists.{contains_counted}
 use Rattle.egt_graph.proofs.Nodes.{node_from_test, leaves_none}
 use Rattle.egt_graph.proofs.Exits.{lost_exits_mark, won_exits_take, won_exits_waited, later_next}

@@ -1,8 +1,9 @@
 -- A batch taken in, node by node.
-use Rattle.egt_graph.specs.Prelude.{◌≡◌, ◌≢◌, ℕ, ◌+◌, ◌*◌, ◌<◌, ◌≤◌, Bool, true, false, List, length, slice_index}
-use Rattle.egt_graph.specs.Prelude.{slice_index_or, get_or, set, sym, ap, subst, ◌∙◌, arith, All, and_parts, All-weaker}
-use Rattle.egt_graph.specs.Prelude.{Graph, IsNode, IsGame, IsAlike, mated_within, mates_within, mates_before, is_node}
-use Rattle.egt_graph.specs.Prelude.{front, ins, count_of, entry_at, decided, Amid, Marks, TakesBack, done_of, done_by}
+use Rattle.std.proofs.Common.{◌≡◌, ◌≢◌, ℕ, ◌+◌, ◌*◌, ◌<◌, ◌≤◌, Bool, true, false, List, length, slice_index}
+use Rattle.std.proofs.Common.{slice_index_or, get_or, set, sym, ap, subst, ◌∙◌, arith, All}
+use Rattle.egt_graph.specs.Prelude.{and_parts, All-weaker, Graph, IsNode, IsGame, IsAlike, mated_within, mates_within}
+use Rattle.egt_graph.specs.Prelude.{mates_before, is_node, front, ins, count_of, entry_at, decided, Amid, Marks}
+use Rattle.egt_graph.specs.Prelude.{TakesBack, done_of, done_by}
 use Rattle.egt_graph.proofs.Nodes.{node_from_test, ins_at, with_node, lost_node_marks, won_node_takes_back, less}
 use Rattle.egt_graph.proofs.Blocks.{Found, Wins, Loses, found, found_entry, front_at, Amid_redone, done_by_none, done_by_more, done_by_all, not_done}
 

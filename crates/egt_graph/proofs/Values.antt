@@ -1,9 +1,10 @@
 -- Values of nodes: more plies do no harm, and nobody both wins and loses.
-use Rattle.egt_graph.specs.Prelude.{◌≡◌, ℕ, zero, suc, ◌+◌, ◌<◌, ◌≤◌, Bool, true, ◌&&◌, List, [], sym, ap, ◌∙◌, inl}
-use Rattle.egt_graph.specs.Prelude.{inr, ⊎_elim, arith, list_any, list_all, or_cases, or_left, or_right, and_parts}
-use Rattle.egt_graph.specs.Prelude.{and_from, false≢true, lt-ltb, ltb-true, cases_order, Graph, IsNode, IsGame}
-use Rattle.egt_graph.specs.Prelude.{is_lost_before, is_won_before, has_move, mated_within, mates_within, mated_before}
-use Rattle.egt_graph.specs.Prelude.{mates_before, Exit, Win, Loss, Draw}
+use Rattle.std.proofs.Common.{◌≡◌, ℕ, zero, suc, ◌+◌, ◌<◌, ◌≤◌, Bool, true, ◌&&◌, List, [], sym, ap, ◌∙◌, inl, inr}
+use Rattle.std.proofs.Common.{⊎_elim, arith}
+use Rattle.egt_graph.specs.Prelude.{list_any, list_all, or_cases, or_left, or_right, and_parts, and_from, false≢true}
+use Rattle.egt_graph.specs.Prelude.{lt-ltb, ltb-true, cases_order, Graph, IsNode, IsGame, is_lost_before, is_won_before}
+use Rattle.egt_graph.specs.Prelude.{has_move, mated_within, mates_within, mated_before, mates_before, Exit, Win, Loss}
+use Rattle.egt_graph.specs.Prelude.{Draw}
 use Rattle.egt_graph.proofs.Lists.{any_weaker, all_weaker, any_all_clash}
 
 pub lost_before_more : (n : ℕ) (e : Exit) → is_lost_before n e ≡ true → is_lost_before (suc n) e ≡ true

@@ -30,10 +30,6 @@ pub use Rattle.egt_graph.specs.declared.game.Exit.{Exit}
 pub use Rattle.egt_graph.specs.declared.game.Exit.TheVariants.{Draw, Loss, Win}
 pub use Rattle.egt_graph.specs.declared.nearing.Nearing.{Nearing}
 pub use Rattle.egt_graph.specs.declared.solver.SolveFault.TheVariants.{NoMemory}
-pub use Rattle.std.proofs.Common.{All, Bool, Contains, List, None, Option, Some, [], ap, ap₂, arith, cond, count_by}
-pub use Rattle.std.proofs.Common.{drop, eqb, false, filter, get_or, inl, inr, length, ltb, not, refl, replicate, rules}
-pub use Rattle.std.proofs.Common.{set, slice_index, slice_index_or, subst, suc, sym, take, true, zero, ℕ, ⊎_elim, ◌&&◌}
-pub use Rattle.std.proofs.Common.{◌*◌, ◌++◌, ◌+◌, ◌-◌, ◌/◌, ◌<◌, ◌||◌, ◌∙◌, ◌∷◌, ◌≡◌, ◌≢◌, ◌≤◌, ◌⊎◌}
 pub use Rattle.std.proofs.lemmas.Bool.{and_from, and_left, and_parts, and_right, both_ways, cases_Bool, cases_eq}
 pub use Rattle.std.proofs.lemmas.Bool.{cases_lt, cases_order, eq-eqb, eqb-true, false_from_ne_true, false≢true, le-leb}
 pub use Rattle.std.proofs.lemmas.Bool.{le-ltb, lt-leb, lt-ltb, ltb-true, ne_eqb, not_from_false, or_cases, or_from}
@@ -52,4 +48,3 @@ pub use Rattle.std.proofs.lemmas.Result.{IfOk-weaker}
 pub use Rattle.std.specs.List.{list_all, list_any, range_with_len}
 pub use Rattle.std.specs.List.Sorted.{IsStrictlyIncreasing}
 pub use Rattle.std.specs.Option.{option_map}
-pub use Rattle.std.specs.Prelude.{IfOk, IsFalse, IsTrue, MatchBool, MatchResult, OnOk, slice_set, ◌^◌, ◌↔◌}

@@ -1,6 +1,6 @@
 //! The work of one block in one round.
-ghost use Rattle.egt_graph.specs.Prelude.{◌≡◌, ◌<◌, length, slice_index, All, IfOk, IsStrictlyIncreasing, IsNode};
-ghost use Rattle.egt_graph.specs.Prelude.{blocks_of};
+ghost use Rattle.std.specs.Prelude.{◌≡◌, ◌<◌, length, slice_index, All, IfOk};
+ghost use Rattle.egt_graph.specs.Prelude.{IsStrictlyIncreasing, IsNode, blocks_of};
 
 use crate::game::Game;
 use std::alloc::{AllocError, Global};

@@ -1,7 +1,7 @@
 //! What a run begins with.
-ghost use Rattle.egt_graph.specs.Prelude.{◌≡◌, ℕ, ◌+◌, ◌<◌, ◌≤◌, ◌^◌, length, count_by, [], ◌∷◌, OnOk, IfOk, list_any};
-ghost use Rattle.egt_graph.specs.Prelude.{outs, leaves, entry_at, is_loss, is_win_from, is_win_of, is_loss_of, Adds};
-ghost use Rattle.egt_graph.specs.Prelude.{IsBegun};
+ghost use Rattle.std.specs.Prelude.{◌≡◌, ℕ, ◌+◌, ◌<◌, ◌≤◌, ◌^◌, length, count_by, [], ◌∷◌, OnOk, IfOk};
+ghost use Rattle.egt_graph.specs.Prelude.{list_any, outs, leaves, entry_at, is_loss, is_win_from, is_win_of};
+ghost use Rattle.egt_graph.specs.Prelude.{is_loss_of, Adds, IsBegun};
 
 use crate::columns::DRAW;
 use crate::game::{Exit, Game};

@@ -1,5 +1,6 @@
 //! A finite game: nodes, the moves between them, and the moves that leave it.
-ghost use Rattle.egt_graph.specs.Prelude.{◌≡◌, ◌<◌, ◌≤◌, length, Graph, IsNode, IsGame};
+ghost use Rattle.std.specs.Prelude.{◌≡◌, ◌<◌, ◌≤◌, length};
+ghost use Rattle.egt_graph.specs.Prelude.{Graph, IsNode, IsGame};
 
 use arrayvec::ArrayVec;
 

@@ -1,5 +1,6 @@
 //! How far the nearest mate is, of each node of a game.
-ghost use Rattle.egt_graph.specs.Prelude.{◌≡◌, ◌≤◌, IfOk, IsTrue, AreNears, AreTold, IsOver, SomeFar};
+ghost use Rattle.std.specs.Prelude.{◌≡◌, ◌≤◌, IfOk, IsTrue};
+ghost use Rattle.egt_graph.specs.Prelude.{AreNears, AreTold, IsOver, SomeFar};
 
 use crate::game::Game;
 use crate::nearing::{Nearing, any_found, begin_nearing, step_back, tell};

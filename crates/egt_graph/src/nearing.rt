@@ -1,7 +1,8 @@
 //! The nearest mate, backward and breadth first: what is kept, and one ply more.
-ghost use Rattle.egt_graph.specs.Prelude.{◌≡◌, ◌≢◌, ℕ, ◌+◌, ◌*◌, ◌^◌, ◌<◌, ◌≤◌, length, slice_index, All, IfOk, OnOk};
-ghost use Rattle.egt_graph.specs.Prelude.{MatchBool, leaves, IsNode, AreFound, AreTold, Finds, IsNearing, IsNearingTo};
-ghost use Rattle.egt_graph.specs.Prelude.{found_by, led_from, near_at, near_of_entry};
+ghost use Rattle.std.specs.Prelude.{◌≡◌, ◌≢◌, ℕ, ◌+◌, ◌*◌, ◌^◌, ◌<◌, ◌≤◌, length, slice_index, All, IfOk, OnOk};
+ghost use Rattle.std.specs.Prelude.{MatchBool};
+ghost use Rattle.egt_graph.specs.Prelude.{leaves, IsNode, AreFound, AreTold, Finds, IsNearing, IsNearingTo, found_by};
+ghost use Rattle.egt_graph.specs.Prelude.{led_from, near_at, near_of_entry};
 
 use crate::begin::schedule_exits;
 use crate::columns::{DRAW, mark_wins};

@@ -1,6 +1,6 @@
 //! Ranks by rounds: in round r the nodes of rank r are taken back, block by block, in any order.
-ghost use Rattle.egt_graph.specs.Prelude.{◌≡◌, ◌≢◌, ◌↔◌, ℕ, ◌+◌, ◌<◌, ◌≤◌, true, false, List, length, slice_index};
-ghost use Rattle.egt_graph.specs.Prelude.{slice_index_or, All, IsTrue, IfOk, MatchResult, MatchBool, replicate};
+ghost use Rattle.std.specs.Prelude.{◌≡◌, ◌≢◌, ◌↔◌, ℕ, ◌+◌, ◌<◌, ◌≤◌, true, false, List, length, slice_index};
+ghost use Rattle.std.specs.Prelude.{slice_index_or, All, IsTrue, IfOk, MatchResult, MatchBool, replicate};
 ghost use Rattle.egt_graph.specs.Prelude.{IsStrictlyIncreasing, IsAlike, IsNode, AreRanks, blocks_of, begun, listed};
 ghost use Rattle.egt_graph.specs.Prelude.{is_posted, IsCurrent, Posts, Closes, ClosesRunning};
 ghost use Rattle.egt_graph.specs.declared.answer.Phase.TheVariants.{Running, Finished as IsOver};

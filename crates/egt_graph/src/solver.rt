@@ -1,6 +1,6 @@
 //! A whole game by one worker.
-ghost use Rattle.egt_graph.specs.Prelude.{◌≡◌, ◌≢◌, ◌≤◌, true, length, IfOk, OnOk, AreRanks, SomeAbove, AllPosted};
-ghost use Rattle.egt_graph.specs.Prelude.{State, Running, NoMemory};
+ghost use Rattle.std.specs.Prelude.{◌≡◌, ◌≢◌, ◌≤◌, true, length, IfOk, OnOk};
+ghost use Rattle.egt_graph.specs.Prelude.{AreRanks, SomeAbove, AllPosted, State, Running, NoMemory};
 
 use crate::answer::Close;
 use crate::game::Game;

@@ -1,6 +1,6 @@
 //! What a post and a close do to the columns.
-ghost use Rattle.egt_graph.specs.Prelude.{◌≡◌, ℕ, ◌+◌, ◌<◌, ◌≤◌, true, false, List, length, slice_index};
-ghost use Rattle.egt_graph.specs.Prelude.{slice_index_or, slice_set, replicate, All, IsTrue, IsFalse, MatchBool};
+ghost use Rattle.std.specs.Prelude.{◌≡◌, ℕ, ◌+◌, ◌<◌, ◌≤◌, true, false, List, length, slice_index, slice_index_or};
+ghost use Rattle.std.specs.Prelude.{slice_set, replicate, All, IsTrue, IsFalse, MatchBool};
 ghost use Rattle.egt_graph.specs.Prelude.{IsAlike, front, Amid, Marks, TakesBack, count_of, done_of, is_open_at};
 
 use crate::batch::Batch;

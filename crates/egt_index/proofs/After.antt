@@ -1,9 +1,9 @@
 -- The men of a class where a turn takes them, and the code of their squares.
-use Rattle.egt_index.specs.Prelude.{◌≡◌, ◌≢◌, ℕ, ◌/◌, ◌%◌, ◌<◌, ◌≤◌, ◌&&◌, Bool, true, false, cond, ltb, eqb, List, []}
-use Rattle.egt_index.specs.Prelude.{◌∷◌, ◌++◌, map, Option, Some, None, arith, refl, sym, ap, ◌∙◌, inl, inr, subst}
-use Rattle.egt_index.specs.Prelude.{slice_index, option_map, option_to_list, cases_eq, and_parts, eqb-true, ltb-true}
-use Rattle.egt_index.specs.Prelude.{map-append, White, Black, Man, Colours, king_of, side_number, men_of, Placement}
-use Rattle.egt_index.specs.Prelude.{Stands, get-remove_same, get-remove_other, IsSettled, Setup, IsAdmissible, IsKingOn}
+use Rattle.std.proofs.Common.{◌≡◌, ◌≢◌, ℕ, ◌/◌, ◌%◌, ◌<◌, ◌≤◌, ◌&&◌, Bool, true, false, cond, ltb, eqb, List, [], ◌∷◌}
+use Rattle.std.proofs.Common.{◌++◌, map, Option, Some, None, arith, refl, sym, ap, ◌∙◌, inl, inr, subst, slice_index}
+use Rattle.egt_index.specs.Prelude.{option_map, option_to_list, cases_eq, and_parts, eqb-true, ltb-true, map-append}
+use Rattle.egt_index.specs.Prelude.{White, Black, Man, Colours, king_of, side_number, men_of, Placement, Stands}
+use Rattle.egt_index.specs.Prelude.{get-remove_same, get-remove_other, IsSettled, Setup, IsAdmissible, IsKingOn}
 use Rattle.egt_index.specs.Prelude.{IsSetBy, turned_square, turned_man, turned_side, all_below, passes_below, Material}
 use Rattle.egt_index.specs.Prelude.{material_of, IsOf, king_square, placed, target_digits, target_digit, number_from}
 use Rattle.egt_index.specs.Prelude.{AreDigits, Facts, AreCounted, Picks, Goes, king_base, base_of, men_beside}

@@ -1,7 +1,8 @@
 -- What the digits of a code say.
-use Rattle.egt_index.specs.Prelude.{◌≡◌, ℕ, ◌<◌, Bool, List, true, false, Option, Some, None, IfSome, refl, sym, subst}
-use Rattle.egt_index.specs.Prelude.{inl, inr, Side, White, Black, Man, pawn_of, ahead, Setup, Material, Spells, Facts}
-use Rattle.egt_index.specs.Prelude.{IsIndex, IsVoid, HasPawns, IsListed, IsTold, SpellsMen, list_of, Stand}
+use Rattle.std.proofs.Common.{◌≡◌, ℕ, ◌<◌, Bool, List, true, false, Option, Some, None, IfSome, refl, sym, subst, inl}
+use Rattle.std.proofs.Common.{inr}
+use Rattle.egt_index.specs.Prelude.{Side, White, Black, Man, pawn_of, ahead, Setup, Material, Spells, Facts, IsIndex}
+use Rattle.egt_index.specs.Prelude.{IsVoid, HasPawns, IsListed, IsTold, SpellsMen, list_of, Stand}
 use Rattle.egt_index.proofs.Telling.{index_or_void}
 
 -- some position is spelled by a code that is not void, and has it as its index

@@ -1,13 +1,13 @@
 -- Codes of images compared with a code that spells the position.
-use Rattle.egt_index.specs.Prelude.{◌≡◌, ◌≢◌, ℕ, ◌+◌, ◌*◌, ◌/◌, ◌%◌, ◌<◌, ◌≤◌, not, Bool, true, false, cond, eqb, List}
-use Rattle.egt_index.specs.Prelude.{[], ◌∷◌, ◌++◌, map, Option, Some, None, IfSome, arith, refl, sym, ap, ◌∙◌, inl, inr}
-use Rattle.egt_index.specs.Prelude.{subst, option_map, cases_eq, cases_lt, Side, White, Black, Man, king_of}
-use Rattle.egt_index.specs.Prelude.{side_number, AreImages, men_of, Stands, IsSettled, Setup, IsAdmissible, KeepsPlay}
-use Rattle.egt_index.specs.Prelude.{turned_square, turned_man, Material, material_of, has_equal_sides, IsOf, Beats}
-use Rattle.egt_index.specs.Prelude.{HasKingsOn, Keeps, KeepsWith, IsBeaten, TurnBeats, TurnKeeps, Spells, king_square}
-use Rattle.egt_index.specs.Prelude.{men_at, target_digits, number_from, number_of, AreDigits, Facts, BringsHome}
-use Rattle.egt_index.specs.Prelude.{AreHome, IsTurnWith, IsIndex, base_of, bases, king_base, men_bases, men_beside}
-use Rattle.egt_index.specs.Prelude.{has_pawns, has_target, HasStand, list_of, AllStand, on_square_of, IsTurn, Stand}
+use Rattle.std.proofs.Common.{◌≡◌, ◌≢◌, ℕ, ◌+◌, ◌*◌, ◌/◌, ◌%◌, ◌<◌, ◌≤◌, not, Bool, true, false, cond, eqb, List, []}
+use Rattle.std.proofs.Common.{◌∷◌, ◌++◌, map, Option, Some, None, IfSome, arith, refl, sym, ap, ◌∙◌, inl, inr, subst}
+use Rattle.egt_index.specs.Prelude.{option_map, cases_eq, cases_lt, Side, White, Black, Man, king_of, side_number}
+use Rattle.egt_index.specs.Prelude.{AreImages, men_of, Stands, IsSettled, Setup, IsAdmissible, KeepsPlay, turned_square}
+use Rattle.egt_index.specs.Prelude.{turned_man, Material, material_of, has_equal_sides, IsOf, Beats, HasKingsOn, Keeps}
+use Rattle.egt_index.specs.Prelude.{KeepsWith, IsBeaten, TurnBeats, TurnKeeps, Spells, king_square, men_at}
+use Rattle.egt_index.specs.Prelude.{target_digits, number_from, number_of, AreDigits, Facts, BringsHome, AreHome}
+use Rattle.egt_index.specs.Prelude.{IsTurnWith, IsIndex, base_of, bases, king_base, men_bases, men_beside, has_pawns}
+use Rattle.egt_index.specs.Prelude.{has_target, HasStand, list_of, AllStand, on_square_of, IsTurn, Stand}
 use Rattle.std.specs.FinMap as placement
 use Rattle.egt_index.proofs.Best.{code_found, turn_number, turn_of}
 use Rattle.egt_index.proofs.Classes.{image_in_colours}

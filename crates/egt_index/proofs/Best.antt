@@ -1,12 +1,12 @@
 -- The least code of all images, turn by turn.
-use Rattle.egt_index.specs.Prelude.{◌≡◌, ℕ, ◌+◌, ◌/◌, ◌%◌, ◌<◌, ◌≤◌, ◌⊎◌, Bool, true, false, cond, eqb, min, List, []}
-use Rattle.egt_index.specs.Prelude.{◌∷◌, Option, Some, None, arith, refl, sym, ap, ◌∙◌, inl, inr, subst, option_map}
-use Rattle.egt_index.specs.Prelude.{IsSome, cases_eq, cases_lt, eq-eqb, eqb_tells, White, Black, Man, king_of, Stands}
-use Rattle.egt_index.specs.Prelude.{get-remove_same, men_of, Setup, IsAdmissible, IsKingOn, IsSettled, SettlesTo}
-use Rattle.egt_index.specs.Prelude.{KeepsPlay, IsTurnedBy, turned_square, turned_man, Material, material_of, IsOf}
-use Rattle.egt_index.specs.Prelude.{AreDigits, base_of, men_bases, men_in_order, has_pawns, Spells, square_of, men_at}
-use Rattle.egt_index.specs.Prelude.{IsIndex, Least, DigitOf, Fits, IsLeastCode, CodeOf, IsTurn, Best, BestOf, CodeAfter}
-use Rattle.egt_index.specs.Prelude.{lesser, Facts, symmetries}
+use Rattle.std.proofs.Common.{◌≡◌, ℕ, ◌+◌, ◌/◌, ◌%◌, ◌<◌, ◌≤◌, ◌⊎◌, Bool, true, false, cond, eqb, min, List, [], ◌∷◌}
+use Rattle.std.proofs.Common.{Option, Some, None, arith, refl, sym, ap, ◌∙◌, inl, inr, subst}
+use Rattle.egt_index.specs.Prelude.{option_map, IsSome, cases_eq, cases_lt, eq-eqb, eqb_tells, White, Black, Man}
+use Rattle.egt_index.specs.Prelude.{king_of, Stands, get-remove_same, men_of, Setup, IsAdmissible, IsKingOn, IsSettled}
+use Rattle.egt_index.specs.Prelude.{SettlesTo, KeepsPlay, IsTurnedBy, turned_square, turned_man, Material, material_of}
+use Rattle.egt_index.specs.Prelude.{IsOf, AreDigits, base_of, men_bases, men_in_order, has_pawns, Spells, square_of}
+use Rattle.egt_index.specs.Prelude.{men_at, IsIndex, Least, DigitOf, Fits, IsLeastCode, CodeOf, IsTurn, Best, BestOf}
+use Rattle.egt_index.specs.Prelude.{CodeAfter, lesser, Facts, symmetries}
 use Rattle.std.specs.FinMap as placement
 use Rattle.egt_index.proofs.Listing.{get_here}
 use Rattle.egt_index.proofs.Counted.{counted_rest}

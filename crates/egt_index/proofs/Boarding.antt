@@ -1,5 +1,5 @@
 -- The board of a stand: the kings', with the other men put on it one by one.
-use Rattle.egt_index.specs.Prelude.{◌≡◌, ℕ, ◌≤◌, List, [], ◌∷◌, ◌++◌, length, Some, None, IfSome, arith, refl, sym, ap}
+use Rattle.std.proofs.Common.{◌≡◌, ℕ, ◌≤◌, List, [], ◌∷◌, ◌++◌, length, Some, None, IfSome, arith, refl, sym, ap}
 use Rattle.egt_index.specs.Prelude.{option_to_list, Man, men_of, IsFree, Entry, IsOff, AllApart, with_entry}
 use Rattle.egt_index.proofs.Listing.{pushed}
 use Rattle.egt_index.proofs.Setups.{free_of}

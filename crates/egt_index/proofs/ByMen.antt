@@ -1,7 +1,8 @@
 -- What the men of a position without a target tell of it.
-use Rattle.egt_index.specs.Prelude.{◌≡◌, ℕ, None, Option, IfSome, false, Bool, refl, sym, ap, inl, subst, option_map}
-use Rattle.egt_index.specs.Prelude.{is_some, Man, Side, ahead, HasPawnBeside, other_side, IsSettled, SettlesTo, Setup}
-use Rattle.egt_index.specs.Prelude.{IsAdmissible, IsOf, AreNonKings, Facts, Entry, HasStand, Stood, list_of, Stand}
+use Rattle.std.proofs.Common.{◌≡◌, ℕ, None, Option, IfSome, false, Bool, refl, sym, ap, inl, subst}
+use Rattle.egt_index.specs.Prelude.{option_map, is_some, Man, Side, ahead, HasPawnBeside, other_side, IsSettled}
+use Rattle.egt_index.specs.Prelude.{SettlesTo, Setup, IsAdmissible, IsOf, AreNonKings, Facts, Entry, HasStand, Stood}
+use Rattle.egt_index.specs.Prelude.{list_of, Stand}
 use Rattle.egt_index.proofs.Turned.{settled_stand}
 
 -- without a target nothing is to be settled

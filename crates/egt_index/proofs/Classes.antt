@@ -1,10 +1,11 @@
 -- What a code spells is of its class, in its colours.
-use Rattle.egt_index.specs.Prelude.{eqb, ◌/◌, ◌%◌, ◌≡◌, ℕ, ◌<◌, ◌||◌, not, Bool, true, false, cond, ltb, Some, List, []}
-use Rattle.egt_index.specs.Prelude.{◌∷◌, map, arith, refl, sym, ap, ◌∙◌, inl, inr, subst, cases_eq, cases_lt}
-use Rattle.egt_index.specs.Prelude.{false≢true, ltb-true, Side, White, Black, P, Man, count_of, men_of, other_side}
-use Rattle.egt_index.specs.Prelude.{pawn_of, HasNoPawn, Stands, Setup, IsAdmissible, all_below, passes_below, Material}
-use Rattle.egt_index.specs.Prelude.{material_of, materials, men_in, IsOf, AreDigits, base_of, men_in_order, has_pawns}
-use Rattle.egt_index.specs.Prelude.{Spells, square_of, placed, men_at, AreCounted, Facts, IsTurn, IsInColours}
+use Rattle.std.proofs.Common.{eqb, ◌/◌, ◌%◌, ◌≡◌, ℕ, ◌<◌, ◌||◌, not, Bool, true, false, cond, ltb, Some, List, [], ◌∷◌}
+use Rattle.std.proofs.Common.{map, arith, refl, sym, ap, ◌∙◌, inl, inr, subst}
+use Rattle.egt_index.specs.Prelude.{cases_eq, cases_lt, false≢true, ltb-true, Side, White, Black, P, Man, count_of}
+use Rattle.egt_index.specs.Prelude.{men_of, other_side, pawn_of, HasNoPawn, Stands, Setup, IsAdmissible, all_below}
+use Rattle.egt_index.specs.Prelude.{passes_below, Material, material_of, materials, men_in, IsOf, AreDigits, base_of}
+use Rattle.egt_index.specs.Prelude.{men_in_order, has_pawns, Spells, square_of, placed, men_at, AreCounted, Facts}
+use Rattle.egt_index.specs.Prelude.{IsTurn, IsInColours}
 use Rattle.std.specs.FinMap as placement
 use Rattle.egt_index.proofs.Listing.{AreApart, apart_of, get_here, get_later, get_none, remove_first}
 use Rattle.egt_index.proofs.Counted.{removed, counted_none, count_cons, least_below}

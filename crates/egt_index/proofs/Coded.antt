@@ -1,12 +1,12 @@
 -- A position whose white king is on a square of its digit has a least code.
-use Rattle.egt_index.specs.Prelude.{◌≡◌, ℕ, ◌+◌, ◌-◌, ◌*◌, ◌<◌, ◌≤◌, ◌⊎◌, Bool, true, cond, leb, List, [], ◌∷◌, ◌++◌}
-use Rattle.egt_index.specs.Prelude.{map, length, arith, refl, sym, ap, ◌∙◌, inl, inr, subst, cases_eq, cases_lt}
-use Rattle.egt_index.specs.Prelude.{leb-true, Side, White, Black, Kind, Q, R, B, N, P, K, Man, king_of, side_number}
-use Rattle.egt_index.specs.Prelude.{MayStand, Placement, Stands, get-remove_same, get-remove_other, Setup, IsAdmissible}
-use Rattle.egt_index.specs.Prelude.{all_below, passes_below, Material, material_of, materials, number_from, number_of}
-use Rattle.egt_index.specs.Prelude.{AreDigits, base_of, bases, men_bases, men_in_order, has_pawns, has_target, SpellsBy}
-use Rattle.egt_index.specs.Prelude.{HasTargetDigit, placed, men_at, target_digits, Least, AreCounted, Picks, DigitOf}
-use Rattle.egt_index.specs.Prelude.{Fits, IsLeastCode}
+use Rattle.std.proofs.Common.{◌≡◌, ℕ, ◌+◌, ◌-◌, ◌*◌, ◌<◌, ◌≤◌, ◌⊎◌, Bool, true, cond, leb, List, [], ◌∷◌, ◌++◌, map}
+use Rattle.std.proofs.Common.{length, arith, refl, sym, ap, ◌∙◌, inl, inr, subst}
+use Rattle.egt_index.specs.Prelude.{cases_eq, cases_lt, leb-true, Side, White, Black, Kind, Q, R, B, N, P, K, Man}
+use Rattle.egt_index.specs.Prelude.{king_of, side_number, MayStand, Placement, Stands, get-remove_same}
+use Rattle.egt_index.specs.Prelude.{get-remove_other, Setup, IsAdmissible, all_below, passes_below, Material}
+use Rattle.egt_index.specs.Prelude.{material_of, materials, number_from, number_of, AreDigits, base_of, bases}
+use Rattle.egt_index.specs.Prelude.{men_bases, men_in_order, has_pawns, has_target, SpellsBy, HasTargetDigit, placed}
+use Rattle.egt_index.specs.Prelude.{men_at, target_digits, Least, AreCounted, Picks, DigitOf, Fits, IsLeastCode}
 use Rattle.std.specs.FinMap as placement
 use Rattle.egt_index.proofs.MixedDigits.{number_from-lt}
 use Rattle.egt_index.proofs.Listing.{apart_of, fits_of}

@@ -1,6 +1,6 @@
 -- The tables of turns that bring a king home are right for each square.
-use Rattle.egt_index.specs.Prelude.{◌≡◌, ◌≢◌, ℕ, ◌+◌, ◌/◌, ◌%◌, ◌<◌, ◌⊎◌, ◌&&◌, ◌||◌, not, Bool, true, false, cond, ltb}
-use Rattle.egt_index.specs.Prelude.{eqb, Option, Some, None, IfSome, refl, sym, ap, ◌∙◌, inl, inr, subst, slice_index}
+use Rattle.std.proofs.Common.{◌≡◌, ◌≢◌, ℕ, ◌+◌, ◌/◌, ◌%◌, ◌<◌, ◌⊎◌, ◌&&◌, ◌||◌, not, Bool, true, false, cond, ltb, eqb}
+use Rattle.std.proofs.Common.{Option, Some, None, IfSome, refl, sym, ap, ◌∙◌, inl, inr, subst, slice_index}
 use Rattle.egt_index.specs.Prelude.{and_parts, and_from, eqb-true, eq-eqb, ltb-true, lt-ltb, false≢true, turned_square}
 use Rattle.egt_index.specs.Prelude.{all_below, passes_below, king_square, symmetries, IsTurnWith, BringsHome, AreHome}
 use Rattle.egt_index.specs.Prelude.{king_base, FIRST, LAST}

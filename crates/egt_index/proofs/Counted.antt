@@ -1,9 +1,10 @@
 -- Men counted on the squares of a placement, and taken off one by one.
-use Rattle.egt_index.specs.Prelude.{◌≡◌, ◌≢◌, ℕ, zero, suc, ◌+◌, ◌<◌, ◌≤◌, ◌⊎◌, cond, List, [], ◌∷◌, Option, Some}
-use Rattle.egt_index.specs.Prelude.{None, arith, refl, sym, ap, ◌∙◌, inl, inr, subst, slice_index_or, cases_eq, eq-eqb}
-use Rattle.egt_index.specs.Prelude.{eqb_tells, sum_by-cons, Side, Kind, Q, R, B, N, P, K, Man, kind_number}
-use Rattle.egt_index.specs.Prelude.{side_number, man_number, stands_here, count_of, Placement, Stands, same_men}
-use Rattle.egt_index.specs.Prelude.{get-remove_same, get-remove_other, total, is_man, tally, AreCounted, Least, men_of}
+use Rattle.std.proofs.Common.{◌≡◌, ◌≢◌, ℕ, zero, suc, ◌+◌, ◌<◌, ◌≤◌, ◌⊎◌, cond, List, [], ◌∷◌, Option, Some, None}
+use Rattle.std.proofs.Common.{arith, refl, sym, ap, ◌∙◌, inl, inr, subst, slice_index_or}
+use Rattle.egt_index.specs.Prelude.{cases_eq, eq-eqb, eqb_tells, sum_by-cons, Side, Kind, Q, R, B, N, P, K, Man}
+use Rattle.egt_index.specs.Prelude.{kind_number, side_number, man_number, stands_here, count_of, Placement, Stands}
+use Rattle.egt_index.specs.Prelude.{same_men, get-remove_same, get-remove_other, total, is_man, tally, AreCounted}
+use Rattle.egt_index.specs.Prelude.{Least, men_of}
 use Rattle.std.specs.FinMap as placement
 use Rattle.egt_index.proofs.Listing.{get_none}
 use Rattle.egt_board.proofs.Sides.{kind_few}

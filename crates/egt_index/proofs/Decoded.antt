@@ -1,11 +1,11 @@
 -- What the digits of a code spell.
-use Rattle.egt_index.specs.Prelude.{◌≡◌, ℕ, ◌+◌, ◌-◌, ◌<◌, Bool, true, false, cond, List, [], ◌∷◌, ◌++◌, Option, Some}
-use Rattle.egt_index.specs.Prelude.{None, arith, refl, sym, ap, ◌∙◌, inl, inr, subst, false≢true, Side, White, Black}
-use Rattle.egt_index.specs.Prelude.{Man, side_number, other_side, pawn_of, Placement, Stands, men_of, setup_of}
-use Rattle.egt_index.specs.Prelude.{FitsBoard, Setup, IsAdmissible, IsTarget, FitsTarget, Material, material_of}
-use Rattle.egt_index.specs.Prelude.{number_from, number_of, AreDigits, bases, men_bases, has_target, Spells, SpellsBy}
-use Rattle.egt_index.specs.Prelude.{HasTargetDigit, men_at, target_digit, target_digits, SpellsMen, SpellsNoMen, Ends}
-use Rattle.egt_index.specs.Prelude.{HasPawns, IsBehind, IsTold, IsListed}
+use Rattle.std.proofs.Common.{◌≡◌, ℕ, ◌+◌, ◌-◌, ◌<◌, Bool, true, false, cond, List, [], ◌∷◌, ◌++◌, Option, Some, None}
+use Rattle.std.proofs.Common.{arith, refl, sym, ap, ◌∙◌, inl, inr, subst}
+use Rattle.egt_index.specs.Prelude.{false≢true, Side, White, Black, Man, side_number, other_side, pawn_of, Placement}
+use Rattle.egt_index.specs.Prelude.{Stands, men_of, setup_of, FitsBoard, Setup, IsAdmissible, IsTarget, FitsTarget}
+use Rattle.egt_index.specs.Prelude.{Material, material_of, number_from, number_of, AreDigits, bases, men_bases}
+use Rattle.egt_index.specs.Prelude.{has_target, Spells, SpellsBy, HasTargetDigit, men_at, target_digit, target_digits}
+use Rattle.egt_index.specs.Prelude.{SpellsMen, SpellsNoMen, Ends, HasPawns, IsBehind, IsTold, IsListed}
 use Rattle.egt_index.proofs.MixedDigits.{number_from-same}
 use Rattle.egt_index.proofs.Coding.{last_digits, side_told}
 use Rattle.egt_index.proofs.Coded.{number_append}

@@ -1,5 +1,5 @@
 -- A man attacks the squares from which it is attacked: of a pawn the enemy's attacks his.
-use Rattle.egt_index.specs.Prelude.{◌≡◌, ◌≢◌, ◌↔◌, ◌⊎◌, ℕ, ◌-◌, ◌<◌, min, arith, refl, sym, ap, ◌∙◌, inl, inr, subst}
+use Rattle.std.proofs.Common.{◌≡◌, ◌≢◌, ◌↔◌, ◌⊎◌, ℕ, ◌-◌, ◌<◌, min, arith, refl, sym, ap, ◌∙◌, inl, inr, subst}
 use Rattle.egt_index.specs.Prelude.{bit_at, cases_eq, bit_at-lt, Man, IsAttacked, Reaches, Reaches-free, other_side}
 use Rattle.egt_index.specs.Prelude.{facing, Placement, Stands, IsFree, get-insert_same, get-insert_other, one_man}
 use Rattle.egt_index.specs.Prelude.{IsKeptFrom, PassesOver, attacks_back, sides_differ, man_of}

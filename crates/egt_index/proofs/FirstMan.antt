@@ -1,11 +1,12 @@
 -- Codes of images that have their kings on the same squares, compared by the first man's.
-use Rattle.egt_index.specs.Prelude.{◌≡◌, ◌≢◌, ℕ, ◌+◌, ◌*◌, ◌/◌, ◌%◌, ◌<◌, Bool, true, false, cond, eqb, List, [], ◌∷◌, ◌++◌}
-use Rattle.egt_index.specs.Prelude.{map, Some, None, IfMoved, arith, refl, sym, ap, ◌∙◌, inl, inr, subst, IfSome, Entry, Man, White, Black}
-use Rattle.egt_index.specs.Prelude.{king_of, side_number, men_of, Stands, IsSettled, Setup, IsAdmissible, KeepsPlay, turned_man}
-use Rattle.egt_index.specs.Prelude.{turned_square, Material, material_of, IsOf, Beats, HasFront, IsFirstOfTwo, Keeps, Spells}
-use Rattle.egt_index.specs.Prelude.{king_square, men_at, placed, square_of, target_digits, number_from, number_of, AreDigits}
-use Rattle.egt_index.specs.Prelude.{Facts, BringsHome, base_of, bases, king_base, men_bases, men_beside, has_pawns, has_target}
-use Rattle.egt_index.specs.Prelude.{list_of, AllStand, IsListed, IsOff, IsTurn, Stand, option_to_list}
+use Rattle.std.proofs.Common.{◌≡◌, ◌≢◌, ℕ, ◌+◌, ◌*◌, ◌/◌, ◌%◌, ◌<◌, Bool, true, false, cond, eqb, List, [], ◌∷◌, ◌++◌}
+use Rattle.std.proofs.Common.{map, Some, None, arith, refl, sym, ap, ◌∙◌, inl, inr, subst, IfSome}
+use Rattle.egt_index.specs.Prelude.{IfMoved, Entry, Man, White, Black, king_of, side_number, men_of, Stands, IsSettled}
+use Rattle.egt_index.specs.Prelude.{Setup, IsAdmissible, KeepsPlay, turned_man, turned_square, Material, material_of}
+use Rattle.egt_index.specs.Prelude.{IsOf, Beats, HasFront, IsFirstOfTwo, Keeps, Spells, king_square, men_at, placed}
+use Rattle.egt_index.specs.Prelude.{square_of, target_digits, number_from, number_of, AreDigits, Facts, BringsHome}
+use Rattle.egt_index.specs.Prelude.{base_of, bases, king_base, men_bases, men_beside, has_pawns, has_target, list_of}
+use Rattle.egt_index.specs.Prelude.{AllStand, IsListed, IsOff, IsTurn, Stand, option_to_list}
 use Rattle.std.proofs.lemmas.Bool.{ne_eqb}
 use Rattle.std.specs.FinMap as placement
 use Rattle.egt_index.proofs.Beating.{SpelledHome, stands_after}

@@ -1,5 +1,5 @@
 -- The code that a position's digits make.
-use Rattle.egt_index.specs.Prelude.{◌≡◌, ℕ, ◌+◌, ◌*◌, ◌<◌, false, cond, [], ◌∷◌, ◌++◌, map, arith, sym, ap, ◌∙◌, subst}
+use Rattle.std.proofs.Common.{◌≡◌, ℕ, ◌+◌, ◌*◌, ◌<◌, false, cond, [], ◌∷◌, ◌++◌, map, arith, sym, ap, ◌∙◌, subst}
 use Rattle.egt_index.specs.Prelude.{White, Black, king_of, side_number, Setup, IsAdmissible, IsKingOn, IsSettled}
 use Rattle.egt_index.specs.Prelude.{Material, material_of, IsOf, number_from, number_of, king_base, base_of, bases}
 use Rattle.egt_index.specs.Prelude.{men_bases, men_beside, has_pawns, has_target, king_square, target_digits, Goes}

@@ -1,9 +1,10 @@
 -- The men before the last one.
-use Rattle.egt_index.specs.Prelude.{◌≡◌, ◌≢◌, ℕ, ◌<◌, ◌≤◌, Bool, List, [], ◌∷◌, ◌++◌, Option, Some, None, IfSome, arith}
-use Rattle.egt_index.specs.Prelude.{refl, sym, ap, ◌∙◌, subst, option_to_list, king_of, men_of, IsFree, Man, White}
-use Rattle.egt_index.specs.Prelude.{Black, material_of, king_square, TellsLast, IsBefore, IsNoneBefore, last_of}
-use Rattle.egt_index.specs.Prelude.{king_base, has_pawns, men_beside, Splits, Tells, AllApart, Entry, IsOff, list_of}
-use Rattle.egt_index.specs.Prelude.{before_last, with_entry, with_last, Stand}
+use Rattle.std.proofs.Common.{◌≡◌, ◌≢◌, ℕ, ◌<◌, ◌≤◌, Bool, List, [], ◌∷◌, ◌++◌, Option, Some, None, IfSome, arith, refl}
+use Rattle.std.proofs.Common.{sym, ap, ◌∙◌, subst}
+use Rattle.egt_index.specs.Prelude.{option_to_list, king_of, men_of, IsFree, Man, White, Black, material_of}
+use Rattle.egt_index.specs.Prelude.{king_square, TellsLast, IsBefore, IsNoneBefore, last_of, king_base, has_pawns}
+use Rattle.egt_index.specs.Prelude.{men_beside, Splits, Tells, AllApart, Entry, IsOff, list_of, before_last, with_entry}
+use Rattle.egt_index.specs.Prelude.{with_last, Stand}
 use Rattle.std.specs.FinMap as map
 use Rattle.egt_index.proofs.Boarding.{apart_before, entry_free, entry_put, off_all, one_at_most, two_at_most}
 use Rattle.egt_index.proofs.Splitting.{all_told, spells_men, spells_no_men}

@@ -1,8 +1,8 @@
 -- Numbers of positions and the codes that they stand for.
-use Rattle.egt_index.specs.Prelude.{◌≡◌, ℕ, ◌+◌, ◌-◌, ◌*◌, ◌/◌, ◌%◌, ◌<◌, ◌≤◌, ◌==◌, nat_lt, Bool, true, false, cond}
-use Rattle.egt_index.specs.Prelude.{[], ◌∷◌, Option, Some, None, arith, refl, sym, ap, ◌∙◌, inl, inr, subst, cases_lt}
-use Rattle.egt_index.specs.Prelude.{eqb-true, false≢true, lt-ltb, nat_tests, mul-le-mul_right, side_number, Man, Side}
-use Rattle.egt_index.specs.Prelude.{White, Black, all_below, passes_below, Material, material_of, materials}
+use Rattle.std.proofs.Common.{◌≡◌, ℕ, ◌+◌, ◌-◌, ◌*◌, ◌/◌, ◌%◌, ◌<◌, ◌≤◌, ◌==◌, nat_lt, Bool, true, false, cond, [], ◌∷◌}
+use Rattle.std.proofs.Common.{Option, Some, None, arith, refl, sym, ap, ◌∙◌, inl, inr, subst}
+use Rattle.egt_index.specs.Prelude.{cases_lt, eqb-true, false≢true, lt-ltb, nat_tests, mul-le-mul_right, side_number}
+use Rattle.egt_index.specs.Prelude.{Man, Side, White, Black, all_below, passes_below, Material, material_of, materials}
 use Rattle.egt_index.specs.Prelude.{number_from, product, digits_at, kind_digits, last_of, IsShelfBehind, number_in}
 use Rattle.egt_index.specs.Prelude.{bases, has_target, men_beside, size_of, Ends}
 use Rattle.egt_index.specs.Numbers.{code_of, half_of, number_of, places}

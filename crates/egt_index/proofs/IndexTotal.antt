@@ -1,6 +1,6 @@
 -- What all men add to an index is the index without its last digits.
-use Rattle.egt_index.specs.Prelude.{◌≡◌, ℕ, ◌<◌, Bool, true, ltb, refl, ltb-true, all_below, passes_below, material_of}
-use Rattle.egt_index.specs.Prelude.{materials, size_of}
+use Rattle.std.specs.Prelude.{◌≡◌, ℕ, ◌<◌, Bool, true, ltb, refl}
+use Rattle.egt_index.specs.Prelude.{ltb-true, all_below, passes_below, material_of, materials, size_of}
 
 is_few : ℕ → Bool
 is_few c = ltb (size_of c) 268435456

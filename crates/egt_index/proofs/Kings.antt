@@ -1,7 +1,7 @@
 -- Some turn brings a king to a square of the white king's digit.
-use Rattle.egt_index.specs.Prelude.{◌≡◌, ℕ, zero, suc, ◌<◌, ◌||◌, Bool, true, false, eqb, arith, refl, false≢true}
-use Rattle.egt_index.specs.Prelude.{eqb-true, turned_square, all_below, passes_below, king_base, king_square}
-use Rattle.egt_index.specs.Prelude.{symmetries}
+use Rattle.std.proofs.Common.{◌≡◌, ℕ, zero, suc, ◌<◌, ◌||◌, Bool, true, false, eqb, arith, refl}
+use Rattle.egt_index.specs.Prelude.{false≢true, eqb-true, turned_square, all_below, passes_below, king_base}
+use Rattle.egt_index.specs.Prelude.{king_square, symmetries}
 
 -- some number below n passes
 unfoldable pub some_below : (ℕ → Bool) → ℕ → Bool

@@ -1,10 +1,10 @@
 -- The least code over the turns that bring the white king home, which is that over all.
-use Rattle.egt_index.specs.Prelude.{◌≡◌, ◌≢◌, ℕ, ◌/◌, ◌%◌, ◌<◌, ◌≤◌, ◌⊎◌, not, Bool, true, false, cond, eqb, min}
-use Rattle.egt_index.specs.Prelude.{Option, Some, None, IfSome, arith, refl, sym, ap, ◌∙◌, inl, inr, subst, cases_eq}
-use Rattle.egt_index.specs.Prelude.{cases_lt, false≢true, White, Black, king_of, Stands, Setup, IsAdmissible, KeepsPlay}
-use Rattle.egt_index.specs.Prelude.{turned_man, turned_square, material_of, has_equal_sides, IsOf, Spells, Facts}
-use Rattle.egt_index.specs.Prelude.{symmetries, AreHome, FlipCode, LeastWith, has_pawns, IsTurn, TurnCode, CodeAfter}
-use Rattle.egt_index.specs.Prelude.{Best, BestOf, lesser, IsInColours}
+use Rattle.std.proofs.Common.{◌≡◌, ◌≢◌, ℕ, ◌/◌, ◌%◌, ◌<◌, ◌≤◌, ◌⊎◌, not, Bool, true, false, cond, eqb, min, Option}
+use Rattle.std.proofs.Common.{Some, None, IfSome, arith, refl, sym, ap, ◌∙◌, inl, inr, subst}
+use Rattle.egt_index.specs.Prelude.{cases_eq, cases_lt, false≢true, White, Black, king_of, Stands, Setup, IsAdmissible}
+use Rattle.egt_index.specs.Prelude.{KeepsPlay, turned_man, turned_square, material_of, has_equal_sides, IsOf, Spells}
+use Rattle.egt_index.specs.Prelude.{Facts, symmetries, AreHome, FlipCode, LeastWith, has_pawns, IsTurn, TurnCode}
+use Rattle.egt_index.specs.Prelude.{CodeAfter, Best, BestOf, lesser, IsInColours}
 use Rattle.egt_index.proofs.Best.{king_after, none_after}
 use Rattle.egt_index.proofs.Classes.{image_in_others, pawns_there}
 use Rattle.egt_index.proofs.Turned.{no_pawns}

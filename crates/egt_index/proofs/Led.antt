@@ -1,5 +1,6 @@
 -- The index after the white king went, whom a turn brings home from there, by the square of the last man.
-use Rattle.egt_index.specs.Prelude.{ℕ, ◌<◌, Bool, true, false, arith, symmetries}
+use Rattle.std.proofs.Common.{ℕ, ◌<◌, Bool, true, false, arith}
+use Rattle.egt_index.specs.Prelude.{symmetries}
 
 -- ---- the symmetry that undoes another
 

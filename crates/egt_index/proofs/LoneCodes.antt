@@ -1,10 +1,10 @@
 -- The codes of a class with one man beside the kings.
-use Rattle.egt_index.specs.Prelude.{◌≡◌, ℕ, ◌+◌, ◌-◌, ◌*◌, ◌<◌, ◌≤◌, ◌&&◌, Bool, true, false, cond, List, [], ◌∷◌}
-use Rattle.egt_index.specs.Prelude.{◌++◌, map, None, arith, refl, sym, ap, ◌∙◌, subst, side_number, Kind, Man, Side}
-use Rattle.egt_index.specs.Prelude.{White, Black, Material, material_of, king_square, number_from, number_of, product}
-use Rattle.egt_index.specs.Prelude.{IsLoneMan, IsLoneRow, lone_stand, kind_digits, kind_less, bases, has_pawn}
-use Rattle.egt_index.specs.Prelude.{has_pawns, has_target, king_base, man_of, men_bases, men_beside, size_of}
-use Rattle.egt_index.specs.Prelude.{SpellsMen, Tells, TellsMen, list_of, rest_of, Stand}
+use Rattle.std.proofs.Common.{◌≡◌, ℕ, ◌+◌, ◌-◌, ◌*◌, ◌<◌, ◌≤◌, ◌&&◌, Bool, true, false, cond, List, [], ◌∷◌, ◌++◌, map}
+use Rattle.std.proofs.Common.{None, arith, refl, sym, ap, ◌∙◌, subst}
+use Rattle.egt_index.specs.Prelude.{side_number, Kind, Man, Side, White, Black, Material, material_of, king_square}
+use Rattle.egt_index.specs.Prelude.{number_from, number_of, product, IsLoneMan, IsLoneRow, lone_stand, kind_digits}
+use Rattle.egt_index.specs.Prelude.{kind_less, bases, has_pawn, has_pawns, has_target, king_base, man_of, men_bases}
+use Rattle.egt_index.specs.Prelude.{men_beside, size_of, SpellsMen, Tells, TellsMen, list_of, rest_of, Stand}
 use Rattle.egt_index.proofs.Coding.{AreDigits-append, last_digits}
 use Rattle.egt_index.proofs.Decoded.{code_of_parts}
 use Rattle.egt_index.proofs.MixedDigits.{number_of-below}

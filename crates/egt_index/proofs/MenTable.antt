@@ -1,6 +1,6 @@
 -- The table of the men beside the kings, and what the classes' numbers tell of pawns.
-use Rattle.egt_index.specs.Prelude.{◌≡◌, ℕ, ◌<◌, ◌++◌, Bool, true, false, eqb, List, map, Option, Some, None, IfSome}
-use Rattle.egt_index.specs.Prelude.{◌≢◌, ◌&&◌, not, arith, ◌+◌, refl, sym, ap, ◌∙◌, subst, slice_index_or}
+use Rattle.std.proofs.Common.{◌≡◌, ℕ, ◌<◌, ◌++◌, Bool, true, false, eqb, List, map, Option, Some, None, IfSome, ◌≢◌}
+use Rattle.std.proofs.Common.{◌&&◌, not, arith, ◌+◌, refl, sym, ap, ◌∙◌, subst, slice_index_or}
 use Rattle.egt_index.specs.Prelude.{range_with_len, option_to_list, get_or-map, get_or_default, false≢true, eq-eqb}
 use Rattle.egt_index.specs.Prelude.{and_parts, get_or-map-range_with_len, Man, man_number, king_of, White, all_below}
 use Rattle.egt_index.specs.Prelude.{passes_below, material_of, materials, has_equal_sides, men_beside, has_pawns}

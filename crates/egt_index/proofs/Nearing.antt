@@ -1,9 +1,9 @@
 -- Codes after a turn that the kings' squares, their highest digits, tell to be void.
-use Rattle.egt_index.specs.Prelude.{◌≡◌, ◌≢◌, ◌⊎◌, ℕ, ◌+◌, ◌*◌, ◌/◌, ◌%◌, ◌<◌, ◌≤◌, not, Bool, true, eqb, min, Option}
-use Rattle.egt_index.specs.Prelude.{Some, None, IfSome, arith, refl, sym, ap, ◌∙◌, subst, inl, inr, cases_eq, cases_lt}
-use Rattle.egt_index.specs.Prelude.{Side, White, Black, king_of, Stands, IsAdmissible, Setup, turned_square}
-use Rattle.egt_index.specs.Prelude.{has_equal_sides, material_of, Spells, Facts, IsTurnWith, BringsHome, AreHome}
-use Rattle.egt_index.specs.Prelude.{IsIndex, KingsHome, AreNearest, IsVoidAfter, has_pawns, AreNear, HasStand}
+use Rattle.std.proofs.Common.{◌≡◌, ◌≢◌, ◌⊎◌, ℕ, ◌+◌, ◌*◌, ◌/◌, ◌%◌, ◌<◌, ◌≤◌, not, Bool, true, eqb, min, Option, Some}
+use Rattle.std.proofs.Common.{None, IfSome, arith, refl, sym, ap, ◌∙◌, subst, inl, inr}
+use Rattle.egt_index.specs.Prelude.{cases_eq, cases_lt, Side, White, Black, king_of, Stands, IsAdmissible, Setup}
+use Rattle.egt_index.specs.Prelude.{turned_square, has_equal_sides, material_of, Spells, Facts, IsTurnWith, BringsHome}
+use Rattle.egt_index.specs.Prelude.{AreHome, IsIndex, KingsHome, AreNearest, IsVoidAfter, has_pawns, AreNear, HasStand}
 use Rattle.egt_index.specs.Prelude.{IsTurnedCodeWith, seen_across, IsTurn, AreOnBoard, Stand}
 use Rattle.egt_index.proofs.Beating.{has_exchanged, kings_less, spelled_home, stands_after}
 use Rattle.egt_index.proofs.Exists.{index_settled}

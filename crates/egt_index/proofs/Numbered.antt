@@ -1,13 +1,13 @@
 -- Which codes of the numbers of a shelf are indexes.
-use Rattle.egt_index.specs.Prelude.{◌≡◌, ◌≢◌, ◌↔◌, ℕ, ◌+◌, ◌*◌, ◌/◌, ◌<◌, Bool, true, false, if◌then◌else◌, Some, None}
-use Rattle.egt_index.specs.Prelude.{arith, refl, sym, ap, ◌∙◌, subst, inl, inr, bit_at, cases_eq, cases_lt, bit_at-zero}
-use Rattle.egt_index.specs.Prelude.{king_of, side_number, pawn_of, IsSettled, IsAdmissible, Setup, Man, Side, White}
-use Rattle.egt_index.specs.Prelude.{Black, Material, material_of, AreBehind, SpellsAt, Spells, Facts, TellsLast}
-use Rattle.egt_index.specs.Prelude.{IsFront, IsVoidFront, IsIndex, IsVoid, IsNumbered, code_of, places, AreInOrder}
-use Rattle.egt_index.specs.Prelude.{AreMade, IsMade, TellsIndex, row_len, kind_digits, kind_less, last_of, AreIndexed}
-use Rattle.egt_index.specs.Prelude.{AreIndexes, IsShelfBehind, IsWithin, PassesNothing, has_target, men_beside, size_of}
-use Rattle.egt_index.specs.Prelude.{Ends, TellsMen, Entry, HasStand, IsInOrder, list_of, with_last, Front, Places}
-use Rattle.egt_index.specs.Prelude.{Stand}
+use Rattle.std.proofs.Common.{◌≡◌, ◌≢◌, ◌↔◌, ℕ, ◌+◌, ◌*◌, ◌/◌, ◌<◌, Bool, true, false, if◌then◌else◌, Some, None, arith}
+use Rattle.std.proofs.Common.{refl, sym, ap, ◌∙◌, subst, inl, inr}
+use Rattle.egt_index.specs.Prelude.{bit_at, cases_eq, cases_lt, bit_at-zero, king_of, side_number, pawn_of, IsSettled}
+use Rattle.egt_index.specs.Prelude.{IsAdmissible, Setup, Man, Side, White, Black, Material, material_of, AreBehind}
+use Rattle.egt_index.specs.Prelude.{SpellsAt, Spells, Facts, TellsLast, IsFront, IsVoidFront, IsIndex, IsVoid}
+use Rattle.egt_index.specs.Prelude.{IsNumbered, code_of, places, AreInOrder, AreMade, IsMade, TellsIndex, row_len}
+use Rattle.egt_index.specs.Prelude.{kind_digits, kind_less, last_of, AreIndexed, AreIndexes, IsShelfBehind, IsWithin}
+use Rattle.egt_index.specs.Prelude.{PassesNothing, has_target, men_beside, size_of, Ends, TellsMen, Entry, HasStand}
+use Rattle.egt_index.specs.Prelude.{IsInOrder, list_of, with_last, Front, Places, Stand}
 use Rattle.egt_index.proofs.Beating.{no_index}
 use Rattle.egt_index.proofs.Decoded.{list_spelled}
 use Rattle.egt_index.proofs.Exists.{index_settled, index_spelled}

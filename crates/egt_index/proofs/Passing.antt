@@ -1,7 +1,7 @@
 -- Positions with a target that the last man makes with the men before him.
-use Rattle.egt_index.specs.Prelude.{◌≡◌, ◌≢◌, ◌↔◌, ◌⊎◌, ℕ, ◌+◌, ◌-◌, ◌*◌, ◌<◌, ◌≤◌, Bool, true, false, List, [], ◌∷◌}
-use Rattle.egt_index.specs.Prelude.{◌++◌, Option, Some, None, IfSome, if◌then◌else◌, arith, refl, sym, ap, ◌∙◌, subst}
-use Rattle.egt_index.specs.Prelude.{inl, inr, bit_at, IsSome, is_some, option_to_list, false≢true, bit_at-zero, king_of}
+use Rattle.std.proofs.Common.{◌≡◌, ◌≢◌, ◌↔◌, ◌⊎◌, ℕ, ◌+◌, ◌-◌, ◌*◌, ◌<◌, ◌≤◌, Bool, true, false, List, [], ◌∷◌, ◌++◌}
+use Rattle.std.proofs.Common.{Option, Some, None, IfSome, if◌then◌else◌, arith, refl, sym, ap, ◌∙◌, subst, inl, inr}
+use Rattle.egt_index.specs.Prelude.{bit_at, IsSome, is_some, option_to_list, false≢true, bit_at-zero, king_of}
 use Rattle.egt_index.specs.Prelude.{side_number, men_of, setup_of, other_side, HasPawnBeside, IsBeside, PawnsFit, ahead}
 use Rattle.egt_index.specs.Prelude.{pawn_of, IsFree, Placement, Stands, IsSettled, Setup, IsAdmissible, file_of}
 use Rattle.egt_index.specs.Prelude.{rank_of, FitsTarget, IsTarget, Man, Side, White, Black, Material, material_of}

@@ -1,9 +1,10 @@
 -- The least code of a position: each man in turn on the least square that is left to it.
-use Rattle.egt_index.specs.Prelude.{◌≡◌, ℕ, ◌+◌, ◌*◌, ◌<◌, ◌⊎◌, Bool, true, false, ltb, List, [], ◌∷◌, map, arith, refl}
-use Rattle.egt_index.specs.Prelude.{sym, ap, ◌∙◌, inl, inr, subst, cases_eq, cases_lt, ltb-true, Side, White, Black}
-use Rattle.egt_index.specs.Prelude.{Kind, Q, R, B, N, P, K, Man, Placement, Stands, get-remove_same, get-remove_other}
-use Rattle.egt_index.specs.Prelude.{men_of, all_below, passes_below, number_from, AreDigits, base_by, base_of}
-use Rattle.egt_index.specs.Prelude.{king_square, square_by_digit, square_of, placed, AreCounted, Picks}
+use Rattle.std.proofs.Common.{◌≡◌, ℕ, ◌+◌, ◌*◌, ◌<◌, ◌⊎◌, Bool, true, false, ltb, List, [], ◌∷◌, map, arith, refl, sym}
+use Rattle.std.proofs.Common.{ap, ◌∙◌, inl, inr, subst}
+use Rattle.egt_index.specs.Prelude.{cases_eq, cases_lt, ltb-true, Side, White, Black, Kind, Q, R, B, N, P, K, Man}
+use Rattle.egt_index.specs.Prelude.{Placement, Stands, get-remove_same, get-remove_other, men_of, all_below}
+use Rattle.egt_index.specs.Prelude.{passes_below, number_from, AreDigits, base_by, base_of, king_square}
+use Rattle.egt_index.specs.Prelude.{square_by_digit, square_of, placed, AreCounted, Picks}
 use Rattle.std.specs.FinMap as placement
 use Rattle.egt_index.proofs.MixedDigits.{number_from-lt}
 use Rattle.egt_index.proofs.Listing.{AreApart, first_back, remove_first, get_here}

@@ -1,15 +1,16 @@
 -- Which codes of a shelf are positions' indexes, by where the last man may stand.
-use Rattle.egt_index.specs.Prelude.{◌≡◌, ◌≢◌, ◌↔◌, ℕ, ◌+◌, ◌-◌, ◌*◌, ◌/◌, ◌%◌, ◌^◌, ◌<◌, ◌≤◌, Bool, false}
-use Rattle.egt_index.specs.Prelude.{if◌then◌else◌, List, [], ◌∷◌, Option, Some, None, bit_and, min, arith, refl, sym}
-use Rattle.egt_index.specs.Prelude.{ap, ◌∙◌, subst, inl, inr, bit_at, option_to_list, cases_eq, cases_lt, bit_at-lt}
-use Rattle.egt_index.specs.Prelude.{bit_at_above, bit_at_and, bit_at_cat_high, bit_at_mask_below, bit_at_mask_inside}
-use Rattle.egt_index.specs.Prelude.{bit_at_ones, bit_at_ones_above, ones_shl, IsAttacked, IsInCheck, king_of}
-use Rattle.egt_index.specs.Prelude.{side_number, men_of, setup_of, other_side, Placement, Stands, IsFree}
-use Rattle.egt_index.specs.Prelude.{get-insert_other, IsKeptFrom, IsAdmissible, Kind, Q, R, B, N, P, K, Man, Side}
-use Rattle.egt_index.specs.Prelude.{White, Black, Material, material_of, square_by_digit, number_from, TellsLast}
-use Rattle.egt_index.specs.Prelude.{IsFront, IsMade, IsPlaced, waiting, kind_digits, kind_less, last_of, base_by}
-use Rattle.egt_index.specs.Prelude.{has_target, man_of, men_beside, Splits, SpellsMen, Tells, AllApart, AreEqual, Entry}
-use Rattle.egt_index.specs.Prelude.{IsInOrder, IsOff, list_of, with_last, Front, Stand}
+use Rattle.std.proofs.Common.{◌≡◌, ◌≢◌, ◌↔◌, ℕ, ◌+◌, ◌-◌, ◌*◌, ◌/◌, ◌%◌, ◌^◌, ◌<◌, ◌≤◌, Bool, false, if◌then◌else◌}
+use Rattle.std.proofs.Common.{List, [], ◌∷◌, Option, Some, None, bit_and, min, arith, refl, sym, ap, ◌∙◌, subst, inl}
+use Rattle.std.proofs.Common.{inr}
+use Rattle.egt_index.specs.Prelude.{bit_at, option_to_list, cases_eq, cases_lt, bit_at-lt, bit_at_above, bit_at_and}
+use Rattle.egt_index.specs.Prelude.{bit_at_cat_high, bit_at_mask_below, bit_at_mask_inside, bit_at_ones}
+use Rattle.egt_index.specs.Prelude.{bit_at_ones_above, ones_shl, IsAttacked, IsInCheck, king_of, side_number, men_of}
+use Rattle.egt_index.specs.Prelude.{setup_of, other_side, Placement, Stands, IsFree, get-insert_other, IsKeptFrom}
+use Rattle.egt_index.specs.Prelude.{IsAdmissible, Kind, Q, R, B, N, P, K, Man, Side, White, Black, Material}
+use Rattle.egt_index.specs.Prelude.{material_of, square_by_digit, number_from, TellsLast, IsFront, IsMade, IsPlaced}
+use Rattle.egt_index.specs.Prelude.{waiting, kind_digits, kind_less, last_of, base_by, has_target, man_of, men_beside}
+use Rattle.egt_index.specs.Prelude.{Splits, SpellsMen, Tells, AllApart, AreEqual, Entry, IsInOrder, IsOff, list_of}
+use Rattle.egt_index.specs.Prelude.{with_last, Front, Stand}
 use Rattle.std.specs.FinMap as map
 use Rattle.egt_index.proofs.FrameMen.{men_are}
 use Rattle.egt_index.proofs.Fronts.{all_apart, board_with, few_with, free_before, list_before}

@@ -1,9 +1,10 @@
 -- The codes of a row spell the same men.
-use Rattle.egt_index.specs.Prelude.{◌≡◌, ℕ, ◌/◌, ◌%◌, ◌<◌, Bool, true, false, cond, [], ◌∷◌, arith, refl, sym, ap, ◌∙◌}
-use Rattle.egt_index.specs.Prelude.{inl, inr, subst, is_some, cases_eq, false≢true, Side, White, Black, side_number}
-use Rattle.egt_index.specs.Prelude.{men_of, FitsBoard, IsSettled, Setup, Material, material_of, SpellsAt, Spells}
-use Rattle.egt_index.specs.Prelude.{number_from, ends_of, row_len, has_target, Ends, SpellsMen, SpellsNoMen, AllApart}
-use Rattle.egt_index.specs.Prelude.{HasStand, list_of, Stand}
+use Rattle.std.proofs.Common.{◌≡◌, ℕ, ◌/◌, ◌%◌, ◌<◌, Bool, true, false, cond, [], ◌∷◌, arith, refl, sym, ap, ◌∙◌, inl}
+use Rattle.std.proofs.Common.{inr, subst}
+use Rattle.egt_index.specs.Prelude.{is_some, cases_eq, false≢true, Side, White, Black, side_number, men_of, FitsBoard}
+use Rattle.egt_index.specs.Prelude.{IsSettled, Setup, Material, material_of, SpellsAt, Spells, number_from, ends_of}
+use Rattle.egt_index.specs.Prelude.{row_len, has_target, Ends, SpellsMen, SpellsNoMen, AllApart, HasStand, list_of}
+use Rattle.egt_index.specs.Prelude.{Stand}
 use Rattle.egt_index.proofs.Classes.{spells_class}
 use Rattle.egt_index.proofs.Decoded.{list_spelled, no_men}
 use Rattle.egt_index.proofs.Setups.{fits_apart, stood_spelled}

@@ -1,13 +1,13 @@
 -- The men that a number spells, as a board and as a setup.
-use Rattle.egt_index.specs.Prelude.{◌≡◌, ◌≢◌, ℕ, ◌<◌, ◌&&◌, not, Bool, true, false, eqb, List, [], ◌∷◌, ◌++◌, length}
-use Rattle.egt_index.specs.Prelude.{map, Option, Some, None, arith, refl, sym, ap, ◌∙◌, inl, inr, subst, option_to_list}
-use Rattle.egt_index.specs.Prelude.{is_some, and_parts, eq-eqb, Side, White, Black, Kind, Q, R, B, N, P, K, Man}
-use Rattle.egt_index.specs.Prelude.{king_of, kind_number, side_number, men_of, setup_of, FitsBoard, MayStand, PawnsFit}
-use Rattle.egt_index.specs.Prelude.{Placement, Stands, IsFree, IsSettled, Setup, IsAdmissible, IsKingOn, all_below}
-use Rattle.egt_index.specs.Prelude.{passes_below, material_of, materials, Spells, square_by_digit, placed, AreDigits}
-use Rattle.egt_index.specs.Prelude.{base_by, base_of, men_beside, men_in_order, has_pawns, SpellsMen, Ends, IsListed}
-use Rattle.egt_index.specs.Prelude.{IsTold, men_among, rest_of, list_of, IsOff, AllApart, AllStand, Stood, HasStand}
-use Rattle.egt_index.specs.Prelude.{Stand}
+use Rattle.std.proofs.Common.{◌≡◌, ◌≢◌, ℕ, ◌<◌, ◌&&◌, not, Bool, true, false, eqb, List, [], ◌∷◌, ◌++◌, length, map}
+use Rattle.std.proofs.Common.{Option, Some, None, arith, refl, sym, ap, ◌∙◌, inl, inr, subst}
+use Rattle.egt_index.specs.Prelude.{option_to_list, is_some, and_parts, eq-eqb, Side, White, Black, Kind, Q, R, B, N, P}
+use Rattle.egt_index.specs.Prelude.{K, Man, king_of, kind_number, side_number, men_of, setup_of, FitsBoard, MayStand}
+use Rattle.egt_index.specs.Prelude.{PawnsFit, Placement, Stands, IsFree, IsSettled, Setup, IsAdmissible, IsKingOn}
+use Rattle.egt_index.specs.Prelude.{all_below, passes_below, material_of, materials, Spells, square_by_digit, placed}
+use Rattle.egt_index.specs.Prelude.{AreDigits, base_by, base_of, men_beside, men_in_order, has_pawns, SpellsMen, Ends}
+use Rattle.egt_index.specs.Prelude.{IsListed, IsTold, men_among, rest_of, list_of, IsOff, AllApart, AllStand, Stood}
+use Rattle.egt_index.specs.Prelude.{HasStand, Stand}
 use Rattle.egt_index.proofs.Classes.{spells_class}
 use Rattle.egt_index.proofs.Coded.{few_men, placed_few}
 use Rattle.egt_index.proofs.Decoded.{decoded_spells}

@@ -1,11 +1,11 @@
 -- The men of a shelf's codes.
-use Rattle.egt_index.specs.Prelude.{◌≡◌, ◌≢◌, ◌↔◌, ℕ, ◌+◌, ◌-◌, ◌*◌, ◌%◌, ◌<◌, ◌≤◌, Bool, true, false, cond, inl, inr}
-use Rattle.egt_index.specs.Prelude.{List, [], ◌∷◌, ◌++◌, Option, Some, None, IfSome, arith, refl, sym, ap, ◌∙◌, subst}
+use Rattle.std.proofs.Common.{◌≡◌, ◌≢◌, ◌↔◌, ℕ, ◌+◌, ◌-◌, ◌*◌, ◌%◌, ◌<◌, ◌≤◌, Bool, true, false, cond, inl, inr, List}
+use Rattle.std.proofs.Common.{[], ◌∷◌, ◌++◌, Option, Some, None, IfSome, arith, refl, sym, ap, ◌∙◌, subst}
 use Rattle.egt_index.specs.Prelude.{option_to_list, cases_lt, king_of, MayStand, Man, Side, White, Black, material_of}
 use Rattle.egt_index.specs.Prelude.{king_square, number_from, IsBefore, kind_digits, kind_less, code_of, half_of}
-use Rattle.egt_index.specs.Prelude.{places, last_of, AreMenOf, IsShelf, IsShelfBehind, IsShelfOf, number_in}
-use Rattle.egt_index.specs.Prelude.{stand_with, has_pawns, has_target, king_base, men_beside, men_in_order, SpellsMen}
-use Rattle.egt_index.specs.Prelude.{Tells, TellsMen, Entry, list_of, rest_of, with_last, ShelfMen, Stand}
+use Rattle.egt_index.specs.Prelude.{places, last_of, AreMenOf, IsShelf, IsShelfBehind, IsShelfOf, number_in, stand_with}
+use Rattle.egt_index.specs.Prelude.{has_pawns, has_target, king_base, men_beside, men_in_order, SpellsMen, Tells}
+use Rattle.egt_index.specs.Prelude.{TellsMen, Entry, list_of, rest_of, with_last, ShelfMen, Stand}
 use Rattle.egt_index.proofs.Halves.{code_high, code_low, places_of_last}
 use Rattle.egt_index.proofs.Numbered.{ends}
 use Rattle.egt_index.proofs.Opposed.{may_stand}

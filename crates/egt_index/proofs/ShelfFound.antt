@@ -1,11 +1,11 @@
 -- Which shelves a class with two men beside the kings has: one behind each number of their digits before the last one.
-use Rattle.egt_index.specs.Prelude.{◌≡◌, ◌≢◌, ℕ, ◌+◌, ◌*◌, ◌/◌, ◌%◌, ◌<◌, ◌≤◌, Bool, true, false, cond, List, [], ◌∷◌}
-use Rattle.egt_index.specs.Prelude.{◌++◌, map, Some, None, arith, refl, sym, ap, ◌∙◌, div-add-mod', div-lt_iff_lt-mul}
-use Rattle.egt_index.specs.Prelude.{lt_of_mul-lt-mul_left, mod-lt, mul-le-mul_right, king_of, Man, White, Black}
-use Rattle.egt_index.specs.Prelude.{material_of, king_square, product, IsBefore, IsNoneBefore, TellsLast, half_of}
-use Rattle.egt_index.specs.Prelude.{places, kind_digits, kind_less, last_of, AreMenOf, IsShelfBehind, IsWithin}
-use Rattle.egt_index.specs.Prelude.{stand_with, base_of, has_pawns, has_target, king_base, men_beside, size_of}
-use Rattle.egt_index.specs.Prelude.{SpellsMen, Entry, list_of, ShelfMen, Stand}
+use Rattle.std.proofs.Common.{◌≡◌, ◌≢◌, ℕ, ◌+◌, ◌*◌, ◌/◌, ◌%◌, ◌<◌, ◌≤◌, Bool, true, false, cond, List, [], ◌∷◌, ◌++◌}
+use Rattle.std.proofs.Common.{map, Some, None, arith, refl, sym, ap, ◌∙◌}
+use Rattle.egt_index.specs.Prelude.{div-add-mod', div-lt_iff_lt-mul, lt_of_mul-lt-mul_left, mod-lt, mul-le-mul_right}
+use Rattle.egt_index.specs.Prelude.{king_of, Man, White, Black, material_of, king_square, product, IsBefore}
+use Rattle.egt_index.specs.Prelude.{IsNoneBefore, TellsLast, half_of, places, kind_digits, kind_less, last_of, AreMenOf}
+use Rattle.egt_index.specs.Prelude.{IsShelfBehind, IsWithin, stand_with, base_of, has_pawns, has_target, king_base}
+use Rattle.egt_index.specs.Prelude.{men_beside, size_of, SpellsMen, Entry, list_of, ShelfMen, Stand}
 use Rattle.egt_index.proofs.Halves.{digits_some, half_plain, half_twice, of_targets, places_of_last, places_some}
 use Rattle.egt_index.proofs.Opposed.{may_stand}
 use Rattle.egt_index.proofs.Placing.{digit_on, tells, twice_within, within}

@@ -1,9 +1,9 @@
 -- Digits taken off a number.
-use Rattle.egt_index.specs.Prelude.{◌≡◌, ℕ, ◌+◌, ◌*◌, ◌/◌, ◌%◌, ◌<◌, ◌≤◌, Bool, List, [], ◌∷◌, ◌++◌, map, arith, refl}
-use Rattle.egt_index.specs.Prelude.{sym, ap, ◌∙◌, subst, map-append, Side, White, Black, Kind, P, Man, number_from}
-use Rattle.egt_index.specs.Prelude.{AreDigits, king_base, base_by, base_of, has_pawns, men_beside, king_square}
-use Rattle.egt_index.specs.Prelude.{square_by_digit, square_of, placed, Splits, Tells, SpellsMen, SpellsNoMen, king_of}
-use Rattle.egt_index.specs.Prelude.{Material}
+use Rattle.std.proofs.Common.{◌≡◌, ℕ, ◌+◌, ◌*◌, ◌/◌, ◌%◌, ◌<◌, ◌≤◌, Bool, List, [], ◌∷◌, ◌++◌, map, arith, refl, sym}
+use Rattle.std.proofs.Common.{ap, ◌∙◌, subst}
+use Rattle.egt_index.specs.Prelude.{map-append, Side, White, Black, Kind, P, Man, number_from, AreDigits, king_base}
+use Rattle.egt_index.specs.Prelude.{base_by, base_of, has_pawns, men_beside, king_square, square_by_digit, square_of}
+use Rattle.egt_index.specs.Prelude.{placed, Splits, Tells, SpellsMen, SpellsNoMen, king_of, Material}
 use Rattle.egt_index.proofs.MixedDigits.{number_from-same}
 use Rattle.egt_index.proofs.Coding.{AreDigits-append}
 use Rattle.egt_index.proofs.Coded.{number_append}

@@ -1,6 +1,7 @@
 -- A code is the index of the position that it spells, or void.
-use Rattle.egt_index.specs.Prelude.{ℕ, ◌<◌, ◌⊎◌, false, subst, inl, inr, cases_eq, Decided, Setup, material_of, Spells}
-use Rattle.egt_index.specs.Prelude.{decided_spelled, Facts, IsIndex, IsVoid}
+use Rattle.std.proofs.Common.{ℕ, ◌<◌, ◌⊎◌, false, subst, inl, inr}
+use Rattle.egt_index.specs.Prelude.{cases_eq, Decided, Setup, material_of, Spells, decided_spelled, Facts, IsIndex}
+use Rattle.egt_index.specs.Prelude.{IsVoid}
 use Rattle.egt_index.proofs.Classes.{spells_class}
 use Rattle.egt_index.proofs.Exists.{index_exists, index_spelled, one_index}
 

@@ -1,5 +1,6 @@
 -- What tests tell.
-use Rattle.egt_index.specs.Prelude.{◌≡◌, ◌⊎◌, ◌||◌, not, Bool, true, false, refl, inl, inr, false≢true}
+use Rattle.std.proofs.Common.{◌≡◌, ◌⊎◌, ◌||◌, not, Bool, true, false, refl, inl, inr}
+use Rattle.egt_index.specs.Prelude.{false≢true}
 
 pub implied : (a b : Bool) → a ≡ true → (not a || b) ≡ true → b ≡ true
 implied true b h e = e

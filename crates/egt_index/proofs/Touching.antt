@@ -1,8 +1,9 @@
 -- Kings on neighbouring squares attack one another, so no code spells a position with them there.
-use Rattle.egt_index.specs.Prelude.{◌≡◌, ◌≢◌, ◌⊎◌, ℕ, ◌+◌, ◌<◌, ◌≤◌, ◌%◌, ◌/◌, Bool, true, false, arith, refl, sym}
-use Rattle.egt_index.specs.Prelude.{subst, inl, inr, cases_eq, Side, White, Black, Step, king_of, IsInCheck, Reaches}
-use Rattle.egt_index.specs.Prelude.{Rides, Placement, IsFree, Stands, HasKings, IsKingOn, Setup, Away, material_of}
-use Rattle.egt_index.specs.Prelude.{Spells, row_len, SpellsMen, AllStand, AreNear, HasStand, list_of, Stand}
+use Rattle.std.proofs.Common.{◌≡◌, ◌≢◌, ◌⊎◌, ℕ, ◌+◌, ◌<◌, ◌≤◌, ◌%◌, ◌/◌, Bool, true, false, arith, refl, sym, subst}
+use Rattle.std.proofs.Common.{inl, inr}
+use Rattle.egt_index.specs.Prelude.{cases_eq, Side, White, Black, Step, king_of, IsInCheck, Reaches, Rides, Placement}
+use Rattle.egt_index.specs.Prelude.{IsFree, Stands, HasKings, IsKingOn, Setup, Away, material_of, Spells, row_len}
+use Rattle.egt_index.specs.Prelude.{SpellsMen, AllStand, AreNear, HasStand, list_of, Stand}
 use Rattle.egt_index.proofs.RowMen.{apart_in_row, men_on_row}
 use Rattle.egt_index.proofs.Setups.{kings_spelled}
 

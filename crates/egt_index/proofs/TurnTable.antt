@@ -1,7 +1,7 @@
 -- The table of turned squares is right at each square and turn.
-use Rattle.egt_index.specs.Prelude.{◌≡◌, ℕ, zero, suc, ◌+◌, ◌*◌, ◌/◌, ◌%◌, ◌<◌, ◌&&◌, ◌==◌, Bool, true, ltb, eqb, List}
-use Rattle.egt_index.specs.Prelude.{[], ◌∷◌, length, get_or, arith, refl, ap, ◌∙◌, subst, slice_index, and_parts}
-use Rattle.egt_index.specs.Prelude.{eqb-true, ltb-true, turned_square, TURNED}
+use Rattle.std.proofs.Common.{◌≡◌, ℕ, zero, suc, ◌+◌, ◌*◌, ◌/◌, ◌%◌, ◌<◌, ◌&&◌, ◌==◌, Bool, true, ltb, eqb, List, []}
+use Rattle.std.proofs.Common.{◌∷◌, length, get_or, arith, refl, ap, ◌∙◌, subst, slice_index}
+use Rattle.egt_index.specs.Prelude.{and_parts, eqb-true, ltb-true, turned_square, TURNED}
 
 is_turned : ℕ → ℕ → Bool
 is_turned i n = ltb n 64 && eqb n (turned_square ((i / 64) % 8) ((i / 64) / 8 == 1) (i % 64))

@@ -1,16 +1,17 @@
 -- The codes that tell the men of a position where turns take them.
-use Rattle.egt_index.specs.Prelude.{◌≡◌, ℕ, ◌/◌, ◌%◌, ◌<◌, ◌⊎◌, ◌&&◌, not, Bool, true, false, cond, ltb, eqb, IsTrue}
-use Rattle.egt_index.specs.Prelude.{List, [], ◌∷◌, ◌++◌, map, Option, Some, None, IfSome, arith, refl, sym, ap, ◌∙◌}
-use Rattle.egt_index.specs.Prelude.{inl, inr, subst, slice_index, is_some, option_map, option_to_list, and_parts}
-use Rattle.egt_index.specs.Prelude.{eqb-true, ltb-true, false≢true, king_of, AreImages, side_number, men_of, MayStand}
-use Rattle.egt_index.specs.Prelude.{Placement, Stands, IsSettled, Setup, KeepsPlay, IsSetBy, IsTurnedBy, turned_man}
-use Rattle.egt_index.specs.Prelude.{turned_side, turned_square, Man, Side, White, Black, all_below, passes_below}
-use Rattle.egt_index.specs.Prelude.{has_equal_sides, material_of, IsOf, Spells, men_at, placed, target_digit, AreDigits}
-use Rattle.egt_index.specs.Prelude.{number_from, number_of, Facts, symmetries, IsIndex, AreCounted, base_of, has_pawns}
-use Rattle.egt_index.specs.Prelude.{has_target, men_bases, men_in_order, Ends, IsListed, SpellsMen, TellsMen, AllApart}
-use Rattle.egt_index.specs.Prelude.{AllStand, Entry, HasStand, IsFilled, IsOff, Stood, entry_after, list_of, men_among}
-use Rattle.egt_index.specs.Prelude.{on_square_of, IsInEitherOrder, IsSeenBy, IsSomeTurnedCodeWith, IsTurnedCodeWith}
-use Rattle.egt_index.specs.Prelude.{seen_across, swapped, turned_by, turned_with, IsTurn, AreOnBoard, Stand}
+use Rattle.std.proofs.Common.{◌≡◌, ℕ, ◌/◌, ◌%◌, ◌<◌, ◌⊎◌, ◌&&◌, not, Bool, true, false, cond, ltb, eqb, IsTrue, List}
+use Rattle.std.proofs.Common.{[], ◌∷◌, ◌++◌, map, Option, Some, None, IfSome, arith, refl, sym, ap, ◌∙◌, inl, inr}
+use Rattle.std.proofs.Common.{subst, slice_index}
+use Rattle.egt_index.specs.Prelude.{is_some, option_map, option_to_list, and_parts, eqb-true, ltb-true, false≢true}
+use Rattle.egt_index.specs.Prelude.{king_of, AreImages, side_number, men_of, MayStand, Placement, Stands, IsSettled}
+use Rattle.egt_index.specs.Prelude.{Setup, KeepsPlay, IsSetBy, IsTurnedBy, turned_man, turned_side, turned_square, Man}
+use Rattle.egt_index.specs.Prelude.{Side, White, Black, all_below, passes_below, has_equal_sides, material_of, IsOf}
+use Rattle.egt_index.specs.Prelude.{Spells, men_at, placed, target_digit, AreDigits, number_from, number_of, Facts}
+use Rattle.egt_index.specs.Prelude.{symmetries, IsIndex, AreCounted, base_of, has_pawns, has_target, men_bases}
+use Rattle.egt_index.specs.Prelude.{men_in_order, Ends, IsListed, SpellsMen, TellsMen, AllApart, AllStand, Entry}
+use Rattle.egt_index.specs.Prelude.{HasStand, IsFilled, IsOff, Stood, entry_after, list_of, men_among, on_square_of}
+use Rattle.egt_index.specs.Prelude.{IsInEitherOrder, IsSeenBy, IsSomeTurnedCodeWith, IsTurnedCodeWith, seen_across}
+use Rattle.egt_index.specs.Prelude.{swapped, turned_by, turned_with, IsTurn, AreOnBoard, Stand}
 use Rattle.std.specs.FinMap as placement
 use Rattle.egt_index.proofs.After.{all_there, both_to_list, inverse, ordered, ordered_men, stood_by, turn_one, turned_men}
 use Rattle.egt_index.proofs.Beating.{has_exchanged}

@@ -85,10 +85,6 @@ pub use Rattle.egt_index.specs.declared.shelf_codes.ShelfMen.{ShelfMen}
 pub use Rattle.egt_index.specs.declared.sizes.TheConstants.{SIZES}
 pub use Rattle.egt_index.specs.declared.stand.Stand.{Stand}
 pub use Rattle.egt_index.specs.declared.turning.TheConstants.{TURNED}
-pub use Rattle.std.proofs.Common.{Bool, IfNone, IfSome, List, None, Option, Some, [], ap, arith, bit_and, cond}
-pub use Rattle.std.proofs.Common.{count_by, eqb, false, get_or, inl, inr, leb, length, ltb, map, min, mul_assoc, nat_lt}
-pub use Rattle.std.proofs.Common.{not, refl, subst, suc, sym, true, zero, ℕ, ◌%◌, ◌&&◌, ◌*◌, ◌++◌, ◌+◌, ◌-◌, ◌/◌, ◌<◌}
-pub use Rattle.std.proofs.Common.{◌==◌, ◌||◌, ◌∙◌, ◌∷◌, ◌≡◌, ◌≢◌, ◌≤◌, ◌⊎◌}
 pub use Rattle.std.proofs.Math.ListN.{get_or-map}
 pub use Rattle.std.proofs.Math.Nat.{div-le_self, div-lt_iff_lt-mul, lt_of_mul-lt-mul_left, mod-lt, mul-le-mul_right}
 pub use Rattle.std.proofs.lemmas.Bool.{and_from, and_parts, cases_eq, cases_lt, eq-eqb, eqb-true, false≢true, leb-true}
@@ -107,4 +103,3 @@ pub use Rattle.std.specs.Int.{bit_at}
 pub use Rattle.std.specs.List.{range_with_len}
 pub use Rattle.std.specs.Option.{IsSome, is_some, option_map, option_to_list}
 pub use Rattle.std.specs.Ordering.{nat_cmp}
-pub use Rattle.std.specs.Prelude.{IsTrue, if◌then◌else◌, slice_index, slice_index_or, ◌^◌, ◌↔◌}

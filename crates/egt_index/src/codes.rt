@@ -1,7 +1,7 @@
 //! The code of men on their squares.
-ghost use Rattle.egt_index.specs.Prelude.{◌≡◌, ◌≢◌, ◌+◌, ◌*◌, ◌^◌, ◌<◌, Bool, [], ◌∷◌, if◌then◌else◌, option_to_list};
-ghost use Rattle.egt_index.specs.Prelude.{king_of, side_number, MayStand, White, Black, material_of, number_from};
-ghost use Rattle.egt_index.specs.Prelude.{has_target, Splits, Tells, HasDigit, men_among, rest_of};
+ghost use Rattle.std.specs.Prelude.{◌≡◌, ◌≢◌, ◌+◌, ◌*◌, ◌^◌, ◌<◌, Bool, [], ◌∷◌, if◌then◌else◌};
+ghost use Rattle.egt_index.specs.Prelude.{option_to_list, king_of, side_number, MayStand, White, Black, material_of};
+ghost use Rattle.egt_index.specs.Prelude.{number_from, has_target, Splits, Tells, HasDigit, men_among, rest_of};
 
 use crate::digits::{base, digit};
 use crate::men::has_target;

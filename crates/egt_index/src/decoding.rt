@@ -1,5 +1,6 @@
 //! The position of a code.
-ghost use Rattle.egt_index.specs.Prelude.{IfSome, IfNone, IsSettled, Setup, Spells, IsIndex, IsVoid};
+ghost use Rattle.std.specs.Prelude.{IfSome, IfNone};
+ghost use Rattle.egt_index.specs.Prelude.{IsSettled, Setup, Spells, IsIndex, IsVoid};
 
 use crate::facts::facts;
 use crate::indexing::index;

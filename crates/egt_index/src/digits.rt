@@ -1,6 +1,7 @@
 //! The digits of men on their squares.
-ghost use Rattle.egt_index.specs.Prelude.{◌≡◌, ◌≢◌, ℕ, ◌-◌, ◌<◌, ◌≤◌, Bool, false, IfSome, IfNone, king_of, MayStand};
-ghost use Rattle.egt_index.specs.Prelude.{White, king_square, square_of, kind_less, king_base, base_of};
+ghost use Rattle.std.specs.Prelude.{◌≡◌, ◌≢◌, ℕ, ◌-◌, ◌<◌, ◌≤◌, Bool, false, IfSome, IfNone};
+ghost use Rattle.egt_index.specs.Prelude.{king_of, MayStand, White, king_square, square_of, kind_less, king_base};
+ghost use Rattle.egt_index.specs.Prelude.{base_of};
 
 use egt_board::{Kind, Man, Square};
 

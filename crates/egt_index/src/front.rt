@@ -1,6 +1,7 @@
 //! What the men before the last one tell of all codes that differ by no more than his square, the side to move and the target: such
 //! codes follow one another.
-ghost use Rattle.egt_index.specs.Prelude.{◌≡◌, IfSome, IfNone, IsFirstOfTwo, IsFront, IsFrontOf, SpellsNothing};
+ghost use Rattle.std.specs.Prelude.{◌≡◌, IfSome, IfNone};
+ghost use Rattle.egt_index.specs.Prelude.{IsFirstOfTwo, IsFront, IsFrontOf, SpellsNothing};
 
 use crate::facts::facts;
 use crate::least_code::{Leastness, leastness_in_order};

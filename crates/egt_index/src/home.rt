@@ -1,5 +1,5 @@
 //! The turns that bring a king to a square of the white king's digit.
-ghost use Rattle.egt_index.specs.Prelude.{◌≡◌, ℕ, ◌<◌, ◌+◌, false, slice_index, None, IfSome, if◌then◌else◌};
+ghost use Rattle.std.specs.Prelude.{◌≡◌, ℕ, ◌<◌, ◌+◌, false, slice_index, None, IfSome, if◌then◌else◌};
 ghost use Rattle.egt_index.specs.Prelude.{king_square, AreHome, king_base};
 
 use egt_board::Square;

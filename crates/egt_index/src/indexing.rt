@@ -1,7 +1,7 @@
 //! The index of a position.
-ghost use Rattle.egt_index.specs.Prelude.{◌≡◌, ◌<◌, ◌%◌, ◌/◌, ◌==◌, Bool, true, None, is_some, HasAllMen, Setup};
-ghost use Rattle.egt_index.specs.Prelude.{IsAdmissible, SettlesTo, KeepsPlay, turned_side, has_equal_sides, IsOf};
-ghost use Rattle.egt_index.specs.Prelude.{LeastWith, IsIndex, HasStand, Best, CodeAfter, lesser};
+ghost use Rattle.std.specs.Prelude.{◌≡◌, ◌<◌, ◌%◌, ◌/◌, ◌==◌, Bool, true, None};
+ghost use Rattle.egt_index.specs.Prelude.{is_some, HasAllMen, Setup, IsAdmissible, SettlesTo, KeepsPlay, turned_side};
+ghost use Rattle.egt_index.specs.Prelude.{has_equal_sides, IsOf, LeastWith, IsIndex, HasStand, Best, CodeAfter, lesser};
 
 use crate::codes::{number_behind, with_side};
 use crate::digits::king_digit;

@@ -1,8 +1,8 @@
 //! What holds of codes and indexes. These functions do nothing: a caller calls one to know what it ensures.
-ghost use Rattle.egt_index.specs.Prelude.{◌≡◌, ◌↔◌, ◌⊎◌, ℕ, ◌*◌, ◌<◌, ◌≤◌, Bool, false, true, Man, Side, HasNoPawn};
-ghost use Rattle.egt_index.specs.Prelude.{MayStand, IsSettled, Setup, IsAdmissible, material_of, IsOf, Spells};
-ghost use Rattle.egt_index.specs.Prelude.{AreImages, IsIndex, IsVoid, SettleAlike, IsShelf, ShelfMen, has_pawns};
-ghost use Rattle.egt_index.specs.Prelude.{has_target, size_of, TellsMen, HasStand, IsFilled, list_of};
+ghost use Rattle.std.specs.Prelude.{◌≡◌, ◌↔◌, ◌⊎◌, ℕ, ◌*◌, ◌<◌, ◌≤◌, Bool, false, true};
+ghost use Rattle.egt_index.specs.Prelude.{Man, Side, HasNoPawn, MayStand, IsSettled, Setup, IsAdmissible, material_of};
+ghost use Rattle.egt_index.specs.Prelude.{IsOf, Spells, AreImages, IsIndex, IsVoid, SettleAlike, IsShelf, ShelfMen};
+ghost use Rattle.egt_index.specs.Prelude.{has_pawns, has_target, size_of, TellsMen, HasStand, IsFilled, list_of};
 ghost use Rattle.egt_index.specs.Prelude.{IsSomeTurnedCodeWith, IsListed, AreOnBoard, Stand};
 ghost use Rattle.egt_index.specs.Numbers.{code_of, half_of, number_of, places};
 

@@ -1,6 +1,6 @@
 //! Whether codes are the least of all images of the positions that they spell, as the kings and the first man tell: their digits are the
 //! highest.
-ghost use Rattle.egt_index.specs.Prelude.{◌≡◌, ◌⊎◌, ◌+◌, ◌*◌, ◌<◌, true, false, if◌then◌else◌, IfSome};
+ghost use Rattle.std.specs.Prelude.{◌≡◌, ◌⊎◌, ◌+◌, ◌*◌, ◌<◌, true, false, if◌then◌else◌, IfSome};
 ghost use Rattle.egt_index.specs.Prelude.{has_equal_sides, AllSpelled, HasFront, HasKingsOn, IfMoved, IsBeaten};
 ghost use Rattle.egt_index.specs.Prelude.{IsFirstOfTwo, KeepsWith, TurnBeats, TurnKeeps, IsIndex, IsInOrder, Stand};
 ghost use Rattle.egt_index.specs.declared.least_code.Leastness.TheVariants.{Beaten, Least, Tied};

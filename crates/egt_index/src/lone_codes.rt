@@ -1,5 +1,6 @@
 //! The codes of a class with one man beside the kings, by the squares of the kings.
-ghost use Rattle.egt_index.specs.Prelude.{IfSome, IfNone, Man, material_of, IsAtHome, IsLoneMan, IsLoneRow, has_pawns};
+ghost use Rattle.std.specs.Prelude.{IfSome, IfNone};
+ghost use Rattle.egt_index.specs.Prelude.{Man, material_of, IsAtHome, IsLoneMan, IsLoneRow, has_pawns};
 
 use crate::digits::king_digit;
 use crate::men::{has_pawns, non_kings};

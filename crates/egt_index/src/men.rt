@@ -1,7 +1,7 @@
 //! The men of each class, in the order of its name.
-ghost use Rattle.egt_index.specs.Prelude.{◌≡◌, ◌≢◌, ◌++◌, Option, None, true, IfSome, option_to_list, king_of, White};
-ghost use Rattle.egt_index.specs.Prelude.{material_of, has_equal_sides, tells_colours, men_beside, has_pawns};
-ghost use Rattle.egt_index.specs.Prelude.{has_target};
+ghost use Rattle.std.specs.Prelude.{◌≡◌, ◌≢◌, ◌++◌, Option, None, true, IfSome};
+ghost use Rattle.egt_index.specs.Prelude.{option_to_list, king_of, White, material_of, has_equal_sides, tells_colours};
+ghost use Rattle.egt_index.specs.Prelude.{men_beside, has_pawns, has_target};
 
 use egt_board::{Kind, Man, Side};
 use egt_class::Class;

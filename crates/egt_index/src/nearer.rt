@@ -1,6 +1,6 @@
 //! Which codes the kings alone tell to be void: their digits are the highest.
-ghost use Rattle.egt_index.specs.Prelude.{◌≡◌, ◌+◌, ◌*◌, ◌<◌, ◌/◌, ◌%◌, ◌==◌, true, turned_square, AreNearest};
-ghost use Rattle.egt_index.specs.Prelude.{IsVoidAfter, AreNear};
+ghost use Rattle.std.specs.Prelude.{◌≡◌, ◌+◌, ◌*◌, ◌<◌, ◌/◌, ◌%◌, ◌==◌, true};
+ghost use Rattle.egt_index.specs.Prelude.{turned_square, AreNearest, IsVoidAfter, AreNear};
 
 use crate::facts::facts;
 use crate::home::home;

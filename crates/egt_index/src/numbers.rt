@@ -1,7 +1,7 @@
 //! Numbers of positions, and the codes that they stand for: the codes without a target come first, then those with one. A shelf of numbers is behind a
 //! front, whose men stand before the last one.
-ghost use Rattle.egt_index.specs.Prelude.{◌≡◌, ℕ, ◌<◌, ◌+◌, ◌*◌, ◌≤◌, IfNone, IfSome, code_of, half_of, places};
-ghost use Rattle.egt_index.specs.Prelude.{IsShelfBehind, IsWithin, size_of};
+ghost use Rattle.std.specs.Prelude.{◌≡◌, ℕ, ◌<◌, ◌+◌, ◌*◌, ◌≤◌, IfNone, IfSome};
+ghost use Rattle.egt_index.specs.Prelude.{code_of, half_of, places, IsShelfBehind, IsWithin, size_of};
 
 use crate::men::has_target;
 use crate::shelf::last_digits;

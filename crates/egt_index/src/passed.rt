@@ -1,8 +1,8 @@
 //! Positions with a target that the last man makes with the men before him: the pawns stand side by side, on the rank to which one of them has just
 //! advanced by two squares.
-ghost use Rattle.egt_index.specs.Prelude.{◌≡◌, ◌≢◌, ℕ, ◌<◌, ◌↔◌, ◌⊎◌, true, false, IsTrue, Some, bit_at, rank_of, Man};
-ghost use Rattle.egt_index.specs.Prelude.{material_of, IsFrontBefore, IsMade, IsNewDigit, taking_rank, PassesNothing};
-ghost use Rattle.egt_index.specs.Prelude.{has_target};
+ghost use Rattle.std.specs.Prelude.{◌≡◌, ◌≢◌, ℕ, ◌<◌, ◌↔◌, ◌⊎◌, true, false, IsTrue, Some};
+ghost use Rattle.egt_index.specs.Prelude.{bit_at, rank_of, Man, material_of, IsFrontBefore, IsMade, IsNewDigit};
+ghost use Rattle.egt_index.specs.Prelude.{taking_rank, PassesNothing, has_target};
 
 use crate::front::Front;
 use crate::spelling::{admitted, is_settled, stand_before, target_of, with_entry};

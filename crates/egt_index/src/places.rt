@@ -1,8 +1,9 @@
 //! Which numbers of a shelf stand for positions' indexes, told of all of them at once by sets of squares.
-ghost use Rattle.egt_index.specs.Prelude.{◌≡◌, ℕ, ◌+◌, ◌<◌, ◌↔◌, true, false, Some, IfSome, bit_at, Stands, IsKeptFrom};
-ghost use Rattle.egt_index.specs.Prelude.{Has, Man, material_of, IsFront, IsFrontOf, code_of, AreInOrder, AreMade};
-ghost use Rattle.egt_index.specs.Prelude.{IsFrontBefore, IsPlaced, TellsIndex, waiting, kind_digits, kind_less};
-ghost use Rattle.egt_index.specs.Prelude.{AreIndexes, IsShelfBehind, IsWithin, has_target, size_of, IsInOrder};
+ghost use Rattle.std.specs.Prelude.{◌≡◌, ℕ, ◌+◌, ◌<◌, ◌↔◌, true, false, Some, IfSome};
+ghost use Rattle.egt_index.specs.Prelude.{bit_at, Stands, IsKeptFrom, Has, Man, material_of, IsFront, IsFrontOf};
+ghost use Rattle.egt_index.specs.Prelude.{code_of, AreInOrder, AreMade, IsFrontBefore, IsPlaced, TellsIndex, waiting};
+ghost use Rattle.egt_index.specs.Prelude.{kind_digits, kind_less, AreIndexes, IsShelfBehind, IsWithin, has_target};
+ghost use Rattle.egt_index.specs.Prelude.{size_of, IsInOrder};
 
 use crate::decoding::position;
 use crate::digits::digit;

@@ -1,5 +1,6 @@
 //! How many digits men have.
-ghost use Rattle.egt_index.specs.Prelude.{◌≡◌, ◌*◌, ◌%◌, ◌<◌, ◌≤◌, places, kind_digits, size_of};
+ghost use Rattle.std.specs.Prelude.{◌≡◌, ◌*◌, ◌%◌, ◌<◌, ◌≤◌};
+ghost use Rattle.egt_index.specs.Prelude.{places, kind_digits, size_of};
 
 use crate::men::non_kings;
 use egt_board::{Kind, Man};

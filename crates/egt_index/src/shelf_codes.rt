@@ -1,7 +1,8 @@
 //! The men of a shelf of numbers: but for the last one they stand on the same squares in all of its positions. A code tells its men by their digits,
 //! whether it is the least for its position or not, so what is told here needs no comparison of codes.
-ghost use Rattle.egt_index.specs.Prelude.{◌≡◌, ◌+◌, ◌-◌, ◌*◌, ◌<◌, Some, IfSome, IfNone, MayStand, Man, kind_digits};
-ghost use Rattle.egt_index.specs.Prelude.{kind_less, AreMenOf, HasShelf, HasTwoBeside, IsShelf, IsShelfOf, IsWithin};
+ghost use Rattle.std.specs.Prelude.{◌≡◌, ◌+◌, ◌-◌, ◌*◌, ◌<◌, Some, IfSome, IfNone};
+ghost use Rattle.egt_index.specs.Prelude.{MayStand, Man, kind_digits, kind_less, AreMenOf, HasShelf, HasTwoBeside};
+ghost use Rattle.egt_index.specs.Prelude.{IsShelf, IsShelfOf, IsWithin};
 
 use crate::digits::king_digit;
 use crate::men::{has_pawns, non_kings};

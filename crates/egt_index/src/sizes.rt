@@ -1,5 +1,6 @@
 //! How many codes each class has.
-ghost use Rattle.egt_index.specs.Prelude.{◌≡◌, size_of};
+ghost use Rattle.std.specs.Prelude.{◌≡◌};
+ghost use Rattle.egt_index.specs.Prelude.{size_of};
 
 use egt_class::Class;
 

@@ -1,10 +1,11 @@
 //! What the digits of a code spell, and the position of a code that is known to be an index.
-ghost use Rattle.egt_index.specs.Prelude.{◌≡◌, ◌≢◌, ◌*◌, ◌/◌, ◌∷◌, [], ◌<◌, ◌≤◌, ◌↔◌, Option, Bool, true, false};
-ghost use Rattle.egt_index.specs.Prelude.{IsTrue, IsSome, IfSome, IfNone, None, king_of, men_of, PawnsFit, IsFree};
-ghost use Rattle.egt_index.specs.Prelude.{IsSettled, Setup, IsAdmissible, IsKingOn, White, Black, material_of, Spells};
-ghost use Rattle.egt_index.specs.Prelude.{king_square, TellsLast, IsBefore, IsNoneBefore, IsIndex, IsVoid, king_base};
-ghost use Rattle.egt_index.specs.Prelude.{has_pawns, has_target, option_to_list, Splits, Tells, SpellsMen, SpellsNoMen};
-ghost use Rattle.egt_index.specs.Prelude.{Ends, HasPawns, IsTold, TellsMen, AllApart, IsFilled, list_of, with_entry};
+ghost use Rattle.std.specs.Prelude.{◌≡◌, ◌≢◌, ◌*◌, ◌/◌, ◌∷◌, [], ◌<◌, ◌≤◌, ◌↔◌, Option, Bool, true, false, IsTrue};
+ghost use Rattle.std.specs.Prelude.{IfSome, IfNone, None};
+ghost use Rattle.egt_index.specs.Prelude.{IsSome, king_of, men_of, PawnsFit, IsFree, IsSettled, Setup, IsAdmissible};
+ghost use Rattle.egt_index.specs.Prelude.{IsKingOn, White, Black, material_of, Spells, king_square, TellsLast};
+ghost use Rattle.egt_index.specs.Prelude.{IsBefore, IsNoneBefore, IsIndex, IsVoid, king_base, has_pawns, has_target};
+ghost use Rattle.egt_index.specs.Prelude.{option_to_list, Splits, Tells, SpellsMen, SpellsNoMen, Ends, HasPawns};
+ghost use Rattle.egt_index.specs.Prelude.{IsTold, TellsMen, AllApart, IsFilled, list_of, with_entry};
 ghost use Rattle.std.specs.FinMap as map;
 
 use crate::digits::TRIANGLE_SQUARES;

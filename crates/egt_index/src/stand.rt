@@ -1,10 +1,10 @@
 //! The men of a class on their squares.
-ghost use Rattle.egt_index.specs.Prelude.{◌≡◌, ◌<◌, ◌%◌, ◌/◌, ◌==◌, ◌++◌, ◌↔◌, IsTrue, IfSome, Bool, true, false, None};
-ghost use Rattle.egt_index.specs.Prelude.{if◌then◌else◌, option_to_list, option_map, HasAllMen, Setup, IsAdmissible};
-ghost use Rattle.egt_index.specs.Prelude.{turned_man, material_of, IsOf, men_beside, Stood, Holds, IsOn, IsAmong};
-ghost use Rattle.egt_index.specs.Prelude.{IsFirst, list_of, before_last, with_last, IsOff, AllApart, AreNear};
-ghost use Rattle.egt_index.specs.Prelude.{entry_after, on_square_of, IsInOrder, IsOrdered, AreExchanged, IsTurned};
-ghost use Rattle.egt_index.specs.Prelude.{IsStandAfter};
+ghost use Rattle.std.specs.Prelude.{◌≡◌, ◌<◌, ◌%◌, ◌/◌, ◌==◌, ◌++◌, ◌↔◌, IsTrue, IfSome, Bool, true, false, None};
+ghost use Rattle.std.specs.Prelude.{if◌then◌else◌};
+ghost use Rattle.egt_index.specs.Prelude.{option_to_list, option_map, HasAllMen, Setup, IsAdmissible, turned_man};
+ghost use Rattle.egt_index.specs.Prelude.{material_of, IsOf, men_beside, Stood, Holds, IsOn, IsAmong, IsFirst, list_of};
+ghost use Rattle.egt_index.specs.Prelude.{before_last, with_last, IsOff, AllApart, AreNear, entry_after, on_square_of};
+ghost use Rattle.egt_index.specs.Prelude.{IsInOrder, IsOrdered, AreExchanged, IsTurned, IsStandAfter};
 
 use crate::facts::facts;
 use crate::men::non_kings;

@@ -1,5 +1,6 @@
 //! Where the turns take squares.
-ghost use Rattle.egt_index.specs.Prelude.{◌≡◌, ◌<◌, ◌==◌, ◌/◌, ◌%◌, slice_index, turned_square};
+ghost use Rattle.std.specs.Prelude.{◌≡◌, ◌<◌, ◌==◌, ◌/◌, ◌%◌, slice_index};
+ghost use Rattle.egt_index.specs.Prelude.{turned_square};
 
 use egt_board::{Square, of_squares, turned_number};
 

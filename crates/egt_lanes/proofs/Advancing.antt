@@ -1,8 +1,8 @@
 -- Rows raised by a pawn's advances.
-use Rattle.egt_lanes.specs.Prelude.{◌≡◌, ℕ, ◌<◌, ◌≤◌, ◌==◌, ◌⊎◌, if◌then◌else◌, Bool, true, false, eqb, cond, max, List}
-use Rattle.egt_lanes.specs.Prelude.{get_or, refl, ap, ◌∙◌, subst, inl, inr, arith, eqb-true, cases_eq, eqb-false}
-use Rattle.egt_lanes.specs.Prelude.{false≢true, bit_at, Rides, Advances, forward, home_rank, rank_of, Away, Side, White}
-use Rattle.egt_lanes.specs.Prelude.{Black, Step, AdvancesBy, IsRaised}
+use Rattle.std.proofs.Common.{◌≡◌, ℕ, ◌<◌, ◌≤◌, ◌==◌, ◌⊎◌, if◌then◌else◌, Bool, true, false, eqb, cond, max, List}
+use Rattle.std.proofs.Common.{get_or, refl, ap, ◌∙◌, subst, inl, inr, arith, eqb-true}
+use Rattle.egt_lanes.specs.Prelude.{cases_eq, eqb-false, false≢true, bit_at, Rides, Advances, forward, home_rank}
+use Rattle.egt_lanes.specs.Prelude.{rank_of, Away, Side, White, Black, Step, AdvancesBy, IsRaised}
 use Rattle.egt_lanes.proofs.Raising.{raised_again, raised_among, raised_as, raised_by_none, raised_is}
 use Rattle.egt_lanes.proofs.Rays.{IsRidden}
 use Rattle.egt_lanes.proofs.Riding.{HasBit, IsShifted, more_ends, one_ride, raised_over, ride_one, ridden_first}

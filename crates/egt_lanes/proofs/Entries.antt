@@ -1,7 +1,8 @@
 -- Every second entry.
-use Rattle.egt_lanes.specs.Prelude.{Bool, true, false, ◌≡◌, ℕ, ◌+◌, ◌*◌, ◌-◌, ◌<◌, ◌≤◌, ◌⊎◌, nat_lt, if◌then◌else◌, eqb}
-use Rattle.egt_lanes.specs.Prelude.{T, List, ◌++◌, length, get_or, sym, ap, ◌∙◌, inl, inr, arith, cases_lt, get_or-map}
-use Rattle.egt_lanes.specs.Prelude.{get_or_append_left, get_or-append_right, nat_tests, Side, White, Black, side_number}
+use Rattle.std.proofs.Common.{Bool, true, false, ◌≡◌, ℕ, ◌+◌, ◌*◌, ◌-◌, ◌<◌, ◌≤◌, ◌⊎◌, nat_lt, if◌then◌else◌, eqb, T}
+use Rattle.std.proofs.Common.{List, ◌++◌, length, get_or, sym, ap, ◌∙◌, inl, inr, arith}
+use Rattle.egt_lanes.specs.Prelude.{cases_lt, get_or-map, get_or_append_left, get_or-append_right, nat_tests, Side}
+use Rattle.egt_lanes.specs.Prelude.{White, Black, side_number}
 use lib.Lanes.{pick_l}
 use Rattle.egt_lanes.proofs.Tests.{passes_below, agreed}
 

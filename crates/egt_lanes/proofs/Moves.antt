@@ -1,8 +1,7 @@
 -- Steps along a rank and along a file.
-use Rattle.egt_lanes.specs.Prelude.{◌≡◌, ℕ, ◌+◌, ◌*◌, ◌-◌, ◌/◌, ◌%◌, ◌<◌, ◌≤◌, Bool, true, false, ltb, leb, eqb, cond}
-use Rattle.egt_lanes.specs.Prelude.{T, List, ◌++◌, length, get_or, replicate, refl, sym, ap, ◌∙◌, arith, ltb-true}
-use Rattle.egt_lanes.specs.Prelude.{ltb-false, Way, Up, Down, Still, Step, Away, Further, file_of, rank_of, beside}
-use Rattle.egt_lanes.specs.Prelude.{beyond}
+use Rattle.std.proofs.Common.{◌≡◌, ℕ, ◌+◌, ◌*◌, ◌-◌, ◌/◌, ◌%◌, ◌<◌, ◌≤◌, Bool, true, false, ltb, leb, eqb, cond, T}
+use Rattle.std.proofs.Common.{List, ◌++◌, length, get_or, replicate, refl, sym, ap, ◌∙◌, arith, ltb-true, ltb-false}
+use Rattle.egt_lanes.specs.Prelude.{Way, Up, Down, Still, Step, Away, Further, file_of, rank_of, beside, beyond}
 use lib.Lanes.{pick_l}
 use Rattle.egt_lanes.proofs.Tests.{passes_below, agreed}
 use Rattle.egt_lanes.proofs.Picks.{picked_or_none}

@@ -1,5 +1,6 @@
 -- Raising by one set of squares after another.
-use Rattle.egt_lanes.specs.Prelude.{◌≡◌, ℕ, ◌⊎◌, max, refl, sym, ap, ◌∙◌, inl, inr, arith, subst, cases_lt, IsRaised}
+use Rattle.std.proofs.Common.{◌≡◌, ℕ, ◌⊎◌, max, refl, sym, ap, ◌∙◌, inl, inr, arith, subst}
+use Rattle.egt_lanes.specs.Prelude.{cases_lt, IsRaised}
 
 -- by no square
 pub raised_by_none : (low : ℕ) (In : ℕ → Type 0) (f : ℕ → ℕ) → ((t : ℕ) → In t → ⊥) → IsRaised low In f low

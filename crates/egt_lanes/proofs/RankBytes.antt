@@ -1,7 +1,8 @@
 -- The bits of a set, as bytes of ranks.
-use Rattle.egt_lanes.specs.Prelude.{◌≡◌, ℕ, zero, suc, ◌*◌, ◌/◌, ◌%◌, ◌^◌, ◌<◌, Bool, true, false, eqb, bit_and}
-use Rattle.egt_lanes.specs.Prelude.{eqb-true, eq-eqb, refl, sym, ap, ◌∙◌, arith, bit_at, div-div-eq-div-mul, and_pow}
-use Rattle.egt_lanes.specs.Prelude.{bit_at_cat_low, bit_at-lt, div-add-mod', pow_pos}
+use Rattle.std.proofs.Common.{◌≡◌, ℕ, zero, suc, ◌*◌, ◌/◌, ◌%◌, ◌^◌, ◌<◌, Bool, true, false, eqb, bit_and, eqb-true}
+use Rattle.std.proofs.Common.{eq-eqb, refl, sym, ap, ◌∙◌, arith}
+use Rattle.egt_lanes.specs.Prelude.{bit_at, div-div-eq-div-mul, and_pow, bit_at_cat_low, bit_at-lt, div-add-mod'}
+use Rattle.egt_lanes.specs.Prelude.{pow_pos}
 use Rattle.egt_lanes.proofs.Tests.{agreed}
 
 low_bit : (n k : ℕ) → k < 8 → bit_at (n % 256) k ≡ bit_at n k

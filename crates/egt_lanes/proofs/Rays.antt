@@ -1,5 +1,5 @@
 -- Steps one after another.
-use Rattle.egt_lanes.specs.Prelude.{◌≡◌, ℕ, zero, suc, ◌+◌, ◌*◌, ◌-◌, ◌/◌, ◌%◌, ◌<◌, ◌⊎◌, refl, subst, inl, inr, arith}
+use Rattle.std.proofs.Common.{◌≡◌, ℕ, zero, suc, ◌+◌, ◌*◌, ◌-◌, ◌/◌, ◌%◌, ◌<◌, ◌⊎◌, refl, subst, inl, inr, arith}
 use Rattle.egt_lanes.specs.Prelude.{cases_lt, cases_eq, Way, Up, Down, Still, Step, Further, file_of, rank_of, Away}
 use Rattle.egt_lanes.specs.Prelude.{Rides}
 

@@ -1,6 +1,6 @@
 -- Rows raised along rays: the last man's moves.
-use Rattle.egt_lanes.specs.Prelude.{◌≡◌, ℕ, ◌+◌, ◌<◌, ◌==◌, ◌⊎◌, if◌then◌else◌, Bool, true, false, eqb, cond, max, List}
-use Rattle.egt_lanes.specs.Prelude.{[], ◌∷◌, ◌++◌, get_or, take, length, refl, sym, ap, ◌∙◌, subst, inl, inr, eqb-true}
+use Rattle.std.proofs.Common.{◌≡◌, ℕ, ◌+◌, ◌<◌, ◌==◌, ◌⊎◌, if◌then◌else◌, Bool, true, false, eqb, cond, max, List, []}
+use Rattle.std.proofs.Common.{◌∷◌, ◌++◌, get_or, take, length, refl, sym, ap, ◌∙◌, subst, inl, inr, eqb-true}
 use Rattle.egt_lanes.specs.Prelude.{eqb-false, take_more, bit_at, Side, Kind, Step, Away, Rides, OneOf, farthest}
 use Rattle.egt_lanes.specs.Prelude.{steps_of, P, K, IsPiece, IsRaised}
 use Rattle.egt_lanes.proofs.Raising.{raised_by_none, first_raised, raised_more, raised_again, raised_as, raised_is}

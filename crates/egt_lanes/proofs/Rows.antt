@@ -1,10 +1,11 @@
 -- What the operations on rows come to at one lane. A mask's lane is 255 or 0.
-use Rattle.egt_lanes.specs.Prelude.{T, inl, inr, ◌==◌, if◌then◌else◌, subst, ◌≡◌, ◌≢◌, ℕ, zero, suc, ◌+◌, ◌≤◌, ◌<◌, ◌-◌}
-use Rattle.egt_lanes.specs.Prelude.{◌/◌, ◌%◌, ◌^◌, Bool, true, false, not, cond, eqb, ltb, leb, max, List, [], ◌∷◌, map}
-use Rattle.egt_lanes.specs.Prelude.{length, get_or, replicate, bit_and, refl, sym, ap, ◌∙◌, arith, Fits, w8, ltb-true}
-use Rattle.egt_lanes.specs.Prelude.{ltb-false, eqb-true, length-map, and_mask, length-replicate, length-zip2}
-use Rattle.egt_lanes.specs.Prelude.{mask_l-mod, bit_mask_l, cases_eq, eqb-false, bit_at, byte_score, zeroing_score}
-use Rattle.egt_lanes.specs.Prelude.{due_score, reach_score, reach_due_score}
+use Rattle.std.proofs.Common.{T, inl, inr, ◌==◌, if◌then◌else◌, subst, ◌≡◌, ◌≢◌, ℕ, zero, suc, ◌+◌, ◌≤◌, ◌<◌, ◌-◌, ◌/◌}
+use Rattle.std.proofs.Common.{◌%◌, ◌^◌, Bool, true, false, not, cond, eqb, ltb, leb, max, List, [], ◌∷◌, map, length}
+use Rattle.std.proofs.Common.{get_or, replicate, bit_and, refl, sym, ap, ◌∙◌, arith, Fits, w8, ltb-true, ltb-false}
+use Rattle.std.proofs.Common.{eqb-true}
+use Rattle.egt_lanes.specs.Prelude.{length-map, and_mask, length-replicate, length-zip2, mask_l-mod, bit_mask_l}
+use Rattle.egt_lanes.specs.Prelude.{cases_eq, eqb-false, bit_at, byte_score, zeroing_score, due_score, reach_score}
+use Rattle.egt_lanes.specs.Prelude.{reach_due_score}
 use lib.Lanes.{zip2, sel_l, mask_l, top, Each1}
 use Rattle.egt_lanes.proofs.Tests.{agreed, passes_below}
 

@@ -1,6 +1,7 @@
 -- Blocks raised row by row.
-use Rattle.egt_lanes.specs.Prelude.{◌≡◌, ◌≢◌, ℕ, ◌+◌, ◌<◌, ◌≤◌, List, [], length, get_or, get_or-set_other, arith, sym}
-use Rattle.egt_lanes.specs.Prelude.{ap, ◌∙◌, inl, inr, subst, cases_eq, get_or-set_at, set, length-set, at, IsRaised}
+use Rattle.std.proofs.Common.{◌≡◌, ◌≢◌, ℕ, ◌+◌, ◌<◌, ◌≤◌, List, [], length, get_or, get_or-set_other, arith, sym, ap}
+use Rattle.std.proofs.Common.{◌∙◌, inl, inr, subst}
+use Rattle.egt_lanes.specs.Prelude.{cases_eq, get_or-set_at, set, length-set, at, IsRaised}
 
 -- the first n rows are raised, and the others are as they were
 pub record RowsRaised (In : (a b t : ℕ) → Type 0) (f : (a b t : ℕ) → ℕ) (old out : List (List ℕ)) (n : ℕ) : Type 0 where

@@ -1,8 +1,9 @@
 -- Rows raised along rays, what is reached carried from square to square: the first man's moves.
-use Rattle.egt_lanes.specs.Prelude.{◌≡◌, ◌≢◌, ℕ, ◌+◌, ◌-◌, ◌<◌, ◌≤◌, ◌==◌, ◌⊎◌, if◌then◌else◌, Bool, true, false, eqb}
-use Rattle.egt_lanes.specs.Prelude.{cond, max, List, [], get_or, refl, sym, ap, ◌∙◌, subst, inl, inr, arith, eqb-true}
-use Rattle.egt_lanes.specs.Prelude.{length, bit_at, get_or-set_other, cases_eq, eqb-false, get_or-set_at, set}
-use Rattle.egt_lanes.specs.Prelude.{length-set, Step, Away, Rides, at, IsOpen, IsRaised, IsAhead, IsRay}
+use Rattle.std.proofs.Common.{◌≡◌, ◌≢◌, ℕ, ◌+◌, ◌-◌, ◌<◌, ◌≤◌, ◌==◌, ◌⊎◌, if◌then◌else◌, Bool, true, false, eqb, cond}
+use Rattle.std.proofs.Common.{max, List, [], get_or, refl, sym, ap, ◌∙◌, subst, inl, inr, arith, eqb-true, length}
+use Rattle.std.proofs.Common.{get_or-set_other}
+use Rattle.egt_lanes.specs.Prelude.{bit_at, cases_eq, eqb-false, get_or-set_at, set, length-set, Step, Away, Rides, at}
+use Rattle.egt_lanes.specs.Prelude.{IsOpen, IsRaised, IsAhead, IsRay}
 use Rattle.egt_lanes.proofs.Raising.{raised_by_none, first_raised, raised_more, raised_as, raised_is}
 use Rattle.egt_lanes.proofs.Riding.{raised_over}
 use Rattle.egt_lanes.proofs.Rays.{IsRidden, same_end, first_step, more_steps, fewer_steps}

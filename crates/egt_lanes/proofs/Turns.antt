@@ -1,5 +1,6 @@
 -- Rows in a mirror.
-use Rattle.egt_lanes.specs.Prelude.{◌≡◌, ℕ, ◌<◌, T, eqb, List, ◌++◌, length, get_or, sym, ap, ◌∙◌, Mirror, square_by}
+use Rattle.std.proofs.Common.{◌≡◌, ℕ, ◌<◌, T, eqb, List, ◌++◌, length, get_or, sym, ap, ◌∙◌}
+use Rattle.egt_lanes.specs.Prelude.{Mirror, square_by}
 use lib.Lanes.{pick_l}
 use Rattle.egt_lanes.proofs.Tests.{passes_below}
 use Rattle.egt_lanes.proofs.Picks.{picked}

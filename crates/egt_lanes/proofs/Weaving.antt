@@ -1,9 +1,9 @@
 -- Rows woven into one another, and blocks in which rows and lanes are exchanged.
-use Rattle.egt_lanes.specs.Prelude.{◌≡◌, ℕ, ◌+◌, ◌-◌, ◌*◌, ◌/◌, ◌%◌, ◌<◌, ◌≤◌, ◌≢◌, ◌==◌, if◌then◌else◌, Bool, true}
-use Rattle.egt_lanes.specs.Prelude.{false, eqb, cond, T, List, [], ◌++◌, map, length, get_or, refl, ap, ◌∙◌, inl, inr}
-use Rattle.egt_lanes.specs.Prelude.{arith, eqb-true, get_or-set_other, range_with_len, set, length-set, eqb-false}
-use Rattle.egt_lanes.specs.Prelude.{cases_lt, cases_eq, get_or-set_at, get_or-map, get_or_append_left}
-use Rattle.egt_lanes.specs.Prelude.{get_or-append_right, at}
+use Rattle.std.proofs.Common.{◌≡◌, ℕ, ◌+◌, ◌-◌, ◌*◌, ◌/◌, ◌%◌, ◌<◌, ◌≤◌, ◌≢◌, ◌==◌, if◌then◌else◌, Bool, true, false}
+use Rattle.std.proofs.Common.{eqb, cond, T, List, [], ◌++◌, map, length, get_or, refl, ap, ◌∙◌, inl, inr, arith}
+use Rattle.std.proofs.Common.{eqb-true, get_or-set_other}
+use Rattle.egt_lanes.specs.Prelude.{range_with_len, set, length-set, eqb-false, cases_lt, cases_eq, get_or-set_at}
+use Rattle.egt_lanes.specs.Prelude.{get_or-map, get_or_append_left, get_or-append_right, at}
 use lib.Lanes.{pick_l}
 use Rattle.egt_lanes.proofs.Tests.{passes_below, agreed}
 

@@ -29,10 +29,6 @@ pub use Rattle.egt_lanes.specs.Scores.{byte_score, due_score, reach_due_score, r
 pub use Rattle.egt_lanes.specs.Sweeps.{IsAhead, IsRay}
 pub use Rattle.egt_lanes.specs.declared.load.TheConstants.{PAWN_SQUARES, TARGET_SQUARES}
 pub use Rattle.egt_lanes.specs.declared.sets.TheConstants.{FILE_BITS, RANKS, SQUARES}
-pub use Rattle.std.proofs.Common.{Bool, Fits, List, T, [], ap, arith, bit_and, cond, eq-eqb, eqb, eqb-true, false}
-pub use Rattle.std.proofs.Common.{get_or, get_or-set_other, if◌then◌else◌, inl, inr, leb, length, ltb, ltb-false}
-pub use Rattle.std.proofs.Common.{ltb-true, map, max, nat_lt, not, refl, replicate, subst, suc, sym, take, true, w8}
-pub use Rattle.std.proofs.Common.{zero, ℕ, ◌%◌, ◌*◌, ◌++◌, ◌+◌, ◌-◌, ◌/◌, ◌<◌, ◌==◌, ◌^◌, ◌∙◌, ◌∷◌, ◌≡◌, ◌≢◌, ◌≤◌, ◌⊎◌}
 pub use Rattle.std.proofs.Math.ListN.{length-set, set}
 pub use Rattle.std.proofs.Math.Nat.{div-div-eq-div-mul}
 pub use Rattle.std.proofs.lemmas.Bool.{cases_eq, cases_lt, eqb-false, false≢true}
@@ -46,4 +42,3 @@ pub use Rattle.std.proofs.lemmas.Simd.{Each1-replicate, bit_mask_l, get_or-repli
 pub use Rattle.std.proofs.lemmas.Simd.{length-replicate, length-zip2, mask_l-mod}
 pub use Rattle.std.specs.Int.{bit_at}
 pub use Rattle.std.specs.List.{All, range_with_len}
-pub use Rattle.std.specs.Prelude.{slice_index}

@@ -1,5 +1,6 @@
 //! Whether the entries of both columns show the same results, and have bytes of their own.
-ghost use Rattle.egt_lanes.specs.Prelude.{◌≡◌, ℕ, ◌<◌, ◌≤◌, ◌*◌, slice_index, length, true, AreVoidOrAlike};
+ghost use Rattle.std.specs.Prelude.{◌≡◌, ℕ, ◌<◌, ◌≤◌, ◌*◌, slice_index, length, true};
+ghost use Rattle.egt_lanes.specs.Prelude.{AreVoidOrAlike};
 
 use crate::load::loaded;
 use crate::score::Entries;

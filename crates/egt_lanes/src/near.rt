@@ -1,6 +1,7 @@
 //! Whether the column of the nearest mates has entries where the mate column has, and their scores are bytes of their own.
 //! An entry of it is 0 where there is no position, 1 of a dead one, and 2 + n where n plies of both sides lead to a checkmate.
-ghost use Rattle.egt_lanes.specs.Prelude.{◌≡◌, ℕ, ◌<◌, ◌≤◌, ◌*◌, slice_index, length, true, IsVoidOrNear};
+ghost use Rattle.std.specs.Prelude.{◌≡◌, ℕ, ◌<◌, ◌≤◌, ◌*◌, slice_index, length, true};
+ghost use Rattle.egt_lanes.specs.Prelude.{IsVoidOrNear};
 
 use crate::load::loaded;
 use crate::score::Entries;

@@ -1,6 +1,6 @@
 //! Rows cut down to sets of squares.
-ghost use Rattle.egt_lanes.specs.Prelude.{◌≡◌, ◌≢◌, ℕ, ◌<◌, ◌==◌, ◌/◌, ◌%◌, ◌^◌, slice_index, if◌then◌else◌, bit_at};
-ghost use Rattle.egt_lanes.specs.Prelude.{rank_of};
+ghost use Rattle.std.specs.Prelude.{◌≡◌, ◌≢◌, ℕ, ◌<◌, ◌==◌, ◌/◌, ◌%◌, ◌^◌, slice_index, if◌then◌else◌};
+ghost use Rattle.egt_lanes.specs.Prelude.{bit_at, rank_of};
 
 use crate::row::Row;
 use egt_board::{Square, SquareSet, of_squares, turned_number};

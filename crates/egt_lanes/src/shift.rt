@@ -1,7 +1,8 @@
 //! Rows moved by the steps of men.
-ghost use Rattle.egt_lanes.specs.Prelude.{◌≡◌, ℕ, ◌<◌, ◌≤◌, ◌==◌, slice_index, if◌then◌else◌, bit_at, OneOf, Reaches};
-ghost use Rattle.egt_lanes.specs.Prelude.{Rides, straight_steps, diagonal_steps, knight_steps, Advances, forward};
-ghost use Rattle.egt_lanes.specs.Prelude.{home_rank, rank_of, Away, AdvancesBy, beside, beyond, IsPiece, IsRaised};
+ghost use Rattle.std.specs.Prelude.{◌≡◌, ℕ, ◌<◌, ◌≤◌, ◌==◌, slice_index, if◌then◌else◌};
+ghost use Rattle.egt_lanes.specs.Prelude.{bit_at, OneOf, Reaches, Rides, straight_steps, diagonal_steps, knight_steps};
+ghost use Rattle.egt_lanes.specs.Prelude.{Advances, forward, home_rank, rank_of, Away, AdvancesBy, beside, beyond};
+ghost use Rattle.egt_lanes.specs.Prelude.{IsPiece, IsRaised};
 ghost use Rattle.egt_board.specs.AttackLines.{step as the_step};
 
 use crate::row::{Row, greater};

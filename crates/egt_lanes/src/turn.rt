@@ -1,6 +1,6 @@
 //! Rows turned as the board is.
-ghost use Rattle.egt_lanes.specs.Prelude.{◌≡◌, ℕ, ◌<◌, ◌/◌, ◌%◌, ◌==◌, slice_index, square_by, square_if};
-ghost use Rattle.egt_lanes.specs.Prelude.{turned_square};
+ghost use Rattle.std.specs.Prelude.{◌≡◌, ℕ, ◌<◌, ◌/◌, ◌%◌, ◌==◌, slice_index};
+ghost use Rattle.egt_lanes.specs.Prelude.{square_by, square_if, turned_square};
 
 use crate::row::Row;
 use egt_board::{Mirror, of_squares, turned_number};

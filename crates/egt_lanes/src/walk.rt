@@ -1,7 +1,7 @@
 //! The first man's moves: the rows of the squares that he reaches, raised into the row of his own.
-ghost use Rattle.egt_lanes.specs.Prelude.{◌≡◌, ℕ, ◌<◌, Bool, if◌then◌else◌, ◌-◌, slice_index, All, OneOf, Reaches};
-ghost use Rattle.egt_lanes.specs.Prelude.{Rides, diagonal_steps, knight_steps, straight_steps, Away, at, IsOpen};
-ghost use Rattle.egt_lanes.specs.Prelude.{IsPiece, IsRaised, IsRay};
+ghost use Rattle.std.specs.Prelude.{◌≡◌, ℕ, ◌<◌, Bool, if◌then◌else◌, ◌-◌, slice_index};
+ghost use Rattle.egt_lanes.specs.Prelude.{All, OneOf, Reaches, Rides, diagonal_steps, knight_steps, straight_steps};
+ghost use Rattle.egt_lanes.specs.Prelude.{Away, at, IsOpen, IsPiece, IsRaised, IsRay};
 
 use crate::block::Block;
 use crate::row::{Row, greater};

@@ -1,6 +1,6 @@
 -- What a legal move leads to is admissible.
-use Rattle.egt_moves.specs.Prelude.{◌≡◌, ◌≢◌, ℕ, ◌<◌, ◌≤◌, ◌+◌, ◌-◌, ◌/◌, ◌⊎◌, ◌&&◌, ◌||◌, Option, Some, None, cond}
-use Rattle.egt_moves.specs.Prelude.{true, false, Bool, arith, refl, sym, ap, ◌∙◌, inl, inr, subst, if◌then◌else◌, ◌==◌}
+use Rattle.std.proofs.Common.{◌≡◌, ◌≢◌, ℕ, ◌<◌, ◌≤◌, ◌+◌, ◌-◌, ◌/◌, ◌⊎◌, ◌&&◌, ◌||◌, Option, Some, None, cond, true}
+use Rattle.std.proofs.Common.{false, Bool, arith, refl, sym, ap, ◌∙◌, inl, inr, subst, if◌then◌else◌, ◌==◌}
 use Rattle.egt_moves.specs.Prelude.{is_some, nat_cmp_total, false≢true, eq-eqb, and_parts, eqb_tells, Side, White}
 use Rattle.egt_moves.specs.Prelude.{Black, Kind, Q, R, B, N, P, K, Man, other_side, file_of, rank_of, Stands, IsFree}
 use Rattle.egt_moves.specs.Prelude.{ahead, pawn_of, last_rank, home_rank, farthest_advance, Advances, PawnsFit}

@@ -1,11 +1,12 @@
 -- The men after a move.
-use Rattle.egt_moves.specs.Prelude.{◌≡◌, ◌≢◌, ℕ, ◌⊎◌, ◌&&◌, Option, Some, None, true, false, Bool, refl, sym, ap, ◌∙◌}
-use Rattle.egt_moves.specs.Prelude.{inl, inr, subst, if◌then◌else◌, IfSome, cases_eq, eqb_tells, Side, Kind, Q, R, B, N}
-use Rattle.egt_moves.specs.Prelude.{P, K, Man, other_side, Placement, Stands, IsFree, IsHeld, get-insert_same}
-use Rattle.egt_moves.specs.Prelude.{get-insert_other, get-remove_same, get-remove_other, ahead, pawn_of, IsTarget}
-use Rattle.egt_moves.specs.Prelude.{Reaches, Reaches-free, king_of, IsInCheck, Setup, IsAdmissible, IsKingOn}
-use Rattle.egt_moves.specs.Prelude.{sides_differ, side_twice, Move, Goes, is_pawn, IsOfficer, FitsPromotion, arriving}
-use Rattle.egt_moves.specs.Prelude.{is_target, takes_in_passing, men_left, men_after}
+use Rattle.std.proofs.Common.{◌≡◌, ◌≢◌, ℕ, ◌⊎◌, ◌&&◌, Option, Some, None, true, false, Bool, refl, sym, ap, ◌∙◌, inl}
+use Rattle.std.proofs.Common.{inr, subst, if◌then◌else◌, IfSome}
+use Rattle.egt_moves.specs.Prelude.{cases_eq, eqb_tells, Side, Kind, Q, R, B, N, P, K, Man, other_side, Placement}
+use Rattle.egt_moves.specs.Prelude.{Stands, IsFree, IsHeld, get-insert_same, get-insert_other, get-remove_same}
+use Rattle.egt_moves.specs.Prelude.{get-remove_other, ahead, pawn_of, IsTarget, Reaches, Reaches-free, king_of}
+use Rattle.egt_moves.specs.Prelude.{IsInCheck, Setup, IsAdmissible, IsKingOn, sides_differ, side_twice, Move, Goes}
+use Rattle.egt_moves.specs.Prelude.{is_pawn, IsOfficer, FitsPromotion, arriving, is_target, takes_in_passing, men_left}
+use Rattle.egt_moves.specs.Prelude.{men_after}
 use Rattle.std.specs.FinMap as map
 pub use Rattle.egt_board.specs.Placement.{one_man}
 pub use Rattle.egt_moves.specs.DecidedMoves.{goes_on_board}

@@ -1,6 +1,6 @@
 -- What can be told of all elements of a finite list, or of one.
-use Rattle.egt_moves.specs.Prelude.{ℕ, zero, ◌+◌, ◌≤◌, ◌⊎◌, inl, inr, arith, List, [], ◌∷◌, Option, Some, None, ⊎_elim}
-use Rattle.egt_moves.specs.Prelude.{IsSomeAnd, any_here, any_there, any_cons, Any, AllByRecursion, filter_map}
+use Rattle.std.proofs.Common.{ℕ, zero, ◌+◌, ◌≤◌, ◌⊎◌, inl, inr, arith, List, [], ◌∷◌, Option, Some, None}
+use Rattle.egt_moves.specs.Prelude.{⊎_elim, IsSomeAnd, any_here, any_there, any_cons, Any, AllByRecursion, filter_map}
 use Rattle.egt_moves.specs.Prelude.{cons_option}
 
 -- P holds of each element, or Q of some

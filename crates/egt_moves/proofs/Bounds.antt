@@ -1,7 +1,7 @@
 -- How forced mate and the defence against it go with the number of plies, and exclude each other.
-use Rattle.egt_moves.specs.Prelude.{ℕ, zero, suc, ◌≤◌, ◌<◌, ◌⊎◌, inl, inr, arith, ⊎_elim, ⊎_map, cases_lt, Arena, Win}
-use Rattle.egt_moves.specs.Prelude.{Loss, NoMove, SomeMove, IsMatedWithin, MatesWithin, AvoidsMateFor, CannotMateWithin}
-use Rattle.egt_moves.specs.Prelude.{HasValue}
+use Rattle.std.proofs.Common.{ℕ, zero, suc, ◌≤◌, ◌<◌, ◌⊎◌, inl, inr, arith}
+use Rattle.egt_moves.specs.Prelude.{⊎_elim, ⊎_map, cases_lt, Arena, Win, Loss, NoMove, SomeMove, IsMatedWithin}
+use Rattle.egt_moves.specs.Prelude.{MatesWithin, AvoidsMateFor, CannotMateWithin, HasValue}
 
 module _ {S : Type 0} (a : Arena S) where
   -- checkmate is a loss within any number

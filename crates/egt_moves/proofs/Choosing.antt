@@ -1,6 +1,6 @@
 -- What a man may become, one choice after the other.
-use Rattle.egt_moves.specs.Prelude.{◌≡◌, ℕ, zero, suc, ◌+◌, ◌*◌, ◌<◌, ◌≤◌, ◌↔◌, ◌⊎◌, List, [], ◌∷◌, ◌++◌, length}
-use Rattle.egt_moves.specs.Prelude.{get_or, true, false, Option, Some, None, arith, refl, sym, ap, ◌∙◌, inl, inr, subst}
+use Rattle.std.proofs.Common.{◌≡◌, ℕ, zero, suc, ◌+◌, ◌*◌, ◌<◌, ◌≤◌, ◌↔◌, ◌⊎◌, List, [], ◌∷◌, ◌++◌, length, get_or}
+use Rattle.std.proofs.Common.{true, false, Option, Some, None, arith, refl, sym, ap, ◌∙◌, inl, inr, subst}
 use Rattle.egt_moves.specs.Prelude.{Contains, cases_eq, length-append, Contains-push, Contains-push_cases}
 use Rattle.egt_moves.specs.Prelude.{Contains-append_left, Kind, Q, R, B, N, P, K, Move, FitsPromotion, plain, place_of}
 use Rattle.egt_moves.specs.Prelude.{promotion_place, IsInOrder}

@@ -1,6 +1,6 @@
 -- An arena whose steps come of finitely many moves that can be told.
-use Rattle.egt_moves.specs.Prelude.{List, Option, IsSomeAnd, Any, filter_map, Decided, Arena, Next, SameStep}
-use Rattle.egt_moves.specs.Prelude.{Successors}
+use Rattle.std.specs.Prelude.{List, Option}
+use Rattle.egt_moves.specs.Prelude.{IsSomeAnd, Any, filter_map, Decided, Arena, Next, SameStep, Successors}
 use Rattle.egt_moves.proofs.Among.{any_filter_map}
 
 module _ {S M : Type 0} (a : Arena S) (moves : S → List M) (tried : (p : S) → M → Option (Next a p)) where

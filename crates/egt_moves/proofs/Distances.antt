@@ -1,7 +1,8 @@
 -- Zeroing distances: how they go with the number and with the value.
-use Rattle.egt_moves.specs.Prelude.{◌≡◌, ℕ, zero, suc, ◌≤◌, ◌<◌, ◌⊎◌, inl, inr, refl, ap, arith, ⊎_map, cases_lt, Arena}
-use Rattle.egt_moves.specs.Prelude.{Value, Win, Loss, Draw, Ends, IsMatedWithin, MatesWithin, IsWon, IsLost, IsDraw}
-use Rattle.egt_moves.specs.Prelude.{HasValue, ZeroesLosingWithin, ZeroesWinningWithin, HasZeroing, SameKind}
+use Rattle.std.proofs.Common.{◌≡◌, ℕ, zero, suc, ◌≤◌, ◌<◌, ◌⊎◌, inl, inr, refl, ap, arith}
+use Rattle.egt_moves.specs.Prelude.{⊎_map, cases_lt, Arena, Value, Win, Loss, Draw, Ends, IsMatedWithin, MatesWithin}
+use Rattle.egt_moves.specs.Prelude.{IsWon, IsLost, IsDraw, HasValue, ZeroesLosingWithin, ZeroesWinningWithin}
+use Rattle.egt_moves.specs.Prelude.{HasZeroing, SameKind}
 use Rattle.egt_moves.proofs.Bounds.{win_mates, loss_mated, mated_not_avoids, mates_not_cannot}
 use Rattle.egt_moves.proofs.Exclusion.{mates_not_mated}
 

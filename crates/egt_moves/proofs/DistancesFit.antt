@@ -1,8 +1,8 @@
 -- Distances that fit their successors' are the zeroing distances, and zeroing distances fit.
-use Rattle.egt_moves.specs.Prelude.{◌≡◌, ℕ, zero, suc, ◌≤◌, ◌<◌, ◌⊎◌, inl, inr, refl, subst, arith, ⊎_elim, ⊎_map}
-use Rattle.egt_moves.specs.Prelude.{cases_lt, Arena, Value, Win, Loss, Draw, HasMove, EachMove, Ends, IsWon, IsLost}
-use Rattle.egt_moves.specs.Prelude.{HasValue, Next, Successors, ZeroesLosingWithin, ZeroesWinningWithin, HasZeroing}
-use Rattle.egt_moves.specs.Prelude.{SameKind, Gives, FitsZeroing, JudgedOver, ZeroingJudgedOver}
+use Rattle.std.proofs.Common.{◌≡◌, ℕ, zero, suc, ◌≤◌, ◌<◌, ◌⊎◌, inl, inr, refl, subst, arith}
+use Rattle.egt_moves.specs.Prelude.{⊎_elim, ⊎_map, cases_lt, Arena, Value, Win, Loss, Draw, HasMove, EachMove, Ends}
+use Rattle.egt_moves.specs.Prelude.{IsWon, IsLost, HasValue, Next, Successors, ZeroesLosingWithin, ZeroesWinningWithin}
+use Rattle.egt_moves.specs.Prelude.{HasZeroing, SameKind, Gives, FitsZeroing, JudgedOver, ZeroingJudgedOver}
 use Rattle.egt_moves.proofs.Bounds.{win_mates, loss_mated}
 use Rattle.egt_moves.proofs.Halves.{each_or_some_step, EachLike}
 use Rattle.egt_moves.proofs.Fitting.{shows_loss, shows_win, fitting_is_true, fitting_beside}

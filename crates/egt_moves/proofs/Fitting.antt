@@ -1,5 +1,5 @@
 -- Entries that fit their successors' are the values, and values fit.
-use Rattle.egt_moves.specs.Prelude.{◌≡◌, ◌≢◌, ℕ, zero, suc, ◌≤◌, ◌<◌, ◌⊎◌, inl, inr, refl, sym, subst, arith, ◌∙◌}
+use Rattle.std.proofs.Common.{◌≡◌, ◌≢◌, ℕ, zero, suc, ◌≤◌, ◌<◌, ◌⊎◌, inl, inr, refl, sym, subst, arith, ◌∙◌}
 use Rattle.egt_moves.specs.Prelude.{⊎_elim, cases_lt, Arena, Value, Win, Loss, Draw, HasMove, NoMove, SomeMove}
 use Rattle.egt_moves.specs.Prelude.{EachMove, IsStalemate, Ends, IsMatedWithin, MatesWithin, AvoidsMateFor}
 use Rattle.egt_moves.specs.Prelude.{CannotMateWithin, IsWon, HasValue, Successors, Fits, JudgedOver}

@@ -1,10 +1,10 @@
 -- The list of moves as it grows.
-use Rattle.egt_moves.specs.Prelude.{◌≡◌, ◌≢◌, ℕ, ◌+◌, ◌*◌, ◌<◌, ◌≤◌, ◌↔◌, ◌⊎◌, List, length, Bool, true, false, Option}
-use Rattle.egt_moves.specs.Prelude.{Some, None, arith, refl, sym, ap, ◌∙◌, inl, inr, subst, bit_at, Contains, cases_eq}
-use Rattle.egt_moves.specs.Prelude.{cases_lt, and_parts, Kind, Q, R, B, N, P, K, Man, SquareSet, Stands, Has, size_of}
-use Rattle.egt_moves.specs.Prelude.{IsInCheck, Setup, Move, Goes, is_pawn, promotes, FitsPromotion, IsLegal, men_after}
-use Rattle.egt_moves.specs.Prelude.{after, plain, IsSafeGoal, most_goals, most_choices, most_moves, place_of}
-use Rattle.egt_moves.specs.Prelude.{promotion_place, IsInOrder, one_man}
+use Rattle.std.proofs.Common.{◌≡◌, ◌≢◌, ℕ, ◌+◌, ◌*◌, ◌<◌, ◌≤◌, ◌↔◌, ◌⊎◌, List, length, Bool, true, false, Option, Some}
+use Rattle.std.proofs.Common.{None, arith, refl, sym, ap, ◌∙◌, inl, inr, subst}
+use Rattle.egt_moves.specs.Prelude.{bit_at, Contains, cases_eq, cases_lt, and_parts, Kind, Q, R, B, N, P, K, Man}
+use Rattle.egt_moves.specs.Prelude.{SquareSet, Stands, Has, size_of, IsInCheck, Setup, Move, Goes, is_pawn, promotes}
+use Rattle.egt_moves.specs.Prelude.{FitsPromotion, IsLegal, men_after, after, plain, IsSafeGoal, most_goals}
+use Rattle.egt_moves.specs.Prelude.{most_choices, most_moves, place_of, promotion_place, IsInOrder, one_man}
 use Rattle.egt_moves.proofs.After.{not_king_of, may_become, check_whatever}
 use Rattle.egt_moves.proofs.Admissible.{pawn_told}
 use Rattle.egt_board.proofs.Bits.{not_both}

@@ -1,5 +1,6 @@
 -- Positions that mirrors lead to, one after another, play alike.
-use Rattle.egt_moves.specs.Prelude.{ℕ, zero, suc, Mirror, Setup, AreMirrored, Reflects, chess, Alike, Chain}
+use Rattle.std.specs.Prelude.{ℕ, zero, suc}
+use Rattle.egt_moves.specs.Prelude.{Mirror, Setup, AreMirrored, Reflects, chess, Alike, Chain}
 use Rattle.egt_moves.proofs.Likeness.{alike_chain}
 use Rattle.egt_moves.proofs.MirroredMoves.{mirrored_alike}
 

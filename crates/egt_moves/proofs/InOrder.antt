@@ -1,6 +1,6 @@
 -- Lists of moves in order.
-use Rattle.egt_moves.specs.Prelude.{suc, ◌<◌, List, [], ◌∷◌, ◌++◌, arith, refl, subst, inl, inr, Contains}
-use Rattle.egt_moves.specs.Prelude.{Contains-push_cases, Move, place_of, IsInOrder}
+use Rattle.std.proofs.Common.{suc, ◌<◌, List, [], ◌∷◌, ◌++◌, arith, refl, subst, inl, inr}
+use Rattle.egt_moves.specs.Prelude.{Contains, Contains-push_cases, Move, place_of, IsInOrder}
 
 pub Contains-head : (m : Move) (ms : List Move) → Contains (m ∷ ms) m
 Contains-head m ms = (0, omega arith, refl)

@@ -1,6 +1,6 @@
 -- How likenesses of positions are made: of one another, of maps, and of changes that leave the steps as they are.
-use Rattle.egt_moves.specs.Prelude.{◌≡◌, ℕ, zero, suc, ◌⊎◌, inl, refl, sym, subst, ⊎_elim, Arena, HasLike, Alike, Chain}
-use Rattle.egt_moves.specs.Prelude.{IsMirror, KeepsSteps}
+use Rattle.std.proofs.Common.{◌≡◌, ℕ, zero, suc, ◌⊎◌, inl, refl, sym, subst}
+use Rattle.egt_moves.specs.Prelude.{⊎_elim, Arena, HasLike, Alike, Chain, IsMirror, KeepsSteps}
 
 module _ {S : Type 0} (a : Arena S) where
   -- a likeness read backwards

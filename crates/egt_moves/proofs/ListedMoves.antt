@@ -1,11 +1,12 @@
 -- The list of legal moves: what it holds, and that no other list in order holds the same.
-use Rattle.egt_moves.specs.Prelude.{◌≡◌, ℕ, zero, suc, ◌+◌, ◌*◌, ◌<◌, ◌↔◌, ◌⊎◌, Bool, true, false, cond, List, [], ◌∷◌}
-use Rattle.egt_moves.specs.Prelude.{◌++◌, length, map, Option, Some, None, slice_index_or, arith, refl, sym, ap, ◌∙◌}
-use Rattle.egt_moves.specs.Prelude.{subst, inl, inr, Contains, filter, cases_eq, false≢true, Contains-append_left}
-use Rattle.egt_moves.specs.Prelude.{Contains-append_right, Contains-append_cases, Kind, Q, R, B, N, P, K, Setup}
-use Rattle.egt_moves.specs.Prelude.{IsAdmissible, Decided, tells_so, tells_where, Move, decided_legal, goes_on_board}
-use Rattle.egt_moves.specs.Prelude.{leads_to_one, Leads, IsLegal, promotions, moves_between, moves_from, moves_below}
-use Rattle.egt_moves.specs.Prelude.{all_moves, is_legal, led_to, played, moves_of, place_of, promotion_place, IsInOrder}
+use Rattle.std.proofs.Common.{◌≡◌, ℕ, zero, suc, ◌+◌, ◌*◌, ◌<◌, ◌↔◌, ◌⊎◌, Bool, true, false, cond, List, [], ◌∷◌, ◌++◌}
+use Rattle.std.proofs.Common.{length, map, Option, Some, None, slice_index_or, arith, refl, sym, ap, ◌∙◌, subst, inl}
+use Rattle.std.proofs.Common.{inr}
+use Rattle.egt_moves.specs.Prelude.{Contains, filter, cases_eq, false≢true, Contains-append_left, Contains-append_right}
+use Rattle.egt_moves.specs.Prelude.{Contains-append_cases, Kind, Q, R, B, N, P, K, Setup, IsAdmissible, Decided}
+use Rattle.egt_moves.specs.Prelude.{tells_so, tells_where, Move, decided_legal, goes_on_board, leads_to_one, Leads}
+use Rattle.egt_moves.specs.Prelude.{IsLegal, promotions, moves_between, moves_from, moves_below, all_moves, is_legal}
+use Rattle.egt_moves.specs.Prelude.{led_to, played, moves_of, place_of, promotion_place, IsInOrder}
 use Rattle.egt_moves.proofs.Growing.{promotion_small}
 use Rattle.egt_moves.proofs.InOrder.{Contains-head, Contains-tail}
 

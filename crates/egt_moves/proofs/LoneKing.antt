@@ -1,8 +1,8 @@
 -- A king alone attacks no king.
-use Rattle.egt_moves.specs.Prelude.{◌≡◌, ◌≢◌, ℕ, ◌<◌, sym, ap, ◌∙◌, subst, Side, Man, other_side, king_of, IsOccupancy}
-use Rattle.egt_moves.specs.Prelude.{Reaches, Placement, Stands, IsFree, one_man, get-insert_same, get-insert_other}
-use Rattle.egt_moves.specs.Prelude.{get-remove_same, get-remove_other, IsKeptFrom, Setup, IsAdmissible, IsKingOn, Has}
-use Rattle.egt_moves.specs.Prelude.{Occupancy, sides_differ, side_twice}
+use Rattle.std.proofs.Common.{◌≡◌, ◌≢◌, ℕ, ◌<◌, sym, ap, ◌∙◌, subst}
+use Rattle.egt_moves.specs.Prelude.{Side, Man, other_side, king_of, IsOccupancy, Reaches, Placement, Stands, IsFree}
+use Rattle.egt_moves.specs.Prelude.{one_man, get-insert_same, get-insert_other, get-remove_same, get-remove_other}
+use Rattle.egt_moves.specs.Prelude.{IsKeptFrom, Setup, IsAdmissible, IsKingOn, Has, Occupancy, sides_differ, side_twice}
 use Rattle.std.specs.FinMap as map
 use Rattle.egt_moves.proofs.After.{not_free}
 

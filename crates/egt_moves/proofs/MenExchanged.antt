@@ -1,11 +1,11 @@
 -- What a legal move does to the counts of men.
-use Rattle.egt_moves.specs.Prelude.{◌≡◌, ◌≢◌, ℕ, ◌+◌, ◌<◌, ◌&&◌, ◌==◌, Option, Some, None, IfSome, IsSome, true, false}
-use Rattle.egt_moves.specs.Prelude.{Bool, refl, sym, ap, ◌∙◌, inl, inr, subst, if◌then◌else◌, arith, is_some, eqb-true}
-use Rattle.egt_moves.specs.Prelude.{eq-eqb, and_parts, false≢true, Side, White, Black, Kind, P, K, Man, other_side}
-use Rattle.egt_moves.specs.Prelude.{rank_of, Placement, Stands, get-remove_other, ahead, pawn_of, last_rank, IsTarget}
-use Rattle.egt_moves.specs.Prelude.{target_rank, king_of, Setup, IsAdmissible, count_of, stands_here, sides_differ}
-use Rattle.egt_moves.specs.Prelude.{side_twice, Move, Captures, Exchanges, is_pawn, promotes, IsOfficer, FitsPromotion}
-use Rattle.egt_moves.specs.Prelude.{arriving, is_target, takes_in_passing, men_left, Leads}
+use Rattle.std.proofs.Common.{◌≡◌, ◌≢◌, ℕ, ◌+◌, ◌<◌, ◌&&◌, ◌==◌, Option, Some, None, IfSome, true, false, Bool, refl}
+use Rattle.std.proofs.Common.{sym, ap, ◌∙◌, inl, inr, subst, if◌then◌else◌, arith}
+use Rattle.egt_moves.specs.Prelude.{IsSome, is_some, eqb-true, eq-eqb, and_parts, false≢true, Side, White, Black, Kind}
+use Rattle.egt_moves.specs.Prelude.{P, K, Man, other_side, rank_of, Placement, Stands, get-remove_other, ahead, pawn_of}
+use Rattle.egt_moves.specs.Prelude.{last_rank, IsTarget, target_rank, king_of, Setup, IsAdmissible, count_of}
+use Rattle.egt_moves.specs.Prelude.{stands_here, sides_differ, side_twice, Move, Captures, Exchanges, is_pawn, promotes}
+use Rattle.egt_moves.specs.Prelude.{IsOfficer, FitsPromotion, arriving, is_target, takes_in_passing, men_left, Leads}
 use Rattle.std.specs.FinMap as map
 use Rattle.egt_moves.proofs.After.{one_man, not_free, target_is, goes_on_board, goes_not_own, goes_to_attacked}
 use Rattle.egt_moves.proofs.Admissible.{pawn_told}

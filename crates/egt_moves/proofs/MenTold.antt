@@ -1,10 +1,11 @@
 -- The men after a move, told by those before.
-use Rattle.egt_moves.specs.Prelude.{◌≡◌, ◌≢◌, ℕ, ◌⊎◌, ◌&&◌, Option, Some, None, true, false, Bool, refl, sym, ap, ◌∙◌}
-use Rattle.egt_moves.specs.Prelude.{inl, inr, subst, if◌then◌else◌, ◌==◌, eqb_tells, Side, White, Black, Kind, K, Man}
-use Rattle.egt_moves.specs.Prelude.{HasAllMen, AreApart, king_of, IsInCheck, StandsBeside, other_side, ahead, last_rank}
-use Rattle.egt_moves.specs.Prelude.{rank_of, Placement, Stands, one_man, Setup, IsAdmissible, IsKingOn, Move}
-use Rattle.egt_moves.specs.Prelude.{entry_after, square_after, Leads, after, is_target, men_left, men_after, is_pawn}
-use Rattle.egt_moves.specs.Prelude.{promotes, FitsPromotion, IsOfficer, arriving}
+use Rattle.std.proofs.Common.{◌≡◌, ◌≢◌, ℕ, ◌⊎◌, ◌&&◌, Option, Some, None, true, false, Bool, refl, sym, ap, ◌∙◌, inl}
+use Rattle.std.proofs.Common.{inr, subst, if◌then◌else◌, ◌==◌}
+use Rattle.egt_moves.specs.Prelude.{eqb_tells, Side, White, Black, Kind, K, Man, HasAllMen, AreApart, king_of}
+use Rattle.egt_moves.specs.Prelude.{IsInCheck, StandsBeside, other_side, ahead, last_rank, rank_of, Placement, Stands}
+use Rattle.egt_moves.specs.Prelude.{one_man, Setup, IsAdmissible, IsKingOn, Move, entry_after, square_after, Leads}
+use Rattle.egt_moves.specs.Prelude.{after, is_target, men_left, men_after, is_pawn, promotes, FitsPromotion, IsOfficer}
+use Rattle.egt_moves.specs.Prelude.{arriving}
 use Rattle.std.specs.FinMap as map
 use Rattle.egt_moves.proofs.Admissible.{admissible_after}
 use Rattle.egt_moves.proofs.After.{after_to, after_other, after_cases, MayBecome, may_become, not_king_of}

@@ -1,13 +1,13 @@
 -- In a mirror each legal move has its like.
-use Rattle.egt_moves.specs.Prelude.{◌≡◌, ◌≢◌, ℕ, ◌+◌, ◌/◌, ◌==◌, ◌<◌, ◌⊎◌, ◌&&◌, ◌||◌, Bool, true, false, if◌then◌else◌}
-use Rattle.egt_moves.specs.Prelude.{Option, Some, None, arith, refl, sym, ap, ◌∙◌, subst, inl, inr, option_map}
-use Rattle.egt_moves.specs.Prelude.{cases_eq, false≢true, and_parts, eqb_tells, Mirror, Files, Ranks, Diagonal, Colours}
-use Rattle.egt_moves.specs.Prelude.{Side, White, Black, Kind, Q, R, B, N, P, K, Man, other_side, rank_of, Placement}
-use Rattle.egt_moves.specs.Prelude.{Stands, IsFree, IsHeld, get-remove_same, get-remove_other, ahead, last_rank}
-use Rattle.egt_moves.specs.Prelude.{HasNoPawn, king_of, IsAttacked, IsInCheck, Setup, IsAdmissible, square_by, side_by}
-use Rattle.egt_moves.specs.Prelude.{man_by, IsMirrored, Allows, Move, chess, Zeroes, Goes, is_pawn, promotes}
-use Rattle.egt_moves.specs.Prelude.{FitsPromotion, arriving, Leads, is_target, takes_in_passing, men_left, men_after}
-use Rattle.egt_moves.specs.Prelude.{is_two_ranks, passed, after, Alike, HasLike, AreMirrored, IsCheckmate}
+use Rattle.std.proofs.Common.{◌≡◌, ◌≢◌, ℕ, ◌+◌, ◌/◌, ◌==◌, ◌<◌, ◌⊎◌, ◌&&◌, ◌||◌, Bool, true, false, if◌then◌else◌}
+use Rattle.std.proofs.Common.{Option, Some, None, arith, refl, sym, ap, ◌∙◌, subst, inl, inr}
+use Rattle.egt_moves.specs.Prelude.{option_map, cases_eq, false≢true, and_parts, eqb_tells, Mirror, Files, Ranks}
+use Rattle.egt_moves.specs.Prelude.{Diagonal, Colours, Side, White, Black, Kind, Q, R, B, N, P, K, Man, other_side}
+use Rattle.egt_moves.specs.Prelude.{rank_of, Placement, Stands, IsFree, IsHeld, get-remove_same, get-remove_other}
+use Rattle.egt_moves.specs.Prelude.{ahead, last_rank, HasNoPawn, king_of, IsAttacked, IsInCheck, Setup, IsAdmissible}
+use Rattle.egt_moves.specs.Prelude.{square_by, side_by, man_by, IsMirrored, Allows, Move, chess, Zeroes, Goes, is_pawn}
+use Rattle.egt_moves.specs.Prelude.{promotes, FitsPromotion, arriving, Leads, is_target, takes_in_passing, men_left}
+use Rattle.egt_moves.specs.Prelude.{men_after, is_two_ranks, passed, after, Alike, HasLike, AreMirrored, IsCheckmate}
 use Rattle.egt_moves.specs.Prelude.{goes_on_board}
 use Rattle.std.specs.FinMap as map
 use Rattle.egt_board.specs.MirrorLaws as mirrors

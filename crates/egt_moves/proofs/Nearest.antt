@@ -1,9 +1,9 @@
 -- The nearest checkmate by legal steps of both sides: a least number, that entries which fit show, and that positions which play alike share.
-use Rattle.egt_moves.specs.Prelude.{◌≡◌, ℕ, zero, suc, ◌≤◌, ◌<◌, ◌⊎◌, inl, inr, refl, sym, subst, ap, arith, ◌∙◌}
-use Rattle.egt_moves.specs.Prelude.{Option, Some, None, ⊎_elim, ⊎_swap, cases_lt, Arena, SomeMove, EachMove}
-use Rattle.egt_moves.specs.Prelude.{IsStalemate, IsMatedWithin, MatesWithin, IsDraw, Successors, Alike}
-use Rattle.egt_moves.specs.Prelude.{ReachesMateWithin, ReachesNoMateBefore, IsDead, HasReach, FitsReach}
-use Rattle.egt_moves.specs.Prelude.{ReachJudgedOver}
+use Rattle.std.proofs.Common.{◌≡◌, ℕ, zero, suc, ◌≤◌, ◌<◌, ◌⊎◌, inl, inr, refl, sym, subst, ap, arith, ◌∙◌, Option}
+use Rattle.std.proofs.Common.{Some, None}
+use Rattle.egt_moves.specs.Prelude.{⊎_elim, ⊎_swap, cases_lt, Arena, SomeMove, EachMove, IsStalemate, IsMatedWithin}
+use Rattle.egt_moves.specs.Prelude.{MatesWithin, IsDraw, Successors, Alike, ReachesMateWithin, ReachesNoMateBefore}
+use Rattle.egt_moves.specs.Prelude.{IsDead, HasReach, FitsReach, ReachJudgedOver}
 use Rattle.egt_moves.proofs.Halves.{each_or_some_move, mated_or_avoids, mates_or_cannot}
 
 module _ {S : Type 0} (a : Arena S) where

@@ -1,8 +1,9 @@
 -- The legal moves are among finitely many: those of the men that stand on the board, to each of its squares.
-use Rattle.egt_moves.specs.Prelude.{◌≡◌, ℕ, zero, suc, ◌<◌, inl, inr, List, [], ◌∷◌, Option, Some, None, refl, sym}
-use Rattle.egt_moves.specs.Prelude.{subst, arith, Any, IsSomeAnd, ⊎_elim, cases_eq, Kind, Q, R, B, N, P, K, any_here}
-use Rattle.egt_moves.specs.Prelude.{any_there, any_cons, Decided, squares_of, on_square, Setup, Move, Next, SameStep}
-use Rattle.egt_moves.specs.Prelude.{Successors, chess, goes_on_board, leads_to_one, decided_legal, decided_zeroes}
+use Rattle.std.proofs.Common.{◌≡◌, ℕ, zero, suc, ◌<◌, inl, inr, List, [], ◌∷◌, Option, Some, None, refl, sym, subst}
+use Rattle.std.proofs.Common.{arith}
+use Rattle.egt_moves.specs.Prelude.{Any, IsSomeAnd, ⊎_elim, cases_eq, Kind, Q, R, B, N, P, K, any_here, any_there}
+use Rattle.egt_moves.specs.Prelude.{any_cons, Decided, squares_of, on_square, Setup, Move, Next, SameStep, Successors}
+use Rattle.egt_moves.specs.Prelude.{chess, goes_on_board, leads_to_one, decided_legal, decided_zeroes}
 use Rattle.egt_moves.specs.Prelude.{decided_checkmate, Leads, IsLegal}
 use Rattle.egt_moves.proofs.Deciding.{successors_among}
 use Rattle.egt_moves.proofs.After.{MayBecome, may_become}

@@ -1,10 +1,10 @@
 -- The squares to which legal moves go.
-use Rattle.egt_moves.specs.Prelude.{◌≡◌, ◌≢◌, ◌↔◌, ℕ, ◌-◌, ◌<◌, ◌≤◌, Bool, true, false, cond, ◌&&◌, min, arith, Option}
-use Rattle.egt_moves.specs.Prelude.{Some, None, refl, sym, ap, ◌∙◌, subst, inl, inr, bit_at, eqb_tells, Side, Kind, Q}
-use Rattle.egt_moves.specs.Prelude.{R, B, N, P, K, Man, other_side, Placement, Stands, ahead, IsAttacked, IsInCheck}
-use Rattle.egt_moves.specs.Prelude.{IsKeptFrom, Setup, IsAdmissible, IsKingOn, size_of, sides_differ, Move, Goes}
-use Rattle.egt_moves.specs.Prelude.{is_pawn, promotes, FitsPromotion, men_after, plain, is_target, takes_in_passing}
-use Rattle.egt_moves.specs.Prelude.{IsLegalTarget, IsSafeGoal, king_square}
+use Rattle.std.proofs.Common.{◌≡◌, ◌≢◌, ◌↔◌, ℕ, ◌-◌, ◌<◌, ◌≤◌, Bool, true, false, cond, ◌&&◌, min, arith, Option, Some}
+use Rattle.std.proofs.Common.{None, refl, sym, ap, ◌∙◌, subst, inl, inr}
+use Rattle.egt_moves.specs.Prelude.{bit_at, eqb_tells, Side, Kind, Q, R, B, N, P, K, Man, other_side, Placement, Stands}
+use Rattle.egt_moves.specs.Prelude.{ahead, IsAttacked, IsInCheck, IsKeptFrom, Setup, IsAdmissible, IsKingOn, size_of}
+use Rattle.egt_moves.specs.Prelude.{sides_differ, Move, Goes, is_pawn, promotes, FitsPromotion, men_after, plain}
+use Rattle.egt_moves.specs.Prelude.{is_target, takes_in_passing, IsLegalTarget, IsSafeGoal, king_square}
 use Rattle.std.specs.FinMap as map
 use Rattle.egt_moves.proofs.After.{goes_on_board, king_moves, king_stays}
 use Rattle.egt_moves.proofs.Growing.{legal_of, goes_of, fits_of, safe_of, same_safety}

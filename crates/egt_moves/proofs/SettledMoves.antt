@@ -1,11 +1,11 @@
 -- A target that no pawn stands ready to take changes no move.
-use Rattle.egt_moves.specs.Prelude.{◌≡◌, ◌≢◌, ℕ, ◌≤◌, ◌==◌, ◌⊎◌, ◌↔◌, Bool, true, false, if◌then◌else◌, Option, Some}
-use Rattle.egt_moves.specs.Prelude.{None, IfSome, arith, sym, ap, ◌∙◌, subst, inl, inr, cases_eq, Side, White, Black, P}
-use Rattle.egt_moves.specs.Prelude.{Man, other_side, rank_of, Stands, IsFree, Rides, OneOf, pawn_steps, pawn_of, ahead}
-use Rattle.egt_moves.specs.Prelude.{home_rank, farthest_advance, Advances, IsBeside, HasPawnBeside, IsTarget}
-use Rattle.egt_moves.specs.Prelude.{target_rank, Setup, IsAdmissible, IsSettled, untargeted, SettlesTo, Move, chess}
-use Rattle.egt_moves.specs.Prelude.{Zeroes, Goes, arriving, Leads, men_left, passed, after, Alike, KeepsSteps}
-use Rattle.egt_moves.specs.Prelude.{IsCheckmate, one_man, sides_differ}
+use Rattle.std.proofs.Common.{◌≡◌, ◌≢◌, ℕ, ◌≤◌, ◌==◌, ◌⊎◌, ◌↔◌, Bool, true, false, if◌then◌else◌, Option, Some, None}
+use Rattle.std.proofs.Common.{IfSome, arith, sym, ap, ◌∙◌, subst, inl, inr}
+use Rattle.egt_moves.specs.Prelude.{cases_eq, Side, White, Black, P, Man, other_side, rank_of, Stands, IsFree, Rides}
+use Rattle.egt_moves.specs.Prelude.{OneOf, pawn_steps, pawn_of, ahead, home_rank, farthest_advance, Advances, IsBeside}
+use Rattle.egt_moves.specs.Prelude.{HasPawnBeside, IsTarget, target_rank, Setup, IsAdmissible, IsSettled, untargeted}
+use Rattle.egt_moves.specs.Prelude.{SettlesTo, Move, chess, Zeroes, Goes, arriving, Leads, men_left, passed, after}
+use Rattle.egt_moves.specs.Prelude.{Alike, KeepsSteps, IsCheckmate, one_man, sides_differ}
 use Rattle.std.specs.FinMap as map
 use Rattle.egt_moves.proofs.After.{Passing, target_is, left_cases}
 use Rattle.egt_moves.proofs.Admissible.{Forward, advances_forward, from_home, pawn_reaches}

@@ -1,6 +1,6 @@
 -- The search for a legal move.
-use Rattle.egt_moves.specs.Prelude.{◌≡◌, ◌≢◌, ◌↔◌, ℕ, ◌∙◌, subst, inl, inr, arith, bit_at, cases_eq, IsHeld, Setup}
-use Rattle.egt_moves.specs.Prelude.{Move, IsLegal, IsLegalTarget, IsStuck, CanMove}
+use Rattle.std.proofs.Common.{◌≡◌, ◌≢◌, ◌↔◌, ℕ, ◌∙◌, subst, inl, inr, arith}
+use Rattle.egt_moves.specs.Prelude.{bit_at, cases_eq, IsHeld, Setup, Move, IsLegal, IsLegalTarget, IsStuck, CanMove}
 
 -- legal moves leave squares of the set alone
 abbrev pub LeavesSet : Setup → ℕ → Type 0

@@ -1,8 +1,8 @@
 -- Trying the legal moves one after the other.
-use Rattle.egt_moves.specs.Prelude.{◌≡◌, ℕ, suc, ◌+◌, ◌-◌, ◌<◌, ◌≤◌, ◌↔◌, inl, inr, List, get_or, length, sym, subst}
-use Rattle.egt_moves.specs.Prelude.{arith, ◌∙◌, Contains, cases_lt, get_or_default, Setup, Move, HasMove, EachMove}
-use Rattle.egt_moves.specs.Prelude.{IsMatedWithin, MatesWithin, AvoidsMateFor, CannotMateWithin, chess, Leads, IsLegal}
-use Rattle.egt_moves.specs.Prelude.{leads_to_one}
+use Rattle.std.proofs.Common.{◌≡◌, ℕ, suc, ◌+◌, ◌-◌, ◌<◌, ◌≤◌, ◌↔◌, inl, inr, List, get_or, length, sym, subst, arith}
+use Rattle.std.proofs.Common.{◌∙◌}
+use Rattle.egt_moves.specs.Prelude.{Contains, cases_lt, get_or_default, Setup, Move, HasMove, EachMove, IsMatedWithin}
+use Rattle.egt_moves.specs.Prelude.{MatesWithin, AvoidsMateFor, CannotMateWithin, chess, Leads, IsLegal, leads_to_one}
 use Rattle.egt_moves.specs.Standing.{IsCheckmate, IsStalemate, CanMove}
 use Rattle.egt_moves.proofs.Searching.{stalemate_avoids}
 

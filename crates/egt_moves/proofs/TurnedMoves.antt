@@ -1,6 +1,6 @@
 -- Each move of a position has its like in the turned position.
-use Rattle.egt_moves.specs.Prelude.{ℕ, ◌↔◌, ◌/◌, ◌%◌, ◌==◌, Bool, true, false, refl, sym, subst, inl, inr, Mirror}
-use Rattle.egt_moves.specs.Prelude.{Files, Ranks, Diagonal, Colours, IsInCheck, HasNoPawn, Setup, IsAdmissible}
+use Rattle.std.proofs.Common.{ℕ, ◌↔◌, ◌/◌, ◌%◌, ◌==◌, Bool, true, false, refl, sym, subst, inl, inr}
+use Rattle.egt_moves.specs.Prelude.{Mirror, Files, Ranks, Diagonal, Colours, IsInCheck, HasNoPawn, Setup, IsAdmissible}
 use Rattle.egt_moves.specs.Prelude.{AreMirroredIf, ComesByMirrors, square_if, KeepsPlay, Move, Zeroes, Leads}
 use Rattle.egt_moves.specs.Prelude.{turned_move, goes_on_board}
 use Rattle.egt_moves.proofs.Admissible.{admissible_after}

@@ -1,7 +1,8 @@
 -- The list of moves over all men of the side to move.
-use Rattle.egt_moves.specs.Prelude.{◌≡◌, ◌≢◌, ℕ, ◌+◌, ◌*◌, ◌<◌, ◌≤◌, ◌↔◌, ◌⊎◌, List, length, arith, sym, ap, ◌∙◌, inl}
-use Rattle.egt_moves.specs.Prelude.{inr, subst, bit_at, Contains, cases_eq, cases_lt, Man, SquareSet, Stands, IsHeld}
-use Rattle.egt_moves.specs.Prelude.{Has, size_of, Setup, IsAdmissible, Move, IsLegal, most_moves, HasRoom, room_for_man}
+use Rattle.std.proofs.Common.{◌≡◌, ◌≢◌, ℕ, ◌+◌, ◌*◌, ◌<◌, ◌≤◌, ◌↔◌, ◌⊎◌, List, length, arith, sym, ap, ◌∙◌, inl, inr}
+use Rattle.std.proofs.Common.{subst}
+use Rattle.egt_moves.specs.Prelude.{bit_at, Contains, cases_eq, cases_lt, Man, SquareSet, Stands, IsHeld, Has, size_of}
+use Rattle.egt_moves.specs.Prelude.{Setup, IsAdmissible, Move, IsLegal, most_moves, HasRoom, room_for_man}
 use Rattle.egt_moves.specs.Prelude.{room_for_others, place_of, IsInOrder, goes_on_board}
 use Rattle.egt_moves.proofs.Growing.{promotion_small}
 use Rattle.egt_board.proofs.Bits.{not_both}

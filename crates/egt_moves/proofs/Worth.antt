@@ -1,8 +1,8 @@
 -- Positions that play alike are worth the same, and have the same fitting entries.
-use Rattle.egt_moves.specs.Prelude.{ℕ, zero, suc, ◌⊎◌, inl, inr, ⊎_map, Arena, Value, Win, Loss, Draw, HasMove, NoMove}
-use Rattle.egt_moves.specs.Prelude.{SomeMove, IsMatedWithin, MatesWithin, AvoidsMateFor, CannotMateWithin, IsWon}
-use Rattle.egt_moves.specs.Prelude.{IsLost, IsDraw, HasValue, ZeroesLosingWithin, ZeroesWinningWithin, HasZeroing}
-use Rattle.egt_moves.specs.Prelude.{Alike}
+use Rattle.std.proofs.Common.{ℕ, zero, suc, ◌⊎◌, inl, inr}
+use Rattle.egt_moves.specs.Prelude.{⊎_map, Arena, Value, Win, Loss, Draw, HasMove, NoMove, SomeMove, IsMatedWithin}
+use Rattle.egt_moves.specs.Prelude.{MatesWithin, AvoidsMateFor, CannotMateWithin, IsWon, IsLost, IsDraw, HasValue}
+use Rattle.egt_moves.specs.Prelude.{ZeroesLosingWithin, ZeroesWinningWithin, HasZeroing, Alike}
 use Rattle.egt_moves.proofs.Likeness.{alike_backwards}
 
 module _ {S : Type 0} (a : Arena S) (R : S → S → Type 0) (like : Alike a R) where

@@ -67,10 +67,6 @@ pub use Rattle.egt_moves.specs.Text.{kind_letter, square_text, text_of}
 pub use Rattle.egt_moves.specs.Turned.{turned_move}
 pub use Rattle.egt_moves.specs.Zeroing.{HasZeroing, ZeroesLosingWithin, ZeroesWinningWithin}
 pub use Rattle.egt_moves.specs.declared.chess_move.Move.{Move}
-pub use Rattle.std.proofs.Common.{Bool, IfSome, List, None, Option, Some, [], ap, arith, cond, false, get_or}
-pub use Rattle.std.proofs.Common.{if◌then◌else◌, inl, inr, length, map, min, refl, rules, slice_index_or, subst, suc}
-pub use Rattle.std.proofs.Common.{sym, true, zero, ℕ, ◌%◌, ◌&&◌, ◌*◌, ◌++◌, ◌+◌, ◌-◌, ◌/◌, ◌<◌, ◌==◌, ◌||◌, ◌↔◌, ◌∙◌}
-pub use Rattle.std.proofs.Common.{◌∷◌, ◌≡◌, ◌≢◌, ◌≤◌, ◌⊎◌}
 pub use Rattle.std.proofs.Math.Logic.{⊎_elim, ⊎_map, ⊎_swap}
 pub use Rattle.std.proofs.lemmas.Bool.{and_parts, cases_eq, cases_lt, eq-eqb, eqb-true, false≢true}
 pub use Rattle.std.proofs.lemmas.Bool.Decides.{eqb_tells}
@@ -82,4 +78,3 @@ pub use Rattle.std.specs.Cmp.{nat_cmp_total}
 pub use Rattle.std.specs.Int.{bit_at}
 pub use Rattle.std.specs.List.{AllByRecursion, Any, Contains, cons_option, filter, filter_map}
 pub use Rattle.std.specs.Option.{IsSome, IsSomeAnd, is_some, option_map}
-pub use Rattle.std.specs.Prelude.{IfNone, IsTrue, MatchBool}

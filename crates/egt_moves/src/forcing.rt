@@ -1,6 +1,7 @@
 //! Whether checkmate is forced within some number of plies, by plain play.
-ghost use Rattle.egt_moves.specs.Prelude.{◌≤◌, MatchBool, IsMatedWithin, MatesWithin, AvoidsMateFor, CannotMateWithin};
-ghost use Rattle.egt_moves.specs.Prelude.{chess, IsLegal, Leads};
+ghost use Rattle.std.specs.Prelude.{◌≤◌, MatchBool};
+ghost use Rattle.egt_moves.specs.Prelude.{IsMatedWithin, MatesWithin, AvoidsMateFor, CannotMateWithin, chess, IsLegal};
+ghost use Rattle.egt_moves.specs.Prelude.{Leads};
 
 use crate::listing::legal_moves;
 use crate::outcome::Standing;

@@ -1,7 +1,8 @@
 //! Where a man may go, and the board after it has gone there.
-ghost use Rattle.egt_moves.specs.Prelude.{◌≡◌, ℕ, ◌≤◌, ◌↔◌, ◌⊎◌, IsTrue, Some, IsInCheck, IsOccupancy, Stands, IsHeld};
-ghost use Rattle.egt_moves.specs.Prelude.{IsAdmissible, IsKingOn, Has, size_of, other_side, P, Goes, PieceGoes};
-ghost use Rattle.egt_moves.specs.Prelude.{PawnTakes, men_after, men_left, takes_in_passing, passed, plain, most_goals};
+ghost use Rattle.std.specs.Prelude.{◌≡◌, ℕ, ◌≤◌, ◌↔◌, ◌⊎◌, IsTrue, Some};
+ghost use Rattle.egt_moves.specs.Prelude.{IsInCheck, IsOccupancy, Stands, IsHeld, IsAdmissible, IsKingOn, Has, size_of};
+ghost use Rattle.egt_moves.specs.Prelude.{other_side, P, Goes, PieceGoes, PawnTakes, men_after, men_left};
+ghost use Rattle.egt_moves.specs.Prelude.{takes_in_passing, passed, plain, most_goals};
 
 use crate::chess_move::Move;
 use crate::promotion::arriving;

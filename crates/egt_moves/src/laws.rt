@@ -1,13 +1,13 @@
 //! What holds of the rules of play alone. These functions do nothing: a caller calls one to know what it
 //! ensures.
 
-ghost use Rattle.egt_moves.specs.Prelude.{◌≡◌, ◌↔◌, ◌⊎◌, ℕ, suc, ◌<◌, ◌≤◌, Bool, IsTrue, Option, Contains, AreImages};
-ghost use Rattle.egt_moves.specs.Prelude.{SettlesTo, Setup, IsAdmissible, Mirror, KeepsPlay, IsTurnedBy, Move, Value};
-ghost use Rattle.egt_moves.specs.Prelude.{Win, Loss, SomeMove, EachMove, HasValue, IsMatedWithin, MatesWithin};
-ghost use Rattle.egt_moves.specs.Prelude.{AvoidsMateFor, CannotMateWithin, AnswersWithin, chess, Zeroes, Leads};
-ghost use Rattle.egt_moves.specs.Prelude.{IsLegal, moves_of, played, IsInOrder, IsCheckmate, turned_move, JudgedOver};
-ghost use Rattle.egt_moves.specs.Prelude.{ZeroingJudgedOver, IsMirror, AreMirrored, HasZeroing, ZeroesLosingWithin};
-ghost use Rattle.egt_moves.specs.Prelude.{ZeroesWinningWithin};
+ghost use Rattle.std.specs.Prelude.{◌≡◌, ◌↔◌, ◌⊎◌, ℕ, suc, ◌<◌, ◌≤◌, Bool, IsTrue, Option};
+ghost use Rattle.egt_moves.specs.Prelude.{Contains, AreImages, SettlesTo, Setup, IsAdmissible, Mirror, KeepsPlay};
+ghost use Rattle.egt_moves.specs.Prelude.{IsTurnedBy, Move, Value, Win, Loss, SomeMove, EachMove, HasValue};
+ghost use Rattle.egt_moves.specs.Prelude.{IsMatedWithin, MatesWithin, AvoidsMateFor, CannotMateWithin, AnswersWithin};
+ghost use Rattle.egt_moves.specs.Prelude.{chess, Zeroes, Leads, IsLegal, moves_of, played, IsInOrder, IsCheckmate};
+ghost use Rattle.egt_moves.specs.Prelude.{turned_move, JudgedOver, ZeroingJudgedOver, IsMirror, AreMirrored};
+ghost use Rattle.egt_moves.specs.Prelude.{HasZeroing, ZeroesLosingWithin, ZeroesWinningWithin};
 
 use egt_board::laws::{images_are_turns, images_come_by_mirrors, turns_come_by_mirrors};
 

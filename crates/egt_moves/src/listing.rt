@@ -1,7 +1,7 @@
 //! The list of legal moves.
-ghost use Rattle.egt_moves.specs.Prelude.{◌≡◌, ◌+◌, ◌*◌, ◌<◌, ◌≤◌, ◌↔◌, ◌⊎◌, Contains, array_vec_len, IsOccupancy};
-ghost use Rattle.egt_moves.specs.Prelude.{Stands, IsLegal, moves_of, IsInOrder, place_of, FitsPromotion, promotes};
-ghost use Rattle.egt_moves.specs.Prelude.{most_choices, most_moves, Move};
+ghost use Rattle.std.specs.Prelude.{◌≡◌, ◌+◌, ◌*◌, ◌<◌, ◌≤◌, ◌↔◌, ◌⊎◌};
+ghost use Rattle.egt_moves.specs.Prelude.{Contains, array_vec_len, IsOccupancy, Stands, IsLegal, moves_of, IsInOrder};
+ghost use Rattle.egt_moves.specs.Prelude.{place_of, FitsPromotion, promotes, most_choices, most_moves, Move};
 
 use crate::chess_move::Move;
 use crate::promotion::{OFFICERS, promotes};

@@ -1,5 +1,6 @@
 //! The search for mate.
-ghost use Rattle.egt_moves.specs.Prelude.{◌≤◌, AnswersWithin, chess, found};
+ghost use Rattle.std.specs.Prelude.{◌≤◌};
+ghost use Rattle.egt_moves.specs.Prelude.{AnswersWithin, chess, found};
 
 use crate::forcing::{is_mated_within, mates_within};
 use crate::found::Search;

@@ -1,6 +1,7 @@
 //! All men of a position, and where they stand after a move, with no board.
-ghost use Rattle.egt_moves.specs.Prelude.{◌≡◌, ◌≢◌, true, Some, None, Setup, IsAdmissible, AreMenOf, entry_after};
-ghost use Rattle.egt_moves.specs.Prelude.{square_after, Leads, is_two_ranks, Move};
+ghost use Rattle.std.specs.Prelude.{◌≡◌, ◌≢◌, true, Some, None};
+ghost use Rattle.egt_moves.specs.Prelude.{Setup, IsAdmissible, AreMenOf, entry_after, square_after, Leads};
+ghost use Rattle.egt_moves.specs.Prelude.{is_two_ranks, Move};
 
 use crate::chess_move::Move;
 use crate::promotion::arriving;

@@ -1,6 +1,7 @@
 //! What a move leads to.
-ghost use Rattle.egt_moves.specs.Prelude.{◌≡◌, IfSome, IfNone, IsInCheck, Stands, Setup, IsAdmissible, IsKingOn, Goes};
-ghost use Rattle.egt_moves.specs.Prelude.{Leads, IsLegal, men_after, after, FitsPromotion, promotes};
+ghost use Rattle.std.specs.Prelude.{◌≡◌, IfSome, IfNone};
+ghost use Rattle.egt_moves.specs.Prelude.{IsInCheck, Stands, Setup, IsAdmissible, IsKingOn, Goes, Leads, IsLegal};
+ghost use Rattle.egt_moves.specs.Prelude.{men_after, after, FitsPromotion, promotes};
 
 use crate::chess_move::Move;
 use crate::going::{moved, passed};

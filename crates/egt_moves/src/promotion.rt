@@ -1,5 +1,6 @@
 //! What becomes of a pawn on the last rank.
-ghost use Rattle.egt_moves.specs.Prelude.{◌≡◌, ◌↔◌, IsTrue, promotes, FitsPromotion, arriving, IsOfficer};
+ghost use Rattle.std.specs.Prelude.{◌≡◌, ◌↔◌, IsTrue};
+ghost use Rattle.egt_moves.specs.Prelude.{promotes, FitsPromotion, arriving, IsOfficer};
 
 use egt_board::{Kind, Man, Square};
 

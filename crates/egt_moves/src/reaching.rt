@@ -1,8 +1,8 @@
 //! What holds of the nearest checkmate by legal moves of both sides, and of dead positions (FIDE Laws of Chess 2023, article 5.2.2). These
 //! functions do nothing: a caller calls one to know what it ensures.
-ghost use Rattle.egt_moves.specs.Prelude.{◌≡◌, ◌↔◌, ◌⊎◌, ℕ, ◌≤◌, Bool, IsTrue, Option, AreImages, SettlesTo, Setup};
-ghost use Rattle.egt_moves.specs.Prelude.{IsAdmissible, Draw, HasValue, IsStalemate, chess, ReachesMateWithin, IsDead};
-ghost use Rattle.egt_moves.specs.Prelude.{HasReach, ReachJudgedOver};
+ghost use Rattle.std.specs.Prelude.{◌≡◌, ◌↔◌, ◌⊎◌, ℕ, ◌≤◌, Bool, IsTrue, Option};
+ghost use Rattle.egt_moves.specs.Prelude.{AreImages, SettlesTo, Setup, IsAdmissible, Draw, HasValue, IsStalemate};
+ghost use Rattle.egt_moves.specs.Prelude.{chess, ReachesMateWithin, IsDead, HasReach, ReachJudgedOver};
 
 use egt_board::laws::images_come_by_mirrors;
 

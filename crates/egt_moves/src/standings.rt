@@ -1,5 +1,6 @@
 //! Checkmate and stalemate.
-ghost use Rattle.egt_moves.specs.Prelude.{MatchBool, StandsAs, CanMove, IsStuck};
+ghost use Rattle.std.specs.Prelude.{MatchBool};
+ghost use Rattle.egt_moves.specs.Prelude.{StandsAs, CanMove, IsStuck};
 
 use crate::outcome::Standing;
 use crate::targets::legal_targets;

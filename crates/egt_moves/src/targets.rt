@@ -1,8 +1,8 @@
 //! The squares to which legal moves go: FIDE Laws of Chess 2023, articles 3.1 to 3.9.
-ghost use Rattle.egt_moves.specs.Prelude.{◌≡◌, ◌≢◌, ℕ, ◌<◌, ◌≤◌, ◌↔◌, Some, IsTrue, IfSome, IfNone, IsAttacked};
-ghost use Rattle.egt_moves.specs.Prelude.{IsInCheck, IsOccupancy, other_side, Stands, IsKeptFrom, IsAdmissible};
-ghost use Rattle.egt_moves.specs.Prelude.{IsKingOn, Has, size_of, K, P, Man, Goes, men_after, plain, most_goals};
-ghost use Rattle.egt_moves.specs.Prelude.{IsLegalTarget, IsSafeGoal};
+ghost use Rattle.std.specs.Prelude.{◌≡◌, ◌≢◌, ℕ, ◌<◌, ◌≤◌, ◌↔◌, Some, IsTrue, IfSome, IfNone};
+ghost use Rattle.egt_moves.specs.Prelude.{IsAttacked, IsInCheck, IsOccupancy, other_side, Stands, IsKeptFrom};
+ghost use Rattle.egt_moves.specs.Prelude.{IsAdmissible, IsKingOn, Has, size_of, K, P, Man, Goes, men_after, plain};
+ghost use Rattle.egt_moves.specs.Prelude.{most_goals, IsLegalTarget, IsSafeGoal};
 ghost use Rattle.std.specs.FinMap as map;
 
 use crate::going::{is_safe, targets};

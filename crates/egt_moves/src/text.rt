@@ -1,6 +1,6 @@
 //! Moves as text, like `d1d8` and `g7g8q`.
-ghost use Rattle.egt_moves.specs.Prelude.{◌≡◌, ◌+◌, ◌<◌, ◌≤◌, [], ◌∷◌, ◌++◌, array_string_len, text_of, square_text};
-ghost use Rattle.egt_moves.specs.Prelude.{kind_letter};
+ghost use Rattle.std.specs.Prelude.{◌≡◌, ◌+◌, ◌<◌, ◌≤◌, [], ◌∷◌, ◌++◌};
+ghost use Rattle.egt_moves.specs.Prelude.{array_string_len, text_of, square_text, kind_letter};
 
 use crate::chess_move::Move;
 use arrayvec::ArrayString;

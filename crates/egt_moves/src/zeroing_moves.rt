@@ -1,5 +1,6 @@
 //! Captures and moves of pawns.
-ghost use Rattle.egt_moves.specs.Prelude.{◌↔◌, IsTrue, other_side, IsHeld, Zeroes, IsPawnOn};
+ghost use Rattle.std.specs.Prelude.{◌↔◌, IsTrue};
+ghost use Rattle.egt_moves.specs.Prelude.{other_side, IsHeld, Zeroes, IsPawnOn};
 
 use crate::chess_move::Move;
 use egt_board::{Kind, Position, Square};

@@ -1,10 +1,10 @@
 -- Lines answered one after the other.
-use Rattle.egt_probe.specs.Prelude.{◌≡◌, ◌≢◌, ℕ, ◌+◌, List, [], ◌∷◌, ◌++◌, length, take, Option, Some, None, refl, sym}
-use Rattle.egt_probe.specs.Prelude.{ap, ◌∙◌, subst, append_assoc, append-nil, arith, Appends-nil, Appends-trans}
-use Rattle.egt_probe.specs.Prelude.{Appends-kept, Consumes-trans, take_all, take-append-add, take-append_seam, Appends}
-use Rattle.egt_probe.specs.Prelude.{Consumes, IsAtEnd, Keeps, AppendsFront, AnswerFault, OpenLine, Reports, Wrote}
-use Rattle.egt_probe.specs.Prelude.{WroteFront, WroteBy, Stopped, AreLinesOf, AnsweredAll, AnsweredSome, Holds}
-use Rattle.egt_probe.specs.Prelude.{Advanced, StoppedIn, lines_of, with_front, Loaded, Report}
+use Rattle.std.proofs.Common.{◌≡◌, ◌≢◌, ℕ, ◌+◌, List, [], ◌∷◌, ◌++◌, length, take, Option, Some, None, refl, sym, ap}
+use Rattle.std.proofs.Common.{◌∙◌, subst, append_assoc, append-nil, arith}
+use Rattle.egt_probe.specs.Prelude.{Appends-nil, Appends-trans, Appends-kept, Consumes-trans, take_all, take-append-add}
+use Rattle.egt_probe.specs.Prelude.{take-append_seam, Appends, Consumes, IsAtEnd, Keeps, AppendsFront, AnswerFault}
+use Rattle.egt_probe.specs.Prelude.{OpenLine, Reports, Wrote, WroteFront, WroteBy, Stopped, AreLinesOf, AnsweredAll}
+use Rattle.egt_probe.specs.Prelude.{AnsweredSome, Holds, Advanced, StoppedIn, lines_of, with_front, Loaded, Report}
 use Rattle.egt_probe.specs.declared.fault.AnswerFault.TheVariants.{Device, NoMemory}
 use Rattle.egt_probe.proofs.Splitting.{front_last, fed, grown}
 

@@ -1,9 +1,9 @@
 -- Moves of best play, by the entries of where they lead.
-use Rattle.egt_probe.specs.Prelude.{◌≡◌, ℕ, zero, suc, ◌≤◌, Option, Some, None, IfNone, IsSome, List, [], ◌∷◌, ◌++◌}
-use Rattle.egt_probe.specs.Prelude.{refl, sym, ap, ◌∙◌, subst, arith, append_assoc, append-nil, Side, White, Black}
-use Rattle.egt_probe.specs.Prelude.{other_side, Setup, Value, SomeMove, HasValue, chess, mate_by, Leads, Move, IsShort}
-use Rattle.egt_probe.specs.Prelude.{Shows, entry_of, shown_once, Facts, IsFirstTo, next_value, IsLine, Misses}
-use Rattle.egt_probe.specs.Prelude.{IsFirstWith}
+use Rattle.std.proofs.Common.{◌≡◌, ℕ, zero, suc, ◌≤◌, Option, Some, None, IfNone, IsSome, List, [], ◌∷◌, ◌++◌, refl}
+use Rattle.std.proofs.Common.{sym, ap, ◌∙◌, subst, arith, append_assoc, append-nil}
+use Rattle.egt_probe.specs.Prelude.{Side, White, Black, other_side, Setup, Value, SomeMove, HasValue, chess, mate_by}
+use Rattle.egt_probe.specs.Prelude.{Leads, Move, IsShort, Shows, entry_of, shown_once, Facts, IsFirstTo, next_value}
+use Rattle.egt_probe.specs.Prelude.{IsLine, Misses, IsFirstWith}
 
 -- a value that a position has, of few plies, has an entry
 pub short : (s w : Side) (n : ℕ) (q : Setup) → HasValue chess q (mate_by s w n) → n ≤ 32000 → IsShort (mate_by s w n)

@@ -1,8 +1,8 @@
 -- Moves that are best play.
-use Rattle.egt_probe.specs.Prelude.{◌≡◌, ℕ, zero, suc, List, [], ◌∷◌, Option, Some, None, IfSome, refl, sym, ap, ◌∙◌}
-use Rattle.egt_probe.specs.Prelude.{subst, arith, inl, inr, cases_lt, Side, White, Black, other_side, Setup, Value, Win}
-use Rattle.egt_probe.specs.Prelude.{Loss, Draw, mate_by, place_of, Move, best_value, IsBest, Facts, IsHold, IsFirstTo}
-use Rattle.egt_probe.specs.Prelude.{next_value, IsLine}
+use Rattle.std.proofs.Common.{◌≡◌, ℕ, zero, suc, List, [], ◌∷◌, Option, Some, None, IfSome, refl, sym, ap, ◌∙◌, subst}
+use Rattle.std.proofs.Common.{arith, inl, inr}
+use Rattle.egt_probe.specs.Prelude.{cases_lt, Side, White, Black, other_side, Setup, Value, Win, Loss, Draw, mate_by}
+use Rattle.egt_probe.specs.Prelude.{place_of, Move, best_value, IsBest, Facts, IsHold, IsFirstTo, next_value, IsLine}
 
 -- the move that holds a draw is one
 pub best_of_hold : (p : Setup) (m : Option Move) → IsHold p m → IsBest p m

@@ -1,7 +1,8 @@
 -- What the column of the nearest mates tells of dead positions.
-use Rattle.egt_probe.specs.Prelude.{◌≡◌, ◌≢◌, ℕ, Option, Some, None, refl, sym, ◌∙◌, arith, Setup, IsAdmissible}
-use Rattle.egt_probe.specs.Prelude.{IsIndex, chess, IsDead, HasReach, IsStalemate, StandsAs, Standing, Checkmate}
-use Rattle.egt_probe.specs.Prelude.{Stalemate, HasMove, TableValue, ShowsReach, reach_at, IsTrueReach}
+use Rattle.std.proofs.Common.{◌≡◌, ◌≢◌, ℕ, Option, Some, None, refl, sym, ◌∙◌, arith}
+use Rattle.egt_probe.specs.Prelude.{Setup, IsAdmissible, IsIndex, chess, IsDead, HasReach, IsStalemate, StandsAs}
+use Rattle.egt_probe.specs.Prelude.{Standing, Checkmate, Stalemate, HasMove, TableValue, ShowsReach, reach_at}
+use Rattle.egt_probe.specs.Prelude.{IsTrueReach}
 
 dead_if_one : (p : Setup) (x : ℕ) (number : Option ℕ) → HasReach chess p number → ShowsReach x number → x ≡ 1 → IsDead chess p
 dead_if_one p x (Some n) has shows e = absurd (omega (arith, shows.1, e))

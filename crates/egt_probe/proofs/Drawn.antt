@@ -1,7 +1,7 @@
 -- Drawn positions.
-use Rattle.egt_probe.specs.Prelude.{◌≢◌, ℕ, zero, suc, ◌≤◌, Option, Some, None, IsSome, refl, inr, arith, Setup, Value}
-use Rattle.egt_probe.specs.Prelude.{Win, Loss, Draw, HasValue, MatesWithin, chess, IsStuck, IsStalemate, CanMove, Move}
-use Rattle.egt_probe.specs.Prelude.{Shows, Facts, IsHold, Misses}
+use Rattle.std.proofs.Common.{◌≢◌, ℕ, zero, suc, ◌≤◌, Option, Some, None, IsSome, refl, inr, arith}
+use Rattle.egt_probe.specs.Prelude.{Setup, Value, Win, Loss, Draw, HasValue, MatesWithin, chess, IsStuck, IsStalemate}
+use Rattle.egt_probe.specs.Prelude.{CanMove, Move, Shows, Facts, IsHold, Misses}
 use Rattle.egt_probe.proofs.SameKinds.{lost_within}
 
 module _ (facts : Facts) (p : Setup) (drawn : HasValue chess p Draw) where

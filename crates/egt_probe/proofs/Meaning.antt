@@ -1,7 +1,7 @@
 -- What a verdict means in the words of forced mate and of the defence against it.
-use Rattle.egt_probe.specs.Prelude.{◌≡◌, ℕ, zero, suc, refl, subst, Side, White, Black, other_side, Setup, Win, Loss}
-use Rattle.egt_probe.specs.Prelude.{HasValue, MatesWithin, IsMatedWithin, CannotMateBefore, AvoidsMateBefore, chess}
-use Rattle.egt_probe.specs.Prelude.{mate_by}
+use Rattle.std.proofs.Common.{◌≡◌, ℕ, zero, suc, refl, subst}
+use Rattle.egt_probe.specs.Prelude.{Side, White, Black, other_side, Setup, Win, Loss, HasValue, MatesWithin}
+use Rattle.egt_probe.specs.Prelude.{IsMatedWithin, CannotMateBefore, AvoidsMateBefore, chess, mate_by}
 
 mover_wins : (s : Side) (n : ℕ) → mate_by s s n ≡ Win n
 mover_wins White n = refl

@@ -1,12 +1,12 @@
 -- A line has one report.
-use Rattle.egt_probe.specs.Prelude.{◌≡◌, ℕ, zero, suc, ◌<◌, ◌≤◌, ◌⊎◌, true, false, is_some, IsSome, List, [], ◌∷◌, ◌++◌}
-use Rattle.egt_probe.specs.Prelude.{length, Option, Some, None, refl, sym, ap, ◌∙◌, subst, inl, inr, arith, cases_lt}
-use Rattle.egt_probe.specs.Prelude.{Kind, Q, R, B, N, P, K, Side, White, Black, Setup, IsAdmissible, Fen, Value, Win}
-use Rattle.egt_probe.specs.Prelude.{Loss, Draw, mate_by, Leads, place_of, promotion_place, Move, Reports, Facts, IsHold}
-use Rattle.egt_probe.specs.Prelude.{IsFirstTo, next_value, plies_of, IsLine, Loaded, IsOfClass, IsMissing}
-use Rattle.egt_probe.specs.Prelude.{PositionReport, Unloaded, Decisive, Dead, Drawn, verdict_of, Report, Long, Refused}
-use Rattle.egt_probe.specs.Prelude.{Answered, decided_text, dead_text, drawn_text, missing_text, refused_text}
-use Rattle.egt_probe.specs.Prelude.{IsVerdict}
+use Rattle.std.proofs.Common.{◌≡◌, ℕ, zero, suc, ◌<◌, ◌≤◌, ◌⊎◌, true, false, is_some, IsSome, List, [], ◌∷◌, ◌++◌}
+use Rattle.std.proofs.Common.{length, Option, Some, None, refl, sym, ap, ◌∙◌, subst, inl, inr, arith}
+use Rattle.egt_probe.specs.Prelude.{cases_lt, Kind, Q, R, B, N, P, K, Side, White, Black, Setup, IsAdmissible, Fen}
+use Rattle.egt_probe.specs.Prelude.{Value, Win, Loss, Draw, mate_by, Leads, place_of, promotion_place, Move, Reports}
+use Rattle.egt_probe.specs.Prelude.{Facts, IsHold, IsFirstTo, next_value, plies_of, IsLine, Loaded, IsOfClass}
+use Rattle.egt_probe.specs.Prelude.{IsMissing, PositionReport, Unloaded, Decisive, Dead, Drawn, verdict_of, Report}
+use Rattle.egt_probe.specs.Prelude.{Long, Refused, Answered, decided_text, dead_text, drawn_text, missing_text}
+use Rattle.egt_probe.specs.Prelude.{refused_text, IsVerdict}
 use Rattle.egt_probe.specs.declared.outcome.Outcome.TheVariants as outcomes
 
 -- the next value is one ply nearer

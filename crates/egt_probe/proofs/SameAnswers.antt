@@ -1,8 +1,8 @@
 -- One answer to a position wherever the same classes are loaded, with the same columns.
-use Rattle.egt_probe.specs.Prelude.{◌≡◌, ◌≢◌, ℕ, List, [], ◌∷◌, Option, Some, None, Result, Ok, Err, refl, subst, Setup}
-use Rattle.egt_probe.specs.Prelude.{IsAdmissible, Value, Draw, HasValue, chess, mate_by, Move, HoldFault, LineFault}
-use Rattle.egt_probe.specs.Prelude.{Missing, Outcome, Verdict, TellsHold, TellsLine, TellsVerdict, Facts, IsDecisive}
-use Rattle.egt_probe.specs.Prelude.{IsHold, IsLine, Loaded, IsLoaded, IsMissing, verdict_of, IsVerdict}
+use Rattle.std.proofs.Common.{◌≡◌, ◌≢◌, ℕ, List, [], ◌∷◌, Option, Some, None, Result, Ok, Err, refl, subst}
+use Rattle.egt_probe.specs.Prelude.{Setup, IsAdmissible, Value, Draw, HasValue, chess, mate_by, Move, HoldFault}
+use Rattle.egt_probe.specs.Prelude.{LineFault, Missing, Outcome, Verdict, TellsHold, TellsLine, TellsVerdict, Facts}
+use Rattle.egt_probe.specs.Prelude.{IsDecisive, IsHold, IsLine, Loaded, IsLoaded, IsMissing, verdict_of, IsVerdict}
 use Rattle.egt_probe.specs.declared.fault.HoldFault.TheVariants as holds
 use Rattle.egt_probe.specs.declared.fault.LineFault.TheVariants as lines
 use Rattle.egt_probe.specs.declared.outcome.Outcome.TheVariants as outcomes

@@ -1,6 +1,7 @@
 -- The value of a position and its zeroing distance are of one kind: both wins, both losses or both draws.
-use Rattle.egt_probe.specs.Prelude.{ℕ, zero, suc, Setup, Value, Win, Loss, Draw, HasValue, IsMatedWithin, chess}
-use Rattle.egt_probe.specs.Prelude.{SameKind, HasZeroing, Facts}
+use Rattle.std.specs.Prelude.{ℕ, zero, suc}
+use Rattle.egt_probe.specs.Prelude.{Setup, Value, Win, Loss, Draw, HasValue, IsMatedWithin, chess, SameKind, HasZeroing}
+use Rattle.egt_probe.specs.Prelude.{Facts}
 
 -- a loss in n plies is a mate within n
 pub lost_within : (n : ℕ) (p : Setup) → HasValue chess p (Loss n) → IsMatedWithin chess n p

@@ -1,9 +1,9 @@
 -- What a table of a library tells of the positions of its class.
-use Rattle.egt_probe.specs.Prelude.{◌≡◌, ℕ, ◌<◌, Bool, IsSome, sym, subst, arith, ⊎_elim, Contains, Side, Setup}
-use Rattle.egt_probe.specs.Prelude.{IsAdmissible, children_of, IsOf, IsIndex, Value, HasValue, chess, Leads, HasZeroing}
-use Rattle.egt_probe.specs.Prelude.{Move, TableValue, Metric, Mate, Zeroing, Shows, IsShelved, shown_once, Tables}
-use Rattle.egt_probe.specs.Prelude.{entry_at, Tells, IsTrueTable, Outcome, Facts, Loaded, IsLoaded, ShowsValue}
-use Rattle.egt_probe.specs.Prelude.{mate_value, zeroing_value}
+use Rattle.std.proofs.Common.{◌≡◌, ℕ, ◌<◌, Bool, IsSome, sym, subst, arith}
+use Rattle.egt_probe.specs.Prelude.{⊎_elim, Contains, Side, Setup, IsAdmissible, children_of, IsOf, IsIndex, Value}
+use Rattle.egt_probe.specs.Prelude.{HasValue, chess, Leads, HasZeroing, Move, TableValue, Metric, Mate, Zeroing, Shows}
+use Rattle.egt_probe.specs.Prelude.{IsShelved, shown_once, Tables, entry_at, Tells, IsTrueTable, Outcome, Facts, Loaded}
+use Rattle.egt_probe.specs.Prelude.{IsLoaded, ShowsValue, mate_value, zeroing_value}
 
 module _ (t : TableValue) (truth : IsTrueTable t) where
   -- the entry shows what the column of the metric tells of the position

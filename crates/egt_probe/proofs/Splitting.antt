@@ -1,6 +1,7 @@
 -- Lines of texts that are read piece by piece.
-use Rattle.egt_probe.specs.Prelude.{◌≡◌, ◌≢◌, ℕ, ◌==◌, Bool, false, inl, inr, if◌then◌else◌, List, [], ◌∷◌, ◌++◌, refl}
-use Rattle.egt_probe.specs.Prelude.{ap, ◌∙◌, eqb_tells, lines_of, with_byte, with_front}
+use Rattle.std.proofs.Common.{◌≡◌, ◌≢◌, ℕ, ◌==◌, Bool, false, inl, inr, if◌then◌else◌, List, [], ◌∷◌, ◌++◌, refl, ap}
+use Rattle.std.proofs.Common.{◌∙◌}
+use Rattle.egt_probe.specs.Prelude.{eqb_tells, lines_of, with_byte, with_front}
 
 -- a line feed ends the line
 pub front_ended : (line : List ℕ) (lines : List (List ℕ)) → with_front line ([] ∷ lines) ≡ line ∷ lines

@@ -62,10 +62,6 @@ pub use Rattle.egt_probe.specs.declared.outcome.Verdict.{Verdict}
 pub use Rattle.egt_probe.specs.declared.ranking.RootMove.{RootMove}
 pub use Rattle.egt_table.specs.Stream.{AppendsFront, CountsFailure}
 pub use Rattle.egt_table.specs.Table.{TableValue}
-pub use Rattle.std.proofs.Common.{Bool, IfSome, IsSome, IsTrue, List, None, Ok, Option, Result, Some, [], ap}
-pub use Rattle.std.proofs.Common.{append-nil, append_assoc, arith, drop, drop-cons, false, get_or, if◌then◌else◌, inl}
-pub use Rattle.std.proofs.Common.{inr, is_some, length, option_map, refl, subst, suc, sym, take, true, zero, ℕ, ◌++◌}
-pub use Rattle.std.proofs.Common.{◌+◌, ◌-◌, ◌<◌, ◌==◌, ◌∙◌, ◌∷◌, ◌≡◌, ◌≢◌, ◌≤◌, ◌⊎◌}
 pub use Rattle.std.proofs.KnownBytes.{Appends-kept, Appends-nil, Appends-trans, Consumes-kept, Consumes-nil}
 pub use Rattle.std.proofs.KnownBytes.{Consumes-trans}
 pub use Rattle.std.proofs.Math.Logic.{⊎_elim}
@@ -76,4 +72,3 @@ pub use Rattle.std.proofs.lemmas.List.{get_or_default, take-append-drop, take_al
 pub use Rattle.std.proofs.lemmas.Result.{IfErr-weaker, IfOk-weaker, err_from_is_err_and, on_ok_weaker}
 pub use Rattle.std.specs.Io.KnownBytes.{Appends, Consumes, IsAtEnd, Keeps}
 pub use Rattle.std.specs.List.{Contains, flat_map, insert}
-pub use Rattle.std.specs.Prelude.{Err, IfErr, IfNone, IfOk, IsOk, MatchBool, OnErr, OnOk, ◌↔◌}

@@ -1,7 +1,7 @@
 //! Reports of many lines, from a source to a sink.
-ghost use Rattle.egt_probe.specs.Prelude.{◌≡◌, ℕ, List, [], ◌∷◌, ◌++◌, OnOk, IfOk, IfErr, Holds, Wrote, Stopped};
-ghost use Rattle.egt_probe.specs.Prelude.{Advanced, StoppedIn, AnsweredAll, AnsweredSome, CountsSink, CountsEither};
-ghost use Rattle.egt_probe.specs.Prelude.{with_front, Report, loaded_in};
+ghost use Rattle.std.specs.Prelude.{◌≡◌, ℕ, List, [], ◌∷◌, ◌++◌, OnOk, IfOk, IfErr};
+ghost use Rattle.egt_probe.specs.Prelude.{Holds, Wrote, Stopped, Advanced, StoppedIn, AnsweredAll, AnsweredSome};
+ghost use Rattle.egt_probe.specs.Prelude.{CountsSink, CountsEither, with_front, Report, loaded_in};
 
 use crate::fault::AnswerFault;
 use crate::open_line::OpenLine;

@@ -1,6 +1,7 @@
 //! The line of best play.
-ghost use Rattle.egt_probe.specs.Prelude.{◌≡◌, ◌+◌, ◌<◌, ◌≤◌, IfOk, IfErr, other_side, HasValue, chess, mate_by};
-ghost use Rattle.egt_probe.specs.Prelude.{entry_of, IsLineFault, IsLine, IsFirstTo, IsBestPlay, IsLoaded, loaded_in};
+ghost use Rattle.std.specs.Prelude.{◌≡◌, ◌+◌, ◌<◌, ◌≤◌, IfOk, IfErr};
+ghost use Rattle.egt_probe.specs.Prelude.{other_side, HasValue, chess, mate_by, entry_of, IsLineFault, IsLine};
+ghost use Rattle.egt_probe.specs.Prelude.{IsFirstTo, IsBestPlay, IsLoaded, loaded_in};
 
 use crate::facts::facts;
 use crate::fault::LineFault;

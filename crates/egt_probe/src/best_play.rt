@@ -1,5 +1,6 @@
 //! The move that is best play.
-ghost use Rattle.egt_probe.specs.Prelude.{◌≡◌, IfOk, IfErr, chess, IsBest, IsLoaded, IsMissing, loaded_in};
+ghost use Rattle.std.specs.Prelude.{◌≡◌, IfOk, IfErr};
+ghost use Rattle.egt_probe.specs.Prelude.{chess, IsBest, IsLoaded, IsMissing, loaded_in};
 
 use crate::best_line::next_move;
 use crate::holding::drawing_move;

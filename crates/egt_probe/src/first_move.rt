@@ -1,6 +1,6 @@
 //! The first move to a position with an entry.
-ghost use Rattle.egt_probe.specs.Prelude.{IfSome, IfNone, Leads, IsLegal, Move, IsLoaded, Misses, IsFirstWith};
-ghost use Rattle.egt_probe.specs.Prelude.{loaded_in};
+ghost use Rattle.std.specs.Prelude.{IfSome, IfNone};
+ghost use Rattle.egt_probe.specs.Prelude.{Leads, IsLegal, Move, IsLoaded, Misses, IsFirstWith, loaded_in};
 
 use crate::facts::facts;
 use crate::looking::{mate_entry, moves_stay_loaded};

@@ -1,6 +1,6 @@
 //! The move that holds a draw.
-ghost use Rattle.egt_probe.specs.Prelude.{Some, IfOk, IfErr, Draw, HasValue, chess, CanMove, IsHoldFault, IsHold};
-ghost use Rattle.egt_probe.specs.Prelude.{IsLoaded, loaded_in};
+ghost use Rattle.std.specs.Prelude.{Some, IfOk, IfErr};
+ghost use Rattle.egt_probe.specs.Prelude.{Draw, HasValue, chess, CanMove, IsHoldFault, IsHold, IsLoaded, loaded_in};
 
 use crate::facts::facts;
 use crate::fault::HoldFault;

@@ -1,11 +1,11 @@
 //! What holds of lines of best play and of reports. These functions do nothing: a caller calls one to know what it
 //! ensures.
-ghost use Rattle.egt_probe.specs.Prelude.{◌≡◌, ◌≢◌, ℕ, List, ◌∷◌, length, true, Option, Some, Result, Err, other_side};
-ghost use Rattle.egt_probe.specs.Prelude.{Setup, IsAdmissible, Value, MatesWithin, IsMatedWithin, CannotMateBefore};
-ghost use Rattle.egt_probe.specs.Prelude.{AvoidsMateBefore, IsDraw, chess, place_of, IsDead, CanMove, Move, Reports};
-ghost use Rattle.egt_probe.specs.Prelude.{IsBest, TellsHold, TellsLine, TellsVerdict, IsHold, IsLine, plies_of, Loaded};
-ghost use Rattle.egt_probe.specs.Prelude.{Report, verdict_of, IsVerdict, HoldFault, LineFault, NoMemory, Missing};
-ghost use Rattle.egt_probe.specs.Prelude.{Verdict};
+ghost use Rattle.std.specs.Prelude.{◌≡◌, ◌≢◌, ℕ, List, ◌∷◌, length, true, Option, Some, Result, Err};
+ghost use Rattle.egt_probe.specs.Prelude.{other_side, Setup, IsAdmissible, Value, MatesWithin, IsMatedWithin};
+ghost use Rattle.egt_probe.specs.Prelude.{CannotMateBefore, AvoidsMateBefore, IsDraw, chess, place_of, IsDead, CanMove};
+ghost use Rattle.egt_probe.specs.Prelude.{Move, Reports, IsBest, TellsHold, TellsLine, TellsVerdict, IsHold, IsLine};
+ghost use Rattle.egt_probe.specs.Prelude.{plies_of, Loaded, Report, verdict_of, IsVerdict, HoldFault, LineFault};
+ghost use Rattle.egt_probe.specs.Prelude.{NoMemory, Missing, Verdict};
 ghost use Rattle.egt_probe.specs.declared.outcome.Outcome.TheVariants as outcomes;
 
 use crate::facts::facts;

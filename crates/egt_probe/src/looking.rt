@@ -1,8 +1,8 @@
 //! Positions looked up in tables.
-ghost use Rattle.egt_probe.specs.Prelude.{◌↔◌, IsOk, IfOk, IfErr, IsSome, MatchBool, Some, is_some, Setup, IsIndex};
-ghost use Rattle.egt_probe.specs.Prelude.{Value, HasValue, chess, SameKind, Leads, HasZeroing, Move, Shows};
-ghost use Rattle.egt_probe.specs.Prelude.{IsTrueTable, IsLoaded, IsMissing, ShowsValue, loaded_in, IsVerdict, IsWithin};
-ghost use Rattle.egt_probe.specs.Prelude.{TellsDead, mate_value, zeroing_value};
+ghost use Rattle.std.specs.Prelude.{◌↔◌, IsOk, IfOk, IfErr, IsSome, MatchBool, Some, is_some};
+ghost use Rattle.egt_probe.specs.Prelude.{Setup, IsIndex, Value, HasValue, chess, SameKind, Leads, HasZeroing, Move};
+ghost use Rattle.egt_probe.specs.Prelude.{Shows, IsTrueTable, IsLoaded, IsMissing, ShowsValue, loaded_in, IsVerdict};
+ghost use Rattle.egt_probe.specs.Prelude.{IsWithin, TellsDead, mate_value, zeroing_value};
 
 use crate::facts::facts;
 use crate::outcome::{Missing, Outcome, Verdict};

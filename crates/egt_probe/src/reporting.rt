@@ -1,5 +1,6 @@
 //! The report of a line.
-ghost use Rattle.egt_probe.specs.Prelude.{◌≤◌, length, IfOk, List, ℕ, PositionReport, Report, most, loaded_in, Holds};
+ghost use Rattle.std.specs.Prelude.{◌≤◌, length, IfOk, List, ℕ};
+ghost use Rattle.egt_probe.specs.Prelude.{PositionReport, Report, most, loaded_in, Holds};
 
 use crate::best_line::best_line;
 use crate::holding::{drawing_move, holding_move};

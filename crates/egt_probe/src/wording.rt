@@ -1,6 +1,7 @@
 //! The texts of reports.
-ghost use Rattle.egt_probe.specs.Prelude.{◌≡◌, ◌++◌, OnOk, IfOk, text_of, side_name, moves_text, held_text};
-ghost use Rattle.egt_probe.specs.Prelude.{decided_text, dead_text, drawn_text, missing_text, refused_text, long_text};
+ghost use Rattle.std.specs.Prelude.{◌≡◌, ◌++◌, OnOk, IfOk};
+ghost use Rattle.egt_probe.specs.Prelude.{text_of, side_name, moves_text, held_text, decided_text, dead_text};
+ghost use Rattle.egt_probe.specs.Prelude.{drawn_text, missing_text, refused_text, long_text};
 
 use egt_board::Side;
 use egt_class::{Class, name};

@@ -1,5 +1,6 @@
 //! Whole pieces through sinks that take them in parts.
-ghost use Rattle.egt_probe.specs.Prelude.{OnOk, OnErr, Appends, CountsFailure, AppendsFront};
+ghost use Rattle.std.specs.Prelude.{OnOk, OnErr};
+ghost use Rattle.egt_probe.specs.Prelude.{Appends, CountsFailure, AppendsFront};
 
 use egt_table::{Device, Sink};
 

@@ -1,5 +1,6 @@
 -- The square of a man after one went.
-use Rattle.egt_steps.specs.Prelude.{◌≡◌, ◌≢◌, ℕ, cond, ap, inl, inr, eqb_tells, moved_square}
+use Rattle.std.proofs.Common.{◌≡◌, ◌≢◌, ℕ, cond, ap, inl, inr}
+use Rattle.egt_steps.specs.Prelude.{eqb_tells, moved_square}
 
 pub went : (from to s : ℕ) → s ≡ from → moved_square from to s ≡ to
 went from to s same = elim (eqb_tells s from) [ inl h ↦ ap (λ b. cond b to s) h.0 | inr h ↦ absurd (h.1 same) ]

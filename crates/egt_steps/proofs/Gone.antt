@@ -1,6 +1,6 @@
 -- What the code after a step spells: the men who stood there, but for the one who went.
-use Rattle.egt_steps.specs.Prelude.{◌≡◌, ◌≢◌, ℕ, List, [], ◌∷◌, ◌++◌, map, None, Some, refl, sym, ap, ◌∙◌, inl, inr}
-use Rattle.egt_steps.specs.Prelude.{subst, option_to_list, cases_eq, king_of, men_of, get-insert_other, get-insert_same}
+use Rattle.std.proofs.Common.{◌≡◌, ◌≢◌, ℕ, List, [], ◌∷◌, ◌++◌, map, None, Some, refl, sym, ap, ◌∙◌, inl, inr, subst}
+use Rattle.egt_steps.specs.Prelude.{option_to_list, cases_eq, king_of, men_of, get-insert_other, get-insert_same}
 use Rattle.egt_steps.specs.Prelude.{get-remove_other, get-remove_same, same_men, Man, White, Black, IsListed, AllApart}
 use Rattle.egt_steps.specs.Prelude.{Entry, IsOff, list_of, moved_entry, moved_square, Stand, AreApart, get_here}
 use Rattle.egt_steps.specs.Prelude.{get_later, listed_stands, free_of}

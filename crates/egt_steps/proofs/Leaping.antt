@@ -1,6 +1,7 @@
 -- By how many squares a pawn advances, and the index of a position that settles to another.
-use Rattle.egt_steps.specs.Prelude.{◌≡◌, ◌⊎◌, ℕ, ◌≤◌, ◌==◌, ◌&&◌, if◌then◌else◌, Bool, true, false, refl, sym, subst}
-use Rattle.egt_steps.specs.Prelude.{inl, inr, eqb_tells, IsSettled, SettlesTo, Setup, IsIndex}
+use Rattle.std.proofs.Common.{◌≡◌, ◌⊎◌, ℕ, ◌≤◌, ◌==◌, ◌&&◌, if◌then◌else◌, Bool, true, false, refl, sym, subst, inl}
+use Rattle.std.proofs.Common.{inr}
+use Rattle.egt_steps.specs.Prelude.{eqb_tells, IsSettled, SettlesTo, Setup, IsIndex}
 
 pub and_false : (a b : Bool) → b ≡ false → (a && b) ≡ false
 and_false true b e = e

@@ -1,12 +1,12 @@
 -- Which advances of a pawn leave a target, and what the positions after them settle to.
-use Rattle.egt_steps.specs.Prelude.{◌≡◌, ◌≢◌, ℕ, ◌*◌, ◌/◌, ◌+◌, ◌%◌, ◌≤◌, ◌==◌, ◌&&◌, ◌||◌, ◌⊎◌, ◌↔◌, if◌then◌else◌}
-use Rattle.egt_steps.specs.Prelude.{Bool, true, false, Option, Some, None, IfSome, IsTrue, refl, sym, ap, ◌∙◌, subst}
-use Rattle.egt_steps.specs.Prelude.{inl, inr, arith, is_some, and_parts, eqb_tells, king_of, other_side, Advances}
-use Rattle.egt_steps.specs.Prelude.{HasPawnBeside, IsBeside, ahead, last_rank, pawn_of, Placement, Stands, SettlesTo}
-use Rattle.egt_steps.specs.Prelude.{Setup, IsAdmissible, rank_of, IsTarget, target_rank, Kind, P, K, Man, Side, White}
-use Rattle.egt_steps.specs.Prelude.{Black, settles_admissible, settles_men, side_twice, sides_differ, ShelfMen}
-use Rattle.egt_steps.specs.Prelude.{is_two_ranks, passed, is_pawn, two_ranks_told, target_is, Facts, AreTwoRanksApart}
-use Rattle.egt_steps.specs.Prelude.{LeavesTarget}
+use Rattle.std.proofs.Common.{◌≡◌, ◌≢◌, ℕ, ◌*◌, ◌/◌, ◌+◌, ◌%◌, ◌≤◌, ◌==◌, ◌&&◌, ◌||◌, ◌⊎◌, ◌↔◌, if◌then◌else◌, Bool}
+use Rattle.std.proofs.Common.{true, false, Option, Some, None, IfSome, IsTrue, refl, sym, ap, ◌∙◌, subst, inl, inr}
+use Rattle.std.proofs.Common.{arith}
+use Rattle.egt_steps.specs.Prelude.{is_some, and_parts, eqb_tells, king_of, other_side, Advances, HasPawnBeside}
+use Rattle.egt_steps.specs.Prelude.{IsBeside, ahead, last_rank, pawn_of, Placement, Stands, SettlesTo, Setup}
+use Rattle.egt_steps.specs.Prelude.{IsAdmissible, rank_of, IsTarget, target_rank, Kind, P, K, Man, Side, White, Black}
+use Rattle.egt_steps.specs.Prelude.{settles_admissible, settles_men, side_twice, sides_differ, ShelfMen, is_two_ranks}
+use Rattle.egt_steps.specs.Prelude.{passed, is_pawn, two_ranks_told, target_is, Facts, AreTwoRanksApart, LeavesTarget}
 use Rattle.egt_steps.proofs.Leaping.{one_off_home}
 use Rattle.egt_steps.proofs.TwoNonKings.{AreTwo, one_two, who}
 

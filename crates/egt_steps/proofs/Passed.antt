@@ -1,7 +1,7 @@
 -- No man passes or reaches the square on which it stands.
-use Rattle.egt_steps.specs.Prelude.{◌≢◌, ℕ, ◌<◌, List, [], ◌∷◌, inl, inr, arith, subst, OneOf, Reaches, Rides, farthest}
-use Rattle.egt_steps.specs.Prelude.{step, steps_of, Away, Kind, Q, R, B, N, P, K, Man, Side, White, Black, Step, Way}
-use Rattle.egt_steps.specs.Prelude.{Up, Down, Still}
+use Rattle.std.proofs.Common.{◌≢◌, ℕ, ◌<◌, List, [], ◌∷◌, inl, inr, arith, subst}
+use Rattle.egt_steps.specs.Prelude.{OneOf, Reaches, Rides, farthest, step, steps_of, Away, Kind, Q, R, B, N, P, K, Man}
+use Rattle.egt_steps.specs.Prelude.{Side, White, Black, Step, Way, Up, Down, Still}
 
 -- so many steps, if there are any, end on another square
 abbrev Departs : Step → Type 0

@@ -1,13 +1,13 @@
 -- The advances of a pawn lead to the men after them, and to all positions of them.
-use Rattle.egt_steps.specs.Prelude.{◌≡◌, ◌≢◌, ◌↔◌, ℕ, ◌*◌, ◌/◌, ◌+◌, ◌<◌, if◌then◌else◌, Bool, true, false, IsTrue}
-use Rattle.egt_steps.specs.Prelude.{Option, Some, None, refl, sym, ap, ◌∙◌, subst, inl, inr, arith, is_some, IsInCheck}
-use Rattle.egt_steps.specs.Prelude.{king_of, other_side, Advances, ahead, forward, pawn_of, Placement, Stands, IsFree}
-use Rattle.egt_steps.specs.Prelude.{one_man, SettlesTo, Setup, Away, IsTarget, target_rank, Kind, P, K, Man, Side}
-use Rattle.egt_steps.specs.Prelude.{White, Black, settles_men, settles_settled, side_twice, sides_differ, HasStand}
-use Rattle.egt_steps.specs.Prelude.{ShelfMen, Captures, Goes, PawnAdvances, Leads, after, men_after, men_left}
-use Rattle.egt_steps.specs.Prelude.{FitsPromotion, IsOfficer, arriving, promotes, Move, arriving_side, not_free}
-use Rattle.egt_steps.specs.Prelude.{target_is, Facts, LeavesTarget, IsAdvance, IsAdvanceFrom, IsClassAfter, stand_after}
-use Rattle.egt_steps.specs.Prelude.{stand_in, IsClear}
+use Rattle.std.proofs.Common.{◌≡◌, ◌≢◌, ◌↔◌, ℕ, ◌*◌, ◌/◌, ◌+◌, ◌<◌, if◌then◌else◌, Bool, true, false, IsTrue, Option}
+use Rattle.std.proofs.Common.{Some, None, refl, sym, ap, ◌∙◌, subst, inl, inr, arith}
+use Rattle.egt_steps.specs.Prelude.{is_some, IsInCheck, king_of, other_side, Advances, ahead, forward, pawn_of}
+use Rattle.egt_steps.specs.Prelude.{Placement, Stands, IsFree, one_man, SettlesTo, Setup, Away, IsTarget, target_rank}
+use Rattle.egt_steps.specs.Prelude.{Kind, P, K, Man, Side, White, Black, settles_men, settles_settled, side_twice}
+use Rattle.egt_steps.specs.Prelude.{sides_differ, HasStand, ShelfMen, Captures, Goes, PawnAdvances, Leads, after}
+use Rattle.egt_steps.specs.Prelude.{men_after, men_left, FitsPromotion, IsOfficer, arriving, promotes, Move}
+use Rattle.egt_steps.specs.Prelude.{arriving_side, not_free, target_is, Facts, LeavesTarget, IsAdvance, IsAdvanceFrom}
+use Rattle.egt_steps.specs.Prelude.{IsClassAfter, stand_after, stand_in, IsClear}
 use Rattle.std.specs.FinMap as placement
 use Rattle.egt_moves.specs.Legal as legal
 use Rattle.egt_steps.proofs.LeftTargets.{IsAfter, settles_so, told}

@@ -1,12 +1,13 @@
 -- The captures by which a pawn is promoted lead to the three men who are left, and to all positions of them.
-use Rattle.egt_steps.specs.Prelude.{◌≡◌, ◌≢◌, ℕ, ◌*◌, ◌/◌, ◌+◌, if◌then◌else◌, Bool, true, false, Option, Some, None}
-use Rattle.egt_steps.specs.Prelude.{refl, sym, ap, ◌∙◌, subst, inl, inr, arith, IsInCheck, king_of, OneOf, Reaches}
-use Rattle.egt_steps.specs.Prelude.{Rides, farthest, pawn_steps, steps_of, other_side, ahead, Placement, Stands, IsFree}
-use Rattle.egt_steps.specs.Prelude.{IsHeld, one_man, Setup, rank_of, Kind, P, K, Man, Side, White, Black, side_twice}
-use Rattle.egt_steps.specs.Prelude.{sides_differ, HasStand, ShelfMen, Goes, Leads, after, is_two_ranks, men_after}
-use Rattle.egt_steps.specs.Prelude.{men_left, passed, FitsPromotion, IsOfficer, arriving, is_pawn, promotes, Move}
-use Rattle.egt_steps.specs.Prelude.{not_free, target_is, Facts, IsPromotingCapture, IsPromotingCaptureFrom, officer_of}
-use Rattle.egt_steps.specs.Prelude.{stand_in, IsClassOf, IsPastKings, Left, left_of, stand_left}
+use Rattle.std.proofs.Common.{◌≡◌, ◌≢◌, ℕ, ◌*◌, ◌/◌, ◌+◌, if◌then◌else◌, Bool, true, false, Option, Some, None, refl}
+use Rattle.std.proofs.Common.{sym, ap, ◌∙◌, subst, inl, inr, arith}
+use Rattle.egt_steps.specs.Prelude.{IsInCheck, king_of, OneOf, Reaches, Rides, farthest, pawn_steps, steps_of}
+use Rattle.egt_steps.specs.Prelude.{other_side, ahead, Placement, Stands, IsFree, IsHeld, one_man, Setup, rank_of, Kind}
+use Rattle.egt_steps.specs.Prelude.{P, K, Man, Side, White, Black, side_twice, sides_differ, HasStand, ShelfMen, Goes}
+use Rattle.egt_steps.specs.Prelude.{Leads, after, is_two_ranks, men_after, men_left, passed, FitsPromotion, IsOfficer}
+use Rattle.egt_steps.specs.Prelude.{arriving, is_pawn, promotes, Move, not_free, target_is, Facts, IsPromotingCapture}
+use Rattle.egt_steps.specs.Prelude.{IsPromotingCaptureFrom, officer_of, stand_in, IsClassOf, IsPastKings, Left, left_of}
+use Rattle.egt_steps.specs.Prelude.{stand_left}
 use Rattle.std.specs.FinMap as placement
 use Rattle.egt_steps.proofs.Fanned.{king_bare}
 use Rattle.egt_steps.proofs.Leaping.{and_false}

@@ -1,11 +1,11 @@
 -- The quiet moves from a position lead to the men after quiet steps, and to all of them that are positions.
-use Rattle.egt_steps.specs.Prelude.{◌≡◌, ◌≢◌, ℕ, ◌<◌, ◌↔◌, if◌then◌else◌, Bool, false, Some, refl, sym, ap, ◌∙◌, subst}
-use Rattle.egt_steps.specs.Prelude.{inl, inr, bit_at, eqb_tells, IsInCheck, king_of, Reaches, Reaches-free}
-use Rattle.egt_steps.specs.Prelude.{Reaches-on_board, other_side, Placement, Stands, IsFree, one_man, Setup}
-use Rattle.egt_steps.specs.Prelude.{IsAdmissible, P, Man, Side, White, Black, side_twice, IsMoved, IsListed, AllStand}
-use Rattle.egt_steps.specs.Prelude.{HasStand, IsOff, list_of, IsMovedStand, moved_square, ShelfMen, Stand, Zeroes, Goes}
-use Rattle.egt_steps.specs.Prelude.{Leads, plain, Move, king_of_men, stand_on, with_king, Facts, IsClear, IsQuietStand}
-use Rattle.egt_steps.specs.Prelude.{IsQuietTarget}
+use Rattle.std.proofs.Common.{◌≡◌, ◌≢◌, ℕ, ◌<◌, ◌↔◌, if◌then◌else◌, Bool, false, Some, refl, sym, ap, ◌∙◌, subst, inl}
+use Rattle.std.proofs.Common.{inr}
+use Rattle.egt_steps.specs.Prelude.{bit_at, eqb_tells, IsInCheck, king_of, Reaches, Reaches-free, Reaches-on_board}
+use Rattle.egt_steps.specs.Prelude.{other_side, Placement, Stands, IsFree, one_man, Setup, IsAdmissible, P, Man, Side}
+use Rattle.egt_steps.specs.Prelude.{White, Black, side_twice, IsMoved, IsListed, AllStand, HasStand, IsOff, list_of}
+use Rattle.egt_steps.specs.Prelude.{IsMovedStand, moved_square, ShelfMen, Stand, Zeroes, Goes, Leads, plain, Move}
+use Rattle.egt_steps.specs.Prelude.{king_of_men, stand_on, with_king, Facts, IsClear, IsQuietStand, IsQuietTarget}
 use Rattle.std.specs.FinMap as map
 use Rattle.egt_steps.proofs.Fanned.{goes_quietly, king_reaches}
 use Rattle.egt_steps.proofs.Passed.{departs}

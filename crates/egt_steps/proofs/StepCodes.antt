@@ -1,8 +1,8 @@
 -- The men of positions before and after a step.
-use Rattle.egt_steps.specs.Prelude.{◌≡◌, ◌≢◌, ℕ, ◌<◌, ◌↔◌, Bool, false, refl, sym, ap, ◌∙◌, inl, inr, subst, men_of}
-use Rattle.egt_steps.specs.Prelude.{other_side, IsFree, Placement, Stands, Setup, Man, Side, IsOf, IsMoved, IsListed}
-use Rattle.egt_steps.specs.Prelude.{moved_stand, AllApart, HasStand, list_of, IsMovedStand, Stand, all_apart, free_off}
-use Rattle.egt_steps.specs.Prelude.{men_are, listed, listed_stands, no_target, untargeted_settled, apart_all}
+use Rattle.std.proofs.Common.{◌≡◌, ◌≢◌, ℕ, ◌<◌, ◌↔◌, Bool, false, refl, sym, ap, ◌∙◌, inl, inr, subst}
+use Rattle.egt_steps.specs.Prelude.{men_of, other_side, IsFree, Placement, Stands, Setup, Man, Side, IsOf, IsMoved}
+use Rattle.egt_steps.specs.Prelude.{IsListed, moved_stand, AllApart, HasStand, list_of, IsMovedStand, Stand, all_apart}
+use Rattle.egt_steps.specs.Prelude.{free_off, men_are, listed, listed_stands, no_target, untargeted_settled, apart_all}
 use Rattle.std.specs.FinMap as placement
 use Rattle.egt_index.specs.Facts.{Facts}
 use Rattle.egt_steps.proofs.Gone.{free_before, list_moved, men_moved, moved_list}

@@ -1,10 +1,11 @@
 -- A move that does not zero takes one man to a free square, and changes nothing else on the board.
-use Rattle.egt_steps.specs.Prelude.{◌≡◌, ◌≢◌, ℕ, ◌+◌, ◌/◌, if◌then◌else◌, ◌==◌, ◌&&◌, Bool, true, false, Option, Some}
-use Rattle.egt_steps.specs.Prelude.{None, refl, ap, ◌∙◌, inl, inr, ◌⊎◌, subst, ◌||◌, Kind, Q, R, B, N, P, K, Man}
-use Rattle.egt_steps.specs.Prelude.{other_side, Placement, Stands, IsFree, get-insert_same, IsHeld, one_man, Setup}
-use Rattle.egt_steps.specs.Prelude.{IsAdmissible, rank_of, ahead, last_rank, IsOf, IsMoved, Zeroes, IsPawnOn, Captures}
-use Rattle.egt_steps.specs.Prelude.{Goes, Leads, men_left, is_target, is_two_ranks, IsLegal, plain, passed, is_pawn}
-use Rattle.egt_steps.specs.Prelude.{FitsPromotion, Move, IsLegalTarget, IsQuietTarget, eqb_tells}
+use Rattle.std.proofs.Common.{◌≡◌, ◌≢◌, ℕ, ◌+◌, ◌/◌, if◌then◌else◌, ◌==◌, ◌&&◌, Bool, true, false, Option, Some, None}
+use Rattle.std.proofs.Common.{refl, ap, ◌∙◌, inl, inr, ◌⊎◌, subst, ◌||◌}
+use Rattle.egt_steps.specs.Prelude.{Kind, Q, R, B, N, P, K, Man, other_side, Placement, Stands, IsFree, get-insert_same}
+use Rattle.egt_steps.specs.Prelude.{IsHeld, one_man, Setup, IsAdmissible, rank_of, ahead, last_rank, IsOf, IsMoved}
+use Rattle.egt_steps.specs.Prelude.{Zeroes, IsPawnOn, Captures, Goes, Leads, men_left, is_target, is_two_ranks, IsLegal}
+use Rattle.egt_steps.specs.Prelude.{plain, passed, is_pawn, FitsPromotion, Move, IsLegalTarget, IsQuietTarget}
+use Rattle.egt_steps.specs.Prelude.{eqb_tells}
 use Rattle.std.specs.FinMap as map
 use Rattle.egt_board.proofs.Sides.{side_cases}
 

@@ -1,13 +1,14 @@
 -- The captures in passing lead to the three men who are left, and to all positions of them.
-use Rattle.egt_steps.specs.Prelude.{◌≡◌, ◌≢◌, ℕ, ◌<◌, ◌&&◌, if◌then◌else◌, Bool, true, false, Option, Some, None}
-use Rattle.egt_steps.specs.Prelude.{IfSome, refl, sym, ap, ◌∙◌, subst, inl, inr, arith, is_some, cases_eq, eq-eqb}
-use Rattle.egt_steps.specs.Prelude.{IsInCheck, king_of, decided_held, Reaches, other_side, ahead, pawn_of, Placement}
-use Rattle.egt_steps.specs.Prelude.{Stands, IsFree, IsHeld, get-remove_other, get-remove_same, one_man, Setup, rank_of}
-use Rattle.egt_steps.specs.Prelude.{IsTarget, target_rank, Kind, P, K, Man, Side, White, Black, side_twice}
-use Rattle.egt_steps.specs.Prelude.{sides_differ, HasStand, ShelfMen, Stand, Goes, Leads, after, is_target, men_after}
-use Rattle.egt_steps.specs.Prelude.{men_left, FitsPromotion, IsOfficer, arriving, is_pawn, promotes, Move, may_become}
-use Rattle.egt_steps.specs.Prelude.{not_free, target_is, Facts, IsOfFourKinds, IsPassingCapture, IsPassingFrom}
-use Rattle.egt_steps.specs.Prelude.{stand_in, IsClassOf, IsPastKings, Left, left_of, stand_left}
+use Rattle.std.proofs.Common.{◌≡◌, ◌≢◌, ℕ, ◌<◌, ◌&&◌, if◌then◌else◌, Bool, true, false, Option, Some, None, IfSome}
+use Rattle.std.proofs.Common.{refl, sym, ap, ◌∙◌, subst, inl, inr, arith}
+use Rattle.egt_steps.specs.Prelude.{is_some, cases_eq, eq-eqb, IsInCheck, king_of, decided_held, Reaches, other_side}
+use Rattle.egt_steps.specs.Prelude.{ahead, pawn_of, Placement, Stands, IsFree, IsHeld, get-remove_other}
+use Rattle.egt_steps.specs.Prelude.{get-remove_same, one_man, Setup, rank_of, IsTarget, target_rank, Kind, P, K, Man}
+use Rattle.egt_steps.specs.Prelude.{Side, White, Black, side_twice, sides_differ, HasStand, ShelfMen, Stand, Goes}
+use Rattle.egt_steps.specs.Prelude.{Leads, after, is_target, men_after, men_left, FitsPromotion, IsOfficer, arriving}
+use Rattle.egt_steps.specs.Prelude.{is_pawn, promotes, Move, may_become, not_free, target_is, Facts, IsOfFourKinds}
+use Rattle.egt_steps.specs.Prelude.{IsPassingCapture, IsPassingFrom, stand_in, IsClassOf, IsPastKings, Left, left_of}
+use Rattle.egt_steps.specs.Prelude.{stand_left}
 use Rattle.std.specs.FinMap as placement
 use Rattle.egt_steps.proofs.PawnAdvances.{none_of}
 use Rattle.egt_steps.proofs.PawnCaptures.{takes_bare, takes_unpassed}

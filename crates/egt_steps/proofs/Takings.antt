@@ -1,16 +1,16 @@
 -- The captures from a position that promote no pawn and are not in passing lead to the three men who are left, and to all positions of them.
-use Rattle.egt_steps.specs.Prelude.{◌≡◌, ◌≢◌, ℕ, ◌+◌, ◌/◌, ◌<◌, ◌⊎◌, ◌↔◌, ◌&&◌, ◌==◌, if◌then◌else◌, Bool, true, false}
-use Rattle.egt_steps.specs.Prelude.{List, [], ◌∷◌, map, Option, Some, None, IfSome, arith, refl, sym, ap, ◌∙◌, subst}
-use Rattle.egt_steps.specs.Prelude.{inl, inr, bit_at, is_some, option_map, and_parts, cases_eq, false≢true, eqb_tells}
-use Rattle.egt_steps.specs.Prelude.{HasBeside, IsInCheck, king_of, Reaches, Reaches-free, Reaches-on_board, other_side}
-use Rattle.egt_steps.specs.Prelude.{ahead, last_rank, Placement, Stands, IsFree, IsHeld, one_man, same_men}
-use Rattle.egt_steps.specs.Prelude.{get-insert_same, get-insert_other, get-remove_same, get-remove_other, Setup}
-use Rattle.egt_steps.specs.Prelude.{IsAdmissible, rank_of, IsTarget, turned_man, Kind, P, K, Man, Side, White, Black}
-use Rattle.egt_steps.specs.Prelude.{Reaches-target, side_twice, AreNonKings, AreCounted, IsListed, AllStand, HasStand}
-use Rattle.egt_steps.specs.Prelude.{IsOff, list_of, men_among, ShelfMen, Stand, all_there, free_of, counted_turned}
-use Rattle.egt_steps.specs.Prelude.{turned_back, Goes, Leads, after, is_two_ranks, men_after, passed, plain}
-use Rattle.egt_steps.specs.Prelude.{takes_in_passing, FitsPromotion, arriving, is_pawn, promotes, Move, not_two}
-use Rattle.egt_steps.specs.Prelude.{pawn_told, takes_forward_of, two_forward, two_ranks_told, not_passing, IsBesideKing}
+use Rattle.std.proofs.Common.{◌≡◌, ◌≢◌, ℕ, ◌+◌, ◌/◌, ◌<◌, ◌⊎◌, ◌↔◌, ◌&&◌, ◌==◌, if◌then◌else◌, Bool, true, false, List}
+use Rattle.std.proofs.Common.{[], ◌∷◌, map, Option, Some, None, IfSome, arith, refl, sym, ap, ◌∙◌, subst, inl, inr}
+use Rattle.egt_steps.specs.Prelude.{bit_at, is_some, option_map, and_parts, cases_eq, false≢true, eqb_tells, HasBeside}
+use Rattle.egt_steps.specs.Prelude.{IsInCheck, king_of, Reaches, Reaches-free, Reaches-on_board, other_side, ahead}
+use Rattle.egt_steps.specs.Prelude.{last_rank, Placement, Stands, IsFree, IsHeld, one_man, same_men, get-insert_same}
+use Rattle.egt_steps.specs.Prelude.{get-insert_other, get-remove_same, get-remove_other, Setup, IsAdmissible, rank_of}
+use Rattle.egt_steps.specs.Prelude.{IsTarget, turned_man, Kind, P, K, Man, Side, White, Black, Reaches-target}
+use Rattle.egt_steps.specs.Prelude.{side_twice, AreNonKings, AreCounted, IsListed, AllStand, HasStand, IsOff, list_of}
+use Rattle.egt_steps.specs.Prelude.{men_among, ShelfMen, Stand, all_there, free_of, counted_turned, turned_back, Goes}
+use Rattle.egt_steps.specs.Prelude.{Leads, after, is_two_ranks, men_after, passed, plain, takes_in_passing}
+use Rattle.egt_steps.specs.Prelude.{FitsPromotion, arriving, is_pawn, promotes, Move, not_two, pawn_told}
+use Rattle.egt_steps.specs.Prelude.{takes_forward_of, two_forward, two_ranks_told, not_passing, IsBesideKing}
 use Rattle.egt_steps.specs.Prelude.{king_of_men, stand_on, with_king, Facts, IsClassOf, IsPastKings, IsPlainCapture}
 use Rattle.egt_steps.specs.Prelude.{IsTaken, Left, left_of, stand_left}
 use Rattle.std.specs.FinMap as placement

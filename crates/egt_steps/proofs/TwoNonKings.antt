@@ -1,10 +1,11 @@
 -- The kings and two men beside them on their squares.
-use Rattle.egt_steps.specs.Prelude.{◌≡◌, ◌≢◌, ℕ, ◌⊎◌, Bool, true, false, List, [], ◌∷◌, map, Option, Some, None, sym}
-use Rattle.egt_steps.specs.Prelude.{ap, ◌∙◌, subst, inl, inr, is_some, option_map, cases_eq, HasBeside, king_of}
-use Rattle.egt_steps.specs.Prelude.{Placement, Stands, IsFree, one_man, same_men, IsSettled, Setup, IsAdmissible}
-use Rattle.egt_steps.specs.Prelude.{turned_man, K, Man, Side, White, Black, AreNonKings, AreCounted, AllStand, HasStand}
-use Rattle.egt_steps.specs.Prelude.{IsOff, list_of, men_among, ShelfMen, all_there, free_of, counted_turned}
-use Rattle.egt_steps.specs.Prelude.{turned_back, IsClassAfter, IsClassOfTwo, stand_after, stand_in, stand_two}
+use Rattle.std.proofs.Common.{◌≡◌, ◌≢◌, ℕ, ◌⊎◌, Bool, true, false, List, [], ◌∷◌, map, Option, Some, None, sym, ap, ◌∙◌}
+use Rattle.std.proofs.Common.{subst, inl, inr}
+use Rattle.egt_steps.specs.Prelude.{is_some, option_map, cases_eq, HasBeside, king_of, Placement, Stands, IsFree}
+use Rattle.egt_steps.specs.Prelude.{one_man, same_men, IsSettled, Setup, IsAdmissible, turned_man, K, Man, Side, White}
+use Rattle.egt_steps.specs.Prelude.{Black, AreNonKings, AreCounted, AllStand, HasStand, IsOff, list_of, men_among}
+use Rattle.egt_steps.specs.Prelude.{ShelfMen, all_there, free_of, counted_turned, turned_back, IsClassAfter}
+use Rattle.egt_steps.specs.Prelude.{IsClassOfTwo, stand_after, stand_in, stand_two}
 use Rattle.std.specs.FinMap as placement
 
 -- the men beside the kings are counted, by the law of egt_class

@@ -72,12 +72,8 @@ pub use Rattle.egt_steps.specs.QuietTarget.{IsQuietTarget}
 pub use Rattle.egt_steps.specs.Stands.{IsBesideKing, king_of_men, stand_on, with_king}
 pub use Rattle.egt_steps.specs.StepCodes.{moved_stand}
 pub use Rattle.egt_steps.specs.Takings.{IsClassOf, IsPastKings, IsPlainCapture, IsTaken, Left, left_of, stand_left}
-pub use Rattle.std.proofs.Common.{Bool, IfSome, IsTrue, List, None, Option, Some, [], ap, ap₂, arith, cond, eqb, false}
-pub use Rattle.std.proofs.Common.{if◌then◌else◌, inl, inr, ltb, map, not, refl, subst, sym, true, ℕ, ⊎_elim, ◌%◌, ◌&&◌}
-pub use Rattle.std.proofs.Common.{◌*◌, ◌++◌, ◌+◌, ◌/◌, ◌<◌, ◌==◌, ◌||◌, ◌↔◌, ◌∙◌, ◌∷◌, ◌≡◌, ◌≢◌, ◌≤◌, ◌⊎◌}
 pub use Rattle.std.proofs.lemmas.Bool.{and_parts, cases_eq, eq-eqb, false≢true, lt-ltb}
 pub use Rattle.std.proofs.lemmas.Bool.Decides.{eqb_tells}
 pub use Rattle.std.specs.Int.{bit_at}
 pub use Rattle.std.specs.List.{Contains}
 pub use Rattle.std.specs.Option.{is_some, option_map, option_to_list}
-pub use Rattle.std.specs.Prelude.{IsSome}

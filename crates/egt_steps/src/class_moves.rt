@@ -1,6 +1,6 @@
 //! Which classes single moves lead to. This function does nothing: a caller calls it to know what it ensures.
-ghost use Rattle.egt_steps.specs.Prelude.{◌≡◌, ◌<◌, ◌⊎◌, ℕ, Bool, None, IsSome, Contains, Setup, IsAdmissible};
-ghost use Rattle.egt_steps.specs.Prelude.{children_of, IsOf, Captures, Leads, Move};
+ghost use Rattle.std.specs.Prelude.{◌≡◌, ◌<◌, ◌⊎◌, ℕ, Bool, None, IsSome};
+ghost use Rattle.egt_steps.specs.Prelude.{Contains, Setup, IsAdmissible, children_of, IsOf, Captures, Leads, Move};
 
 use egt_board::counting::one_king_is_counted;
 use egt_moves::exchanging::{moves_exchange_men, moves_keep_admissibility};

@@ -1,6 +1,7 @@
 //! The men of positions before and after a step. This function does nothing: a caller calls it to know what it ensures.
-ghost use Rattle.egt_steps.specs.Prelude.{◌≡◌, ◌≢◌, ◌↔◌, ◌<◌, ℕ, Bool, false, other_side, IsFree, Stands, Setup, Man};
-ghost use Rattle.egt_steps.specs.Prelude.{Side, IsListed, HasStand, IsOff, list_of, IsMovedStand, Stand, IsMoved};
+ghost use Rattle.std.specs.Prelude.{◌≡◌, ◌≢◌, ◌↔◌, ◌<◌, ℕ, Bool, false};
+ghost use Rattle.egt_steps.specs.Prelude.{other_side, IsFree, Stands, Setup, Man, Side, IsListed, HasStand, IsOff};
+ghost use Rattle.egt_steps.specs.Prelude.{list_of, IsMovedStand, Stand, IsMoved};
 
 use egt_index::facts::facts;
 

@@ -1,7 +1,8 @@
 //! What holds of single moves. These functions do nothing: a caller calls one to know what it ensures.
-ghost use Rattle.egt_steps.specs.Prelude.{◌≢◌, ◌<◌, ℕ, Bool, false, other_side, Setup, IsAdmissible, K, Side, IsMoved};
-ghost use Rattle.egt_steps.specs.Prelude.{HasStand, ShelfMen, Stand, Zeroes, Leads, Move, IsQuietStand, stand_on};
-ghost use Rattle.egt_steps.specs.Prelude.{IsClassOf, IsPlainCapture, IsTaken, Left, stand_left};
+ghost use Rattle.std.specs.Prelude.{◌≢◌, ◌<◌, ℕ, Bool, false};
+ghost use Rattle.egt_steps.specs.Prelude.{other_side, Setup, IsAdmissible, K, Side, IsMoved, HasStand, ShelfMen, Stand};
+ghost use Rattle.egt_steps.specs.Prelude.{Zeroes, Leads, Move, IsQuietStand, stand_on, IsClassOf, IsPlainCapture};
+ghost use Rattle.egt_steps.specs.Prelude.{IsTaken, Left, stand_left};
 
 use crate::class_moves::moves_lead_into_the_class_or_a_child;
 use crate::code_laws::stands_follow_moves;

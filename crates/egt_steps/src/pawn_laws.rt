@@ -1,6 +1,6 @@
 //! Where the moves of pawns lead, by the men on their squares. These functions do nothing: a caller calls one to know what
 //! it ensures.
-ghost use Rattle.egt_steps.specs.Prelude.{◌≡◌, ◌≢◌, ◌<◌, ◌↔◌, ℕ, Bool, true, false, IsTrue, Option, Some, None};
+ghost use Rattle.std.specs.Prelude.{◌≡◌, ◌≢◌, ◌<◌, ◌↔◌, ℕ, Bool, true, false, IsTrue, Option, Some, None};
 ghost use Rattle.egt_steps.specs.Prelude.{other_side, ahead, IsHeld, SettlesTo, Setup, Kind, P, K, Side, HasStand};
 ghost use Rattle.egt_steps.specs.Prelude.{ShelfMen, Stand, Captures, Leads, arriving, Move, IsOfFourKinds};
 ghost use Rattle.egt_steps.specs.Prelude.{IsPassingCapture, IsPassingFrom, LeavesTarget, IsAdvance, IsAdvanceFrom};

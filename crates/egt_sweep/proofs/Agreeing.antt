@@ -1,5 +1,5 @@
 -- A notion of winning within so many plies that goes by steps is the one that the graph of a class's game counts by its edges and exits.
-use Rattle.egt_sweep.specs.Prelude.{◌≡◌, ℕ, zero, suc, ◌<◌, ◌⊎◌, ◌↔◌, ◌&&◌, not, true, List, [], ◌∷◌, refl, inl, inr}
+use Rattle.std.proofs.Common.{◌≡◌, ℕ, zero, suc, ◌<◌, ◌⊎◌, ◌↔◌, ◌&&◌, not, true, List, [], ◌∷◌, refl, inl, inr}
 use Rattle.egt_sweep.specs.Prelude.{⊎_elim, false≢true, and_parts, list_all, list_any, Setup, IsAdmissible, IsIndex}
 use Rattle.egt_sweep.specs.Prelude.{Value, HasMove, HasValue, chess, IsCheckmate, Graph, is_empty, is_lost_before}
 use Rattle.egt_sweep.specs.Prelude.{is_won_before, has_move, mated_within, mates_within, Exit, Metric, Tables}

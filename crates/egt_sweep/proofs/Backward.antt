@@ -1,10 +1,11 @@
 -- The moves that go on to a position are taken back by its unmoves.
-use Rattle.egt_sweep.specs.Prelude.{◌≡◌, ℕ, ◌<◌, ◌⊎◌, ◌↔◌, Bool, List, IsTrue, IsSome, Option, Some, None, refl, sym}
-use Rattle.egt_sweep.specs.Prelude.{subst, inl, inr, arith, Contains, Decided, tells, tells_so, tells_where, decided_as}
-use Rattle.egt_sweep.specs.Prelude.{decided_on, decided_kind, AreImages, IsSettled, SettlesTo, Setup, IsAdmissible}
-use Rattle.egt_sweep.specs.Prelude.{Placement, Stands, Kind, P, Man, IsOf, Spells, IsIndex, IsVoid, Zeroes, IsPawnOn}
-use Rattle.egt_sweep.specs.Prelude.{Captures, Leads, Move, Metric, Mate, Zeroing, TakesBack, IsUnmove, Unmove, IsAt}
-use Rattle.egt_sweep.specs.Prelude.{GoesOn, Connects, GoesBack, ComesFrom, Laws}
+use Rattle.std.proofs.Common.{◌≡◌, ℕ, ◌<◌, ◌⊎◌, ◌↔◌, Bool, List, IsTrue, IsSome, Option, Some, None, refl, sym, subst}
+use Rattle.std.proofs.Common.{inl, inr, arith}
+use Rattle.egt_sweep.specs.Prelude.{Contains, Decided, tells, tells_so, tells_where, decided_as, decided_on}
+use Rattle.egt_sweep.specs.Prelude.{decided_kind, AreImages, IsSettled, SettlesTo, Setup, IsAdmissible, Placement}
+use Rattle.egt_sweep.specs.Prelude.{Stands, Kind, P, Man, IsOf, Spells, IsIndex, IsVoid, Zeroes, IsPawnOn, Captures}
+use Rattle.egt_sweep.specs.Prelude.{Leads, Move, Metric, Mate, Zeroing, TakesBack, IsUnmove, Unmove, IsAt, GoesOn}
+use Rattle.egt_sweep.specs.Prelude.{Connects, GoesBack, ComesFrom, Laws}
 use Rattle.egt_sweep.proofs.Staying.{no_promotion}
 
 pub decided_pawn : (men : Placement) (s : ℕ) → Decided (IsPawnOn men s)

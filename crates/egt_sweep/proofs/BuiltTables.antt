@@ -1,11 +1,11 @@
 -- Tables made of the ranks of a class's two games are true.
-use Rattle.egt_sweep.specs.Prelude.{◌≡◌, ℕ, zero, suc, ◌<◌, ◌≤◌, None, not, IsTrue, List, length, slice_index, sym, ap}
-use Rattle.egt_sweep.specs.Prelude.{◌∙◌, subst, arith, false≢true, Setup, IsAdmissible, IsIndex, IsVoid, size_of, Value}
-use Rattle.egt_sweep.specs.Prelude.{Win, Loss, Draw, HasValue, chess, HasZeroing, Graph, IsNode, decided_within}
-use Rattle.egt_sweep.specs.Prelude.{entry_of, HasRank, IsWithin, AreRanks, SomeAbove, Exit, Metric, Mate, Zeroing}
-use Rattle.egt_sweep.specs.Prelude.{Column, TableValue, HasColumn, IsTable, entries_of, Shows, Tables, beside, entry_at}
-use Rattle.egt_sweep.specs.Prelude.{Tells, IsTrueTable, IsWithinLimit, AllWithinLimit, class_game, Laws, mate_table}
-use Rattle.egt_sweep.specs.Prelude.{ShowsValues, exit_of}
+use Rattle.std.proofs.Common.{◌≡◌, ℕ, zero, suc, ◌<◌, ◌≤◌, None, not, IsTrue, List, length, slice_index, sym, ap, ◌∙◌}
+use Rattle.std.proofs.Common.{subst, arith}
+use Rattle.egt_sweep.specs.Prelude.{false≢true, Setup, IsAdmissible, IsIndex, IsVoid, size_of, Value, Win, Loss, Draw}
+use Rattle.egt_sweep.specs.Prelude.{HasValue, chess, HasZeroing, Graph, IsNode, decided_within, entry_of, HasRank}
+use Rattle.egt_sweep.specs.Prelude.{IsWithin, AreRanks, SomeAbove, Exit, Metric, Mate, Zeroing, Column, TableValue}
+use Rattle.egt_sweep.specs.Prelude.{HasColumn, IsTable, entries_of, Shows, Tables, beside, entry_at, Tells, IsTrueTable}
+use Rattle.egt_sweep.specs.Prelude.{IsWithinLimit, AllWithinLimit, class_game, Laws, mate_table, ShowsValues, exit_of}
 use Rattle.egt_graph.specs.declared.game.Exit.TheVariants as exits
 use Rattle.egt_table.specs.declared.column.Column.TheVariants as columns
 use Rattle.egt_sweep.proofs.Linked.{node_at, spelled_there, void_is}

@@ -1,8 +1,9 @@
 -- The indexes to which the moves of a list lead, one move after the other.
-use Rattle.egt_sweep.specs.Prelude.{◌≡◌, ℕ, ◌+◌, ◌<◌, ◌≤◌, ◌⊎◌, ◌↔◌, inl, inr, Bool, true, false, IsTrue, List, []}
-use Rattle.egt_sweep.specs.Prelude.{get_or, length, Some, sym, subst, arith, ◌∙◌, Contains, IsStrictlyIncreasing, ⊎_map}
-use Rattle.egt_sweep.specs.Prelude.{cases_lt, false≢true, get_or_default, Setup, IsAdmissible, IsIndex, Leads, IsLegal}
-use Rattle.egt_sweep.specs.Prelude.{Move, Metric, Unmove, IsAt, GoesOn, LeadsOn, Connects, GoesBack, ComesFrom, Laws}
+use Rattle.std.proofs.Common.{◌≡◌, ℕ, ◌+◌, ◌<◌, ◌≤◌, ◌⊎◌, ◌↔◌, inl, inr, Bool, true, false, IsTrue, List, [], get_or}
+use Rattle.std.proofs.Common.{length, Some, sym, subst, arith, ◌∙◌}
+use Rattle.egt_sweep.specs.Prelude.{Contains, IsStrictlyIncreasing, ⊎_map, cases_lt, false≢true, get_or_default, Setup}
+use Rattle.egt_sweep.specs.Prelude.{IsAdmissible, IsIndex, Leads, IsLegal, Move, Metric, Unmove, IsAt, GoesOn, LeadsOn}
+use Rattle.egt_sweep.specs.Prelude.{Connects, GoesBack, ComesFrom, Laws}
 
 -- a listed move is legal
 pub listed_is_legal : (p : Setup) (moves listed : List Move) (n : ℕ) (m : Move) → n < length moves → m ≡ get_or moves n m → moves ≡ listed → ((x : Move) → Contains listed x ↔ IsLegal p x) → IsLegal p m

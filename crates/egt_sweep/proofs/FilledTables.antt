@@ -1,6 +1,7 @@
 -- A table whose entries keep the rules beside the tables at hand is true, and a check accepts it.
-use Rattle.egt_sweep.specs.Prelude.{◌≡◌, ◌↔◌, Some, TableValue, IsTable, IsAccepted, ReachesDown, KeepsRules, Tables}
-use Rattle.egt_sweep.specs.Prelude.{HasChildren, beside, IsTrueTable, HasTrueChildren, Laws}
+use Rattle.std.specs.Prelude.{◌≡◌, ◌↔◌, Some}
+use Rattle.egt_sweep.specs.Prelude.{TableValue, IsTable, IsAccepted, ReachesDown, KeepsRules, Tables, HasChildren}
+use Rattle.egt_sweep.specs.Prelude.{beside, IsTrueTable, HasTrueChildren, Laws}
 use Rattle.egt_sweep.proofs.OutOfClass.{beside_own}
 use Rattle.egt_sweep.proofs.Shown.{beside_children, beside_reach}
 

@@ -1,10 +1,11 @@
 -- A true table with the column of the nearest mates, as its game is solved, is true too.
-use Rattle.egt_sweep.specs.Prelude.{◌≡◌, ℕ, ◌<◌, ◌↔◌, Bool, true, false, Option, Some, None, IsSome, not, List, length}
-use Rattle.egt_sweep.specs.Prelude.{refl, sym, ap, ◌∙◌, false≢true, Setup, IsAdmissible, IsIndex, size_of, Value, chess}
-use Rattle.egt_sweep.specs.Prelude.{HasReach, IsNode, AreNears, HasNear, IsShort, near_entry_of, Metric, Mate, Zeroing}
-use Rattle.egt_sweep.specs.Prelude.{Shows, IsAccepted, ShowsReach, Tables, HasChildren, HasReachChildren, beside}
-use Rattle.egt_sweep.specs.Prelude.{entry_at, Tells, IsTrueReach, IsTrueTable, HasTrueChildren, Column, TableValue}
-use Rattle.egt_sweep.specs.Prelude.{HasColumn, IsTable, entries_of, Laws, reach_game}
+use Rattle.std.proofs.Common.{◌≡◌, ℕ, ◌<◌, ◌↔◌, Bool, true, false, Option, Some, None, IsSome, not, List, length, refl}
+use Rattle.std.proofs.Common.{sym, ap, ◌∙◌}
+use Rattle.egt_sweep.specs.Prelude.{false≢true, Setup, IsAdmissible, IsIndex, size_of, Value, chess, HasReach, IsNode}
+use Rattle.egt_sweep.specs.Prelude.{AreNears, HasNear, IsShort, near_entry_of, Metric, Mate, Zeroing, Shows, IsAccepted}
+use Rattle.egt_sweep.specs.Prelude.{ShowsReach, Tables, HasChildren, HasReachChildren, beside, entry_at, Tells}
+use Rattle.egt_sweep.specs.Prelude.{IsTrueReach, IsTrueTable, HasTrueChildren, Column, TableValue, HasColumn, IsTable}
+use Rattle.egt_sweep.specs.Prelude.{entries_of, Laws, reach_game}
 use Rattle.egt_table.specs.declared.column.Column.TheVariants as columns
 use Rattle.egt_sweep.proofs.Linked.{spelled_there, void_is}
 use Rattle.egt_sweep.proofs.OutOfClass.{beside_own}

@@ -1,14 +1,15 @@
 -- The functions of the graph tell what the relations say: positions, indexes, moves that go on.
-use Rattle.egt_sweep.specs.Prelude.{◌≡◌, ℕ, ◌<◌, ◌≤◌, ◌↔◌, ◌&&◌, not, Bool, true, false, List, [], ◌∷◌, Option, Some}
-use Rattle.egt_sweep.specs.Prelude.{None, refl, sym, ap, ◌∙◌, subst, inl, inr, arith, ⊎_elim, false≢true, and_parts}
-use Rattle.egt_sweep.specs.Prelude.{not-true, eqb-true, eq-eqb, cases_lt, Any-from_list_any, list_any-from_Any}
-use Rattle.egt_sweep.specs.Prelude.{Contains, is_some, Decided, tells, tells_so, tells_where, settled_form, IsTurn}
-use Rattle.egt_sweep.specs.Prelude.{decided_turn, AreImages, SettlesTo, Setup, IsAdmissible, material_of, SpellsBy}
-use Rattle.egt_sweep.specs.Prelude.{Spells, decided_spelled, IsIndex, IsVoid, size_of, passing_below, passing_has}
-use Rattle.egt_sweep.specs.Prelude.{passing_passes, passing_is_below, first_is_least, Laws, Zeroes, decided_zeroes}
-use Rattle.egt_sweep.specs.Prelude.{Leads, moves_of, played, Move, Metric, Mate, Zeroing, IsAt, GoesOn, Connects}
-use Rattle.egt_sweep.specs.Prelude.{spelled_by, spelled, is_turned, first_of, index_in, is_number, has_index, kept_if}
-use Rattle.egt_sweep.specs.Prelude.{position_at, goes_on, leads_on, connects_from, connects}
+use Rattle.std.proofs.Common.{◌≡◌, ℕ, ◌<◌, ◌≤◌, ◌↔◌, ◌&&◌, not, Bool, true, false, List, [], ◌∷◌, Option, Some, None}
+use Rattle.std.proofs.Common.{refl, sym, ap, ◌∙◌, subst, inl, inr, arith}
+use Rattle.egt_sweep.specs.Prelude.{⊎_elim, false≢true, and_parts, not-true, eqb-true, eq-eqb, cases_lt}
+use Rattle.egt_sweep.specs.Prelude.{Any-from_list_any, list_any-from_Any, Contains, is_some, Decided, tells, tells_so}
+use Rattle.egt_sweep.specs.Prelude.{tells_where, settled_form, IsTurn, decided_turn, AreImages, SettlesTo, Setup}
+use Rattle.egt_sweep.specs.Prelude.{IsAdmissible, material_of, SpellsBy, Spells, decided_spelled, IsIndex, IsVoid}
+use Rattle.egt_sweep.specs.Prelude.{size_of, passing_below, passing_has, passing_passes, passing_is_below}
+use Rattle.egt_sweep.specs.Prelude.{first_is_least, Laws, Zeroes, decided_zeroes, Leads, moves_of, played, Move, Metric}
+use Rattle.egt_sweep.specs.Prelude.{Mate, Zeroing, IsAt, GoesOn, Connects, spelled_by, spelled, is_turned, first_of}
+use Rattle.egt_sweep.specs.Prelude.{index_in, is_number, has_index, kept_if, position_at, goes_on, leads_on}
+use Rattle.egt_sweep.specs.Prelude.{connects_from, connects}
 
 module _ (laws : Laws) where
   -- ---- what a code spells

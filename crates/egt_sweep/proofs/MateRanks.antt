@@ -1,10 +1,11 @@
 -- The ranks of the game of mates are the values of the positions.
-use Rattle.egt_sweep.specs.Prelude.{◌≡◌, ◌≢◌, ℕ, zero, suc, ◌<◌, ◌≤◌, ◌↔◌, ◌||◌, Bool, true, false, sym, ap, ◌∙◌, inl}
-use Rattle.egt_sweep.specs.Prelude.{inr, arith, ⊎_elim, false≢true, ltb-true, lt-ltb, cases_lt, Setup, IsAdmissible}
-use Rattle.egt_sweep.specs.Prelude.{IsIndex, Value, Win, Loss, Draw, HasValue, IsMatedWithin, MatesWithin}
-use Rattle.egt_sweep.specs.Prelude.{AvoidsMateFor, CannotMateWithin, chess, is_lost_before, is_won_before, mated_within}
-use Rattle.egt_sweep.specs.Prelude.{mates_within, HasRank, SomeAbove, Exit, Mate, Tables, HasTrueValuesBelow}
-use Rattle.egt_sweep.specs.Prelude.{IsAboveLimit, SomeAboveLimit, class_game, IsAt, Laws, exit_of, Plies}
+use Rattle.std.proofs.Common.{◌≡◌, ◌≢◌, ℕ, zero, suc, ◌<◌, ◌≤◌, ◌↔◌, ◌||◌, Bool, true, false, sym, ap, ◌∙◌, inl, inr}
+use Rattle.std.proofs.Common.{arith}
+use Rattle.egt_sweep.specs.Prelude.{⊎_elim, false≢true, ltb-true, lt-ltb, cases_lt, Setup, IsAdmissible, IsIndex, Value}
+use Rattle.egt_sweep.specs.Prelude.{Win, Loss, Draw, HasValue, IsMatedWithin, MatesWithin, AvoidsMateFor}
+use Rattle.egt_sweep.specs.Prelude.{CannotMateWithin, chess, is_lost_before, is_won_before, mated_within, mates_within}
+use Rattle.egt_sweep.specs.Prelude.{HasRank, SomeAbove, Exit, Mate, Tables, HasTrueValuesBelow, IsAboveLimit}
+use Rattle.egt_sweep.specs.Prelude.{SomeAboveLimit, class_game, IsAt, Laws, exit_of, Plies}
 use Rattle.egt_sweep.proofs.Agreeing.{GoesBySteps, agree}
 use Rattle.egt_sweep.proofs.Linked.{node_at}
 use Rattle.egt_sweep.proofs.Members.{either}

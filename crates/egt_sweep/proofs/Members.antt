@@ -1,7 +1,8 @@
 -- Members of lists, one by one.
-use Rattle.egt_sweep.specs.Prelude.{◌≡◌, zero, suc, ◌⊎◌, ◌&&◌, ◌||◌, Bool, true, false, List, [], ◌∷◌, ◌++◌, Option}
-use Rattle.egt_sweep.specs.Prelude.{Some, None, refl, sym, ◌∙◌, subst, inl, inr, arith, ⊎_elim, ⊎_map, false≢true}
-use Rattle.egt_sweep.specs.Prelude.{and_parts, Contains, list_all, list_any, flat_map, option_to_list}
+use Rattle.std.proofs.Common.{◌≡◌, zero, suc, ◌⊎◌, ◌&&◌, ◌||◌, Bool, true, false, List, [], ◌∷◌, ◌++◌, Option, Some}
+use Rattle.std.proofs.Common.{None, refl, sym, ◌∙◌, subst, inl, inr, arith}
+use Rattle.egt_sweep.specs.Prelude.{⊎_elim, ⊎_map, false≢true, and_parts, Contains, list_all, list_any, flat_map}
+use Rattle.egt_sweep.specs.Prelude.{option_to_list}
 
 abbrev pub In : {X : Type 0} → X → List X → Type 0
 In x [] = ⊥

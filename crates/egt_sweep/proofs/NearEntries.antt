@@ -1,7 +1,8 @@
 -- The entries of the column of the nearest mates, read as mate entries.
-use Rattle.egt_sweep.specs.Prelude.{◌≡◌, ℕ, zero, suc, ◌≤◌, List, [], ◌∷◌, map, Option, Some, None, IsSome, slice_index}
-use Rattle.egt_sweep.specs.Prelude.{refl, ap, ◌∙◌, arith, false≢true, Value, Loss, Draw, Shows, near_entry, near_if}
-use Rattle.egt_sweep.specs.Prelude.{near_of, near_table, near_tables, ShowsReach, Tables, TableValue, entries_or_none}
+use Rattle.std.proofs.Common.{◌≡◌, ℕ, zero, suc, ◌≤◌, List, [], ◌∷◌, map, Option, Some, None, IsSome, slice_index, refl}
+use Rattle.std.proofs.Common.{ap, ◌∙◌, arith}
+use Rattle.egt_sweep.specs.Prelude.{false≢true, Value, Loss, Draw, Shows, near_entry, near_if, near_of, near_table}
+use Rattle.egt_sweep.specs.Prelude.{near_tables, ShowsReach, Tables, TableValue, entries_or_none}
 
 -- how far the nearest mate is, told as a loss in as many plies, and as a draw where there is none
 abbrev pub near_of_entry : Option ℕ → Value

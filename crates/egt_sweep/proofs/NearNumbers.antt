@@ -1,12 +1,12 @@
 -- The numbers of the game of the nearest mates are how far the nearest checkmates are from the positions.
-use Rattle.egt_sweep.specs.Prelude.{◌≡◌, ℕ, zero, suc, ◌<◌, ◌≤◌, ◌↔◌, ◌||◌, Bool, true, List, [], ◌∷◌, map, Option}
-use Rattle.egt_sweep.specs.Prelude.{Some, None, refl, sym, ap, ◌∙◌, subst, inl, inr, arith, ⊎_elim, false≢true}
-use Rattle.egt_sweep.specs.Prelude.{ltb-true, lt-ltb, cases_lt, Contains, list_any, AreImages, Setup, IsAdmissible}
-use Rattle.egt_sweep.specs.Prelude.{children_of, IsOf, IsIndex, Value, Win, Loss, Draw, SomeMove, chess, HasReach}
-use Rattle.egt_sweep.specs.Prelude.{ReachesMateWithin, IsCheckmate, Graph, HasNear, SomeFar, is_near_exit, near_within}
-use Rattle.egt_sweep.specs.Prelude.{Exit, Mate, longest, near_entry, near_table, near_tables, read, read_shown, Tables}
-use Rattle.egt_sweep.specs.Prelude.{reach_at, HasTrueReachesBelow, entries_or_none, SomeReachesFar, GoesOn, Laws}
-use Rattle.egt_sweep.specs.Prelude.{exit_of, exits_at, shown_below, as_win, reach_game}
+use Rattle.std.proofs.Common.{◌≡◌, ℕ, zero, suc, ◌<◌, ◌≤◌, ◌↔◌, ◌||◌, Bool, true, List, [], ◌∷◌, map, Option, Some}
+use Rattle.std.proofs.Common.{None, refl, sym, ap, ◌∙◌, subst, inl, inr, arith}
+use Rattle.egt_sweep.specs.Prelude.{⊎_elim, false≢true, ltb-true, lt-ltb, cases_lt, Contains, list_any, AreImages}
+use Rattle.egt_sweep.specs.Prelude.{Setup, IsAdmissible, children_of, IsOf, IsIndex, Value, Win, Loss, Draw, SomeMove}
+use Rattle.egt_sweep.specs.Prelude.{chess, HasReach, ReachesMateWithin, IsCheckmate, Graph, HasNear, SomeFar}
+use Rattle.egt_sweep.specs.Prelude.{is_near_exit, near_within, Exit, Mate, longest, near_entry, near_table, near_tables}
+use Rattle.egt_sweep.specs.Prelude.{read, read_shown, Tables, reach_at, HasTrueReachesBelow, entries_or_none}
+use Rattle.egt_sweep.specs.Prelude.{SomeReachesFar, GoesOn, Laws, exit_of, exits_at, shown_below, as_win, reach_game}
 use Rattle.egt_sweep.proofs.Linked.{node_at}
 use Rattle.egt_sweep.proofs.Members.{In, any_in, in_any, either, or_left, or_right}
 use Rattle.egt_sweep.proofs.NearEntries.{near_found, near_shown, near_of_entry, slice_near}

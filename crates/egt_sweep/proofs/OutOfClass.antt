@@ -1,12 +1,12 @@
 -- What is told of where the moves that leave a class lead.
-use Rattle.egt_sweep.specs.Prelude.{◌≡◌, ◌≢◌, ℕ, zero, suc, ◌-◌, ◌/◌, ◌%◌, ◌<◌, ◌≤◌, Bool, true, false, List}
-use Rattle.egt_sweep.specs.Prelude.{if◌then◌else◌, Option, Some, None, IsSome, IfSome, eqb, refl, sym, ap, ◌∙◌, subst}
-use Rattle.egt_sweep.specs.Prelude.{inl, inr, arith, ⊎_elim, cases_eq, eqb-true, eq-eqb, Contains, is_some, option_map}
-use Rattle.egt_sweep.specs.Prelude.{Setup, IsAdmissible, children_of, IsOf, IsIndex, Value, Win, Loss, Draw, Zeroes}
-use Rattle.egt_sweep.specs.Prelude.{Leads, played, Move, Metric, Mate, TableValue, Shows, read, read_shown, Tables}
-use Rattle.egt_sweep.specs.Prelude.{entry_at, beside, HasChildren, near_if, near_of, near_tables, metric_of, known}
-use Rattle.egt_sweep.specs.Prelude.{Knows, GoesOn, mate_table, Objective, Laws, index_in, plies_left, exit_of, shown_in}
-use Rattle.egt_sweep.specs.Prelude.{shown_below, or_else, goes_on, exit_by}
+use Rattle.std.proofs.Common.{◌≡◌, ◌≢◌, ℕ, zero, suc, ◌-◌, ◌/◌, ◌%◌, ◌<◌, ◌≤◌, Bool, true, false, List, if◌then◌else◌}
+use Rattle.std.proofs.Common.{Option, Some, None, IsSome, IfSome, eqb, refl, sym, ap, ◌∙◌, subst, inl, inr, arith}
+use Rattle.egt_sweep.specs.Prelude.{⊎_elim, cases_eq, eqb-true, eq-eqb, Contains, is_some, option_map, Setup}
+use Rattle.egt_sweep.specs.Prelude.{IsAdmissible, children_of, IsOf, IsIndex, Value, Win, Loss, Draw, Zeroes, Leads}
+use Rattle.egt_sweep.specs.Prelude.{played, Move, Metric, Mate, TableValue, Shows, read, read_shown, Tables, entry_at}
+use Rattle.egt_sweep.specs.Prelude.{beside, HasChildren, near_if, near_of, near_tables, metric_of, known, Knows, GoesOn}
+use Rattle.egt_sweep.specs.Prelude.{mate_table, Objective, Laws, index_in, plies_left, exit_of, shown_in, shown_below}
+use Rattle.egt_sweep.specs.Prelude.{or_else, goes_on, exit_by}
 use Rattle.egt_graph.specs.declared.game.Exit.TheVariants as exits
 use Rattle.egt_sweep.specs.declared.objective.Objective.TheVariants as objectives
 use Rattle.egt_sweep.proofs.Linked.{index_is, goes_is}

@@ -1,8 +1,8 @@
 -- Mate entries that are known of a class before its table is made.
-use Rattle.egt_sweep.specs.Prelude.{◌≡◌, ℕ, ◌<◌, Bool, List, length, slice_index, Option, Some, None, IsSome, IfSome}
-use Rattle.egt_sweep.specs.Prelude.{sym, ap, ◌∙◌, subst, arith, false≢true, Setup, IsAdmissible, IsOf, IsIndex, size_of}
-use Rattle.egt_sweep.specs.Prelude.{Value, Mate, TableValue, Shows, in_range, read, Tables, entry_at, Laws, IsIndexed}
-use Rattle.egt_sweep.specs.Prelude.{IsMateColumn, shown_below}
+use Rattle.std.proofs.Common.{◌≡◌, ℕ, ◌<◌, Bool, List, length, slice_index, Option, Some, None, IsSome, IfSome, sym, ap}
+use Rattle.std.proofs.Common.{◌∙◌, subst, arith}
+use Rattle.egt_sweep.specs.Prelude.{false≢true, Setup, IsAdmissible, IsOf, IsIndex, size_of, Value, Mate, TableValue}
+use Rattle.egt_sweep.specs.Prelude.{Shows, in_range, read, Tables, entry_at, Laws, IsIndexed, IsMateColumn, shown_below}
 use Rattle.egt_sweep.proofs.Linked.{spelled_there}
 use Rattle.egt_sweep.proofs.OutOfClass.{shown_is}
 

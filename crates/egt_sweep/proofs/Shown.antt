@@ -1,5 +1,5 @@
 -- What true tables show of positions is their value.
-use Rattle.egt_sweep.specs.Prelude.{◌≡◌, ◌≢◌, ℕ, ◌<◌, Bool, Option, Some, IfSome, IsSome, sym, ◌∙◌, subst, arith}
+use Rattle.std.proofs.Common.{◌≡◌, ◌≢◌, ℕ, ◌<◌, Bool, Option, Some, IfSome, IsSome, sym, ◌∙◌, subst, arith}
 use Rattle.egt_sweep.specs.Prelude.{⊎_elim, Contains, Setup, IsAdmissible, children_of, IsOf, IsIndex, Value, HasValue}
 use Rattle.egt_sweep.specs.Prelude.{chess, Leads, Move, Mate, Zeroing, TableValue, read_shown, Tables, beside, entry_at}
 use Rattle.egt_sweep.specs.Prelude.{HasReachChildren, HasTrueChildren, HasTrueValuesBelow, Laws, ShowsValues}

@@ -1,9 +1,10 @@
 -- Positions at nodes, as the graph's tests tell them.
-use Rattle.egt_sweep.specs.Prelude.{◌≡◌, ℕ, ◌<◌, ◌⊎◌, ◌↔◌, not, Bool, true, false, List, Option, Some, None, IfSome}
-use Rattle.egt_sweep.specs.Prelude.{IfNone, IsFalse, refl, sym, ap, ◌∙◌, subst, inl, inr, is_some, Contains}
-use Rattle.egt_sweep.specs.Prelude.{IsStrictlyIncreasing, Decided, tells, tells_where, Setup, Spells, IsIndex, IsVoid}
-use Rattle.egt_sweep.specs.Prelude.{size_of, decided_checkmate, IsCheckmate, StandsAs, Standing, passing_below}
-use Rattle.egt_sweep.specs.Prelude.{passing_is, Metric, IsAt, Connects, Laws, position_at, is_mated, connects}
+use Rattle.std.proofs.Common.{◌≡◌, ℕ, ◌<◌, ◌⊎◌, ◌↔◌, not, Bool, true, false, List, Option, Some, None, IfSome, IfNone}
+use Rattle.std.proofs.Common.{IsFalse, refl, sym, ap, ◌∙◌, subst, inl, inr}
+use Rattle.egt_sweep.specs.Prelude.{is_some, Contains, IsStrictlyIncreasing, Decided, tells, tells_where, Setup, Spells}
+use Rattle.egt_sweep.specs.Prelude.{IsIndex, IsVoid, size_of, decided_checkmate, IsCheckmate, StandsAs, Standing}
+use Rattle.egt_sweep.specs.Prelude.{passing_below, passing_is, Metric, IsAt, Connects, Laws, position_at, is_mated}
+use Rattle.egt_sweep.specs.Prelude.{connects}
 use Rattle.egt_moves.specs.declared.outcome.Standing.TheVariants.{Stalemate, HasMove}
 use Rattle.egt_sweep.proofs.Linked.{position_is, void_is, there_is, node_at, connects_is}
 

@@ -1,9 +1,9 @@
 -- Which moves stay in a class.
-use Rattle.egt_sweep.specs.Prelude.{◌≡◌, ℕ, ◌<◌, ◌↔◌, not, Bool, true, false, Option, Some, None, IsTrue, eqb, refl}
-use Rattle.egt_sweep.specs.Prelude.{sym, subst, ◌∙◌, inl, inr, false≢true, and_parts, eqb-true, eq-eqb, Setup}
-use Rattle.egt_sweep.specs.Prelude.{IsAdmissible, Kind, Q, R, B, N, P, K, last_rank, rank_of, IsOf, IsIndex, Zeroes}
-use Rattle.egt_sweep.specs.Prelude.{IsPawnOn, Captures, Leads, FitsPromotion, promotes, is_pawn, Move, Metric, Mate}
-use Rattle.egt_sweep.specs.Prelude.{Zeroing, GoesOn, Laws}
+use Rattle.std.proofs.Common.{◌≡◌, ℕ, ◌<◌, ◌↔◌, not, Bool, true, false, Option, Some, None, IsTrue, eqb, refl, sym}
+use Rattle.std.proofs.Common.{subst, ◌∙◌, inl, inr}
+use Rattle.egt_sweep.specs.Prelude.{false≢true, and_parts, eqb-true, eq-eqb, Setup, IsAdmissible, Kind, Q, R, B, N, P}
+use Rattle.egt_sweep.specs.Prelude.{K, last_rank, rank_of, IsOf, IsIndex, Zeroes, IsPawnOn, Captures, Leads}
+use Rattle.egt_sweep.specs.Prelude.{FitsPromotion, promotes, is_pawn, Move, Metric, Mate, Zeroing, GoesOn, Laws}
 
 -- a test of what does not hold
 pub does_not_zero : {Z : Type 0} (b : Bool) → (IsTrue b ↔ Z) → IsTrue (not b) ↔ ¬ Z

@@ -1,11 +1,12 @@
 -- The edges and the exits of a class's game are the steps of play.
-use Rattle.egt_sweep.specs.Prelude.{◌≡◌, ℕ, ◌<◌, ◌⊎◌, ◌↔◌, if◌then◌else◌, Bool, true, false, Option, Some, None, refl}
-use Rattle.egt_sweep.specs.Prelude.{sym, ap, ◌∙◌, subst, inl, inr, ⊎_elim, false≢true, tells, tells_so, tells_where}
-use Rattle.egt_sweep.specs.Prelude.{AreImages, Setup, IsAdmissible, IsOf, Spells, IsIndex, IsVoid, size_of, Value}
-use Rattle.egt_sweep.specs.Prelude.{chess, Zeroes, decided_checkmate, Leads, moves_of, played, IsCheckmate, Move, Graph}
-use Rattle.egt_sweep.specs.Prelude.{passing_has, passing_passes, Exit, Metric, Mate, Zeroing, Tables, class_game, IsAt}
-use Rattle.egt_sweep.specs.Prelude.{GoesOn, Connects, Laws, position_at, is_mated, connects, goes_on, exit_of, exit_by}
-use Rattle.egt_sweep.specs.Prelude.{exits_at, exits_from, shown_below}
+use Rattle.std.proofs.Common.{◌≡◌, ℕ, ◌<◌, ◌⊎◌, ◌↔◌, if◌then◌else◌, Bool, true, false, Option, Some, None, refl, sym}
+use Rattle.std.proofs.Common.{ap, ◌∙◌, subst, inl, inr}
+use Rattle.egt_sweep.specs.Prelude.{⊎_elim, false≢true, tells, tells_so, tells_where, AreImages, Setup, IsAdmissible}
+use Rattle.egt_sweep.specs.Prelude.{IsOf, Spells, IsIndex, IsVoid, size_of, Value, chess, Zeroes, decided_checkmate}
+use Rattle.egt_sweep.specs.Prelude.{Leads, moves_of, played, IsCheckmate, Move, Graph, passing_has, passing_passes}
+use Rattle.egt_sweep.specs.Prelude.{Exit, Metric, Mate, Zeroing, Tables, class_game, IsAt, GoesOn, Connects, Laws}
+use Rattle.egt_sweep.specs.Prelude.{position_at, is_mated, connects, goes_on, exit_of, exit_by, exits_at, exits_from}
+use Rattle.egt_sweep.specs.Prelude.{shown_below}
 use Rattle.egt_sweep.proofs.Backward.{image_index}
 use Rattle.egt_sweep.proofs.Linked.{position_is, goes_is, connects_is}
 use Rattle.egt_sweep.proofs.Members.{In, contains_in, in_contains, in_given, given_in}

@@ -1,6 +1,7 @@
 -- The tables of a class's children are true, as a library says of each table that it has.
-use Rattle.egt_sweep.specs.Prelude.{◌≡◌, ℕ, Option, Some, None, IsSome, IfSome, refl, sym, false≢true, TableValue}
-use Rattle.egt_sweep.specs.Prelude.{Tables, HasChildren, IsTrueTable, HasTrueChildren, HasNoFalseChild}
+use Rattle.std.proofs.Common.{◌≡◌, ℕ, Option, Some, None, IsSome, IfSome, refl, sym}
+use Rattle.egt_sweep.specs.Prelude.{false≢true, TableValue, Tables, HasChildren, IsTrueTable, HasTrueChildren}
+use Rattle.egt_sweep.specs.Prelude.{HasNoFalseChild}
 
 of_table : (d : ℕ) (o x : Option TableValue) → o ≡ x → IsSome o → IfSome o (λ t. (t.class ≡ d) × IsTrueTable t) → (t : TableValue) × (x ≡ Some t) × (t.class ≡ d) × IsTrueTable t
 of_table d None x e some told = absurd (false≢true some)

@@ -1,8 +1,8 @@
 -- Whether the mates of a true table are within a limit.
-use Rattle.egt_sweep.specs.Prelude.{◌≡◌, ℕ, ◌+◌, ◌*◌, ◌<◌, ◌≤◌, ◌⊎◌, inl, inr, subst, arith, Setup, IsAdmissible}
-use Rattle.egt_sweep.specs.Prelude.{Spells, IsIndex, IsVoid, size_of, Value, Win, Loss, Draw, HasValue, chess, Shows}
-use Rattle.egt_sweep.specs.Prelude.{entry_at, IsTrueTable, Mate, TableValue, AllWithinLimit, IsAboveLimit}
-use Rattle.egt_sweep.specs.Prelude.{IsWithinLimit, SomeAboveLimit, Laws}
+use Rattle.std.proofs.Common.{◌≡◌, ℕ, ◌+◌, ◌*◌, ◌<◌, ◌≤◌, ◌⊎◌, inl, inr, subst, arith}
+use Rattle.egt_sweep.specs.Prelude.{Setup, IsAdmissible, Spells, IsIndex, IsVoid, size_of, Value, Win, Loss, Draw}
+use Rattle.egt_sweep.specs.Prelude.{HasValue, chess, Shows, entry_at, IsTrueTable, Mate, TableValue, AllWithinLimit}
+use Rattle.egt_sweep.specs.Prelude.{IsAboveLimit, IsWithinLimit, SomeAboveLimit, Laws}
 
 shown_within : (x limit : ℕ) (v : Value) → Shows x v → x ≤ 3 + 2 * limit → IsWithinLimit limit v
 shown_within x limit (Win n) shows le = omega (arith, shows.1, le)

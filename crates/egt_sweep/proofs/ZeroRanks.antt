@@ -1,13 +1,14 @@
 -- The ranks of the game of zeroing moves are the zeroing distances of the positions.
-use Rattle.egt_sweep.specs.Prelude.{◌≡◌, ℕ, zero, suc, ◌<◌, ◌≤◌, ◌⊎◌, ◌↔◌, Bool, true, IsTrue, Option, Some, None, refl}
-use Rattle.egt_sweep.specs.Prelude.{sym, ap, ◌∙◌, subst, inl, inr, arith, ⊎_elim, false≢true, lt-ltb, Decided, tells}
-use Rattle.egt_sweep.specs.Prelude.{tells_so, tells_where, decided_admissible, Setup, IsAdmissible, IsIndex, Value, Win}
-use Rattle.egt_sweep.specs.Prelude.{Loss, Draw, HasMove, SomeMove, IsStalemate, HasValue, IsWon, IsLost, IsMatedWithin}
-use Rattle.egt_sweep.specs.Prelude.{MatesWithin, AvoidsMateFor, CannotMateWithin, chess, Zeroes, decided_zeroes, Fits}
-use Rattle.egt_sweep.specs.Prelude.{JudgedOver, HasZeroing, ZeroesLosingWithin, ZeroesWinningWithin, is_lost_before}
-use Rattle.egt_sweep.specs.Prelude.{is_won_before, mated_within, mates_within, decided_within, HasRank, Exit, Mate}
-use Rattle.egt_sweep.specs.Prelude.{Zeroing, TableValue, Tables, HasTrueValuesBelow, IsWithinLimit, class_game, GoesOn}
-use Rattle.egt_sweep.specs.Prelude.{Laws, ShowsValues, index_in, exit_of, shown_below, Plies}
+use Rattle.std.proofs.Common.{◌≡◌, ℕ, zero, suc, ◌<◌, ◌≤◌, ◌⊎◌, ◌↔◌, Bool, true, IsTrue, Option, Some, None, refl, sym}
+use Rattle.std.proofs.Common.{ap, ◌∙◌, subst, inl, inr, arith}
+use Rattle.egt_sweep.specs.Prelude.{⊎_elim, false≢true, lt-ltb, Decided, tells, tells_so, tells_where}
+use Rattle.egt_sweep.specs.Prelude.{decided_admissible, Setup, IsAdmissible, IsIndex, Value, Win, Loss, Draw, HasMove}
+use Rattle.egt_sweep.specs.Prelude.{SomeMove, IsStalemate, HasValue, IsWon, IsLost, IsMatedWithin, MatesWithin}
+use Rattle.egt_sweep.specs.Prelude.{AvoidsMateFor, CannotMateWithin, chess, Zeroes, decided_zeroes, Fits, JudgedOver}
+use Rattle.egt_sweep.specs.Prelude.{HasZeroing, ZeroesLosingWithin, ZeroesWinningWithin, is_lost_before, is_won_before}
+use Rattle.egt_sweep.specs.Prelude.{mated_within, mates_within, decided_within, HasRank, Exit, Mate, Zeroing}
+use Rattle.egt_sweep.specs.Prelude.{TableValue, Tables, HasTrueValuesBelow, IsWithinLimit, class_game, GoesOn, Laws}
+use Rattle.egt_sweep.specs.Prelude.{ShowsValues, index_in, exit_of, shown_below, Plies}
 use Rattle.egt_sweep.proofs.Agreeing.{GoesBySteps, agree}
 use Rattle.egt_sweep.proofs.Linked.{index_is}
 use Rattle.egt_sweep.proofs.Members.{either, or_left, or_right}

@@ -76,10 +76,6 @@ pub use Rattle.egt_table.specs.Table.{HasColumn, IsTable, TableValue, entries_of
 pub use Rattle.egt_table.specs.declared.column.Column.{Column}
 pub use Rattle.egt_unmoves.specs.Unmoves.{IsUnmove, TakesBack}
 pub use Rattle.egt_unmoves.specs.declared.unmove.Unmove.{Unmove}
-pub use Rattle.std.proofs.Common.{Bool, Err, IfNone, IfSome, IsSome, IsTrue, List, None, Ok, Option, Result, Some, []}
-pub use Rattle.std.proofs.Common.{ap, arith, eqb, false, get_or, if◌then◌else◌, inl, inr, length, map, not, refl, rules}
-pub use Rattle.std.proofs.Common.{slice_index, subst, suc, sym, take, true, zero, ℕ, ◌%◌, ◌&&◌, ◌*◌, ◌++◌, ◌-◌, ◌/◌}
-pub use Rattle.std.proofs.Common.{◌<◌, ◌||◌, ◌↔◌, ◌∙◌, ◌∷◌, ◌≡◌, ◌≢◌, ◌≤◌, ◌⊎◌}
 pub use Rattle.std.proofs.Math.Logic.{⊎_elim, ⊎_map}
 pub use Rattle.std.proofs.lemmas.Bool.{and_parts, cases_eq, cases_lt, eq-eqb, eqb-true, false≢true, lt-ltb, ltb-true}
 pub use Rattle.std.proofs.lemmas.Bool.{not-true}
@@ -91,4 +87,3 @@ pub use Rattle.std.proofs.lemmas.List.Kept.{AllPairs-from_increasing}
 pub use Rattle.std.specs.List.{Contains, flat_map, insert, list_all, list_any}
 pub use Rattle.std.specs.List.Sorted.{IsStrictlyIncreasing}
 pub use Rattle.std.specs.Option.{is_some, option_map, option_to_list}
-pub use Rattle.std.specs.Prelude.{IfErr, IfOk, IsFalse, ◌+◌}

@@ -1,8 +1,8 @@
 //! The builder of tables.
-ghost use Rattle.egt_sweep.specs.Prelude.{◌≡◌, ◌≤◌, ℕ, Some, length, IfOk, IfErr, IfSome, IsSome, AreNears, AreRanks};
-ghost use Rattle.egt_sweep.specs.Prelude.{size_of, Mate, Zeroing, table_at, beside, HasChildren, HasReachChildren};
-ghost use Rattle.egt_sweep.specs.Prelude.{IsTrueTable, AllWithinLimit, IsBuilt, IsNotBuilt, HasNoFalseChild};
-ghost use Rattle.egt_sweep.specs.Prelude.{SomeReachesFar, class_game, mate_table, reach_game};
+ghost use Rattle.std.specs.Prelude.{◌≡◌, ◌≤◌, ℕ, Some, length, IfOk, IfErr, IfSome, IsSome};
+ghost use Rattle.egt_sweep.specs.Prelude.{AreNears, AreRanks, size_of, Mate, Zeroing, table_at, beside, HasChildren};
+ghost use Rattle.egt_sweep.specs.Prelude.{HasReachChildren, IsTrueTable, AllWithinLimit, IsBuilt, IsNotBuilt};
+ghost use Rattle.egt_sweep.specs.Prelude.{HasNoFalseChild, SomeReachesFar, class_game, mate_table, reach_game};
 
 use crate::build_fault::BuildFault;
 use crate::filling::filled;

@@ -1,6 +1,6 @@
 //! The moves that go on in a class's game.
-ghost use Rattle.egt_sweep.specs.Prelude.{◌≡◌, ◌↔◌, ◌+◌, ◌≤◌, ◌<◌, ◌⊎◌, ℕ, Bool, IsTrue, Contains};
-ghost use Rattle.egt_sweep.specs.Prelude.{IsStrictlyIncreasing, array_vec_len, AreMenOf, Setup, IsOf, Leads};
+ghost use Rattle.std.specs.Prelude.{◌≡◌, ◌↔◌, ◌+◌, ◌≤◌, ◌<◌, ◌⊎◌, ℕ, Bool, IsTrue};
+ghost use Rattle.egt_sweep.specs.Prelude.{Contains, IsStrictlyIncreasing, array_vec_len, AreMenOf, Setup, IsOf, Leads};
 ghost use Rattle.egt_sweep.specs.Prelude.{IsLegal, IsAt, GoesOn, LeadsOn, Connects};
 
 use crate::ascending::put;

@@ -1,9 +1,9 @@
 //! What the moves that leave a game are worth in it.
-ghost use Rattle.egt_sweep.specs.Prelude.{◌≡◌, ◌+◌, ◌++◌, ◌≤◌, ◌<◌, ℕ, Bool, Some, IsSome, IfSome, option_to_list};
-ghost use Rattle.egt_sweep.specs.Prelude.{array_vec_len, AreMenOf, Setup, IsAdmissible, IsOf, IsIndex, Value, IsLegal};
-ghost use Rattle.egt_sweep.specs.Prelude.{played, Mate, Shows, near_tables, read, table_at, entry_at, HasChildren};
-ghost use Rattle.egt_sweep.specs.Prelude.{metric_of, known, Knows, IsIndexed, plies_left, exit_of, shown_below, exit_by};
-ghost use Rattle.egt_sweep.specs.Prelude.{exits_from};
+ghost use Rattle.std.specs.Prelude.{◌≡◌, ◌+◌, ◌++◌, ◌≤◌, ◌<◌, ℕ, Bool, Some, IsSome, IfSome};
+ghost use Rattle.egt_sweep.specs.Prelude.{option_to_list, array_vec_len, AreMenOf, Setup, IsAdmissible, IsOf, IsIndex};
+ghost use Rattle.egt_sweep.specs.Prelude.{Value, IsLegal, played, Mate, Shows, near_tables, read, table_at, entry_at};
+ghost use Rattle.egt_sweep.specs.Prelude.{HasChildren, metric_of, known, Knows, IsIndexed, plies_left, exit_of};
+ghost use Rattle.egt_sweep.specs.Prelude.{shown_below, exit_by, exits_from};
 
 use crate::edges::goes_on;
 use crate::laws::laws;

@@ -1,6 +1,6 @@
 //! Tables filled by blocks, where no game is solved.
-ghost use Rattle.egt_sweep.specs.Prelude.{◌≡◌, IfOk, IfErr, IfSome, IsSome, table_at, HasChildren, HasReachChildren};
-ghost use Rattle.egt_sweep.specs.Prelude.{IsTrueTable};
+ghost use Rattle.std.specs.Prelude.{◌≡◌, IfOk, IfErr, IfSome, IsSome};
+ghost use Rattle.egt_sweep.specs.Prelude.{table_at, HasChildren, HasReachChildren, IsTrueTable};
 ghost use Rattle.egt_sweep.specs.declared.build_fault.BuildFault.TheVariants as faults;
 
 use crate::build_fault::BuildFault;

@@ -1,6 +1,6 @@
 //! Whether the mates of a true table are within a limit.
-ghost use Rattle.egt_sweep.specs.Prelude.{◌≡◌, ◌+◌, ◌*◌, ◌≤◌, ◌<◌, ℕ, IfOk, IfErr, IfSome, IfNone, entry_at};
-ghost use Rattle.egt_sweep.specs.Prelude.{IsTrueTable, Mate, size_of, AllWithinLimit, SomeAboveLimit};
+ghost use Rattle.std.specs.Prelude.{◌≡◌, ◌+◌, ◌*◌, ◌≤◌, ◌<◌, ℕ, IfOk, IfErr, IfSome, IfNone};
+ghost use Rattle.egt_sweep.specs.Prelude.{entry_at, IsTrueTable, Mate, size_of, AllWithinLimit, SomeAboveLimit};
 ghost use Rattle.egt_sweep.specs.declared.build_fault.BuildFault.TheVariants as faults;
 
 use crate::build_fault::BuildFault;

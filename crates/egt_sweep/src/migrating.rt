@@ -1,6 +1,6 @@
 //! Tables without the column of the nearest mates get it.
-ghost use Rattle.egt_sweep.specs.Prelude.{◌≡◌, None, IfOk, IfErr, IsAccepted, table_at, HasReachChildren, IsMigrated};
-ghost use Rattle.egt_sweep.specs.Prelude.{IsNotMigrated};
+ghost use Rattle.std.specs.Prelude.{◌≡◌, None, IfOk, IfErr};
+ghost use Rattle.egt_sweep.specs.Prelude.{IsAccepted, table_at, HasReachChildren, IsMigrated, IsNotMigrated};
 
 use crate::building::{children_are_true, reach_column};
 use crate::laws::laws;

@@ -1,6 +1,7 @@
 //! The nodes of a class's game.
-ghost use Rattle.egt_sweep.specs.Prelude.{◌≡◌, not, IsFalse, is_some, size_of, passing_below, table_at, HasChildren};
-ghost use Rattle.egt_sweep.specs.Prelude.{metric_of, known, Knows, IsAt, position_at, is_mated, connects, exits_at};
+ghost use Rattle.std.specs.Prelude.{◌≡◌, not, IsFalse};
+ghost use Rattle.egt_sweep.specs.Prelude.{is_some, size_of, passing_below, table_at, HasChildren, metric_of, known};
+ghost use Rattle.egt_sweep.specs.Prelude.{Knows, IsAt, position_at, is_mated, connects, exits_at};
 
 use crate::edges::edges;
 use crate::exits::exits_of;

@@ -1,9 +1,10 @@
 //! What the ranks of games mean. These functions do nothing: a caller calls one to know what it ensures.
-ghost use Rattle.egt_sweep.specs.Prelude.{ℕ, ◌<◌, Option, IsTrue, Setup, IsAdmissible, IsIndex, Value, HasValue, chess};
-ghost use Rattle.egt_sweep.specs.Prelude.{HasReach, HasZeroing, HasNear, SomeFar, decided_within, HasRank, SomeAbove};
-ghost use Rattle.egt_sweep.specs.Prelude.{Mate, Zeroing, TableValue, Tables, beside, HasTrueReachesBelow};
-ghost use Rattle.egt_sweep.specs.Prelude.{HasTrueValuesBelow, IsWithinLimit, SomeAboveLimit, SomeReachesFar};
-ghost use Rattle.egt_sweep.specs.Prelude.{class_game, ShowsValues, exit_of, reach_game, Plies};
+ghost use Rattle.std.specs.Prelude.{ℕ, ◌<◌, Option, IsTrue};
+ghost use Rattle.egt_sweep.specs.Prelude.{Setup, IsAdmissible, IsIndex, Value, HasValue, chess, HasReach, HasZeroing};
+ghost use Rattle.egt_sweep.specs.Prelude.{HasNear, SomeFar, decided_within, HasRank, SomeAbove, Mate, Zeroing};
+ghost use Rattle.egt_sweep.specs.Prelude.{TableValue, Tables, beside, HasTrueReachesBelow, HasTrueValuesBelow};
+ghost use Rattle.egt_sweep.specs.Prelude.{IsWithinLimit, SomeAboveLimit, SomeReachesFar, class_game, ShowsValues};
+ghost use Rattle.egt_sweep.specs.Prelude.{exit_of, reach_game, Plies};
 
 use crate::laws::laws;
 use egt_moves::laws::{

@@ -1,6 +1,7 @@
 //! The game of the nearest mates over a class.
-ghost use Rattle.egt_sweep.specs.Prelude.{◌≡◌, map, table_at, HasChildren, HasReachChildren, reach_children_prop};
-ghost use Rattle.egt_sweep.specs.Prelude.{as_win, reach_game, reach_game_is_lawful};
+ghost use Rattle.std.specs.Prelude.{◌≡◌, map};
+ghost use Rattle.egt_sweep.specs.Prelude.{table_at, HasChildren, HasReachChildren, reach_children_prop, as_win};
+ghost use Rattle.egt_sweep.specs.Prelude.{reach_game, reach_game_is_lawful};
 
 use crate::build_fault::BuildFault;
 use crate::nodes::{exits, is_mated, is_void, predecessors, successors};

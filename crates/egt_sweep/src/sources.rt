@@ -1,7 +1,7 @@
 //! The moves that go on, backwards.
-ghost use Rattle.egt_sweep.specs.Prelude.{◌≡◌, ◌↔◌, ◌+◌, ◌≤◌, ◌<◌, ◌⊎◌, ℕ, Bool, IsTrue, Contains};
-ghost use Rattle.egt_sweep.specs.Prelude.{IsStrictlyIncreasing, array_vec_len, IsOf, IsSettled, IsAt, GoesBack};
-ghost use Rattle.egt_sweep.specs.Prelude.{ComesFrom, Connects};
+ghost use Rattle.std.specs.Prelude.{◌≡◌, ◌↔◌, ◌+◌, ◌≤◌, ◌<◌, ◌⊎◌, ℕ, Bool, IsTrue};
+ghost use Rattle.egt_sweep.specs.Prelude.{Contains, IsStrictlyIncreasing, array_vec_len, IsOf, IsSettled, IsAt};
+ghost use Rattle.egt_sweep.specs.Prelude.{GoesBack, ComesFrom, Connects};
 
 use crate::ascending::put;
 use crate::laws::laws;

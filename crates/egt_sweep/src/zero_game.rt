@@ -1,7 +1,7 @@
 //! The game of zeroing moves over a class.
-ghost use Rattle.egt_sweep.specs.Prelude.{◌≡◌, ◌≢◌, ◌<◌, ◌≤◌, ℕ, true, length, slice_index, is_some, table_at, beside};
-ghost use Rattle.egt_sweep.specs.Prelude.{HasChildren, Zeroing, class_game, class_game_is_lawful, mate_table};
-ghost use Rattle.egt_sweep.specs.Prelude.{IsMateColumn};
+ghost use Rattle.std.specs.Prelude.{◌≡◌, ◌≢◌, ◌<◌, ◌≤◌, ℕ, true, length, slice_index};
+ghost use Rattle.egt_sweep.specs.Prelude.{is_some, table_at, beside, HasChildren, Zeroing, class_game};
+ghost use Rattle.egt_sweep.specs.Prelude.{class_game_is_lawful, mate_table, IsMateColumn};
 
 use crate::missing::Missing;
 use crate::nodes::{exits, is_mated, is_void, predecessors, successors};

@@ -1,11 +1,11 @@
 -- What the parts of a file that were read tell of all its bytes.
-use Rattle.egt_table.specs.Prelude.{◌≡◌, ℕ, ◌+◌, ◌^◌, ◌<◌, ◌≤◌, nat_lt, ◌==◌, ◌⊎◌, inl, inr, Bool, true, false, le-ltb}
-use Rattle.egt_table.specs.Prelude.{lt-ltb, List, [], ◌∷◌, ◌++◌, length, drop, Option, Some, None, refl, sym, ap, subst}
-use Rattle.egt_table.specs.Prelude.{◌∙◌, arith, length-append, IfSome, if◌then◌else◌, Consumes, little_number, size_of}
-use Rattle.egt_table.specs.Prelude.{FileFault, AreBytes, Field, bytes_of, column_bytes, HasHeader, IsAnswer}
-use Rattle.egt_table.specs.Prelude.{first_fault, header_fields, header_fault, header_of, file_fault, file_length}
-use Rattle.egt_table.specs.Prelude.{version_of, stated_version, CountsFault, IsCut, IsMisfit, TableValue, IsTable}
-use Rattle.egt_table.specs.Prelude.{columns_of, flat_map}
+use Rattle.std.proofs.Common.{◌≡◌, ℕ, ◌+◌, ◌^◌, ◌<◌, ◌≤◌, nat_lt, ◌==◌, ◌⊎◌, inl, inr, Bool, true, false, le-ltb}
+use Rattle.std.proofs.Common.{lt-ltb, List, [], ◌∷◌, ◌++◌, length, drop, Option, Some, None, refl, sym, ap, subst, ◌∙◌}
+use Rattle.std.proofs.Common.{arith, length-append, IfSome, if◌then◌else◌}
+use Rattle.egt_table.specs.Prelude.{Consumes, little_number, size_of, FileFault, AreBytes, Field, bytes_of}
+use Rattle.egt_table.specs.Prelude.{column_bytes, HasHeader, IsAnswer, first_fault, header_fields, header_fault}
+use Rattle.egt_table.specs.Prelude.{header_of, file_fault, file_length, version_of, stated_version, CountsFault, IsCut}
+use Rattle.egt_table.specs.Prelude.{IsMisfit, TableValue, IsTable, columns_of, flat_map}
 use Rattle.egt_table.specs.declared.fault.FileFault.TheVariants as faults
 use Rattle.egt_table.proofs.Fields.{AllFit, fault_in_front, fields_right, no_fault, widths}
 use Rattle.egt_table.proofs.Versions.{body_length, told_of_all, told_of_table, version_small}

@@ -1,6 +1,7 @@
 -- The bytes of columns, one after the other.
-use Rattle.egt_table.specs.Prelude.{◌≡◌, ℕ, zero, suc, ◌<◌, List, [], ◌∷◌, ◌++◌, length, take, drop, get_or, refl, sym}
-use Rattle.egt_table.specs.Prelude.{ap, ◌∙◌, arith, append_assoc, common_steps, flat_map}
+use Rattle.std.proofs.Common.{◌≡◌, ℕ, zero, suc, ◌<◌, List, [], ◌∷◌, ◌++◌, length, take, drop, get_or, refl, sym, ap}
+use Rattle.std.proofs.Common.{◌∙◌, arith, append_assoc}
+use Rattle.egt_table.specs.Prelude.{common_steps, flat_map}
 
 -- the pieces before place i, the one there, and those behind it
 pieces_at : {A : Type 0} (f : A → List ℕ) (items : List A) (i : ℕ) (d : A) → i < length items

@@ -1,8 +1,8 @@
 -- Bytes, the lowest first, tell a number, and are told by it.
-use Rattle.egt_table.specs.Prelude.{◌/◌, ◌%◌, ◌≡◌, ℕ, zero, suc, ◌+◌, ◌*◌, ◌^◌, ◌<◌, ◌≤◌, List, [], ◌∷◌, ◌++◌, length}
-use Rattle.egt_table.specs.Prelude.{take, refl, sym, ap, ◌∙◌, arith, div-div-eq-div-mul, pow-succ', take_all, byte_at}
-use Rattle.egt_table.specs.Prelude.{bytes_low_first, little_bytes, little_number, little_from, AreBytes}
-use Rattle.egt_table.specs.Prelude.{little_from-cons, little_number-reads_back}
+use Rattle.std.proofs.Common.{◌/◌, ◌%◌, ◌≡◌, ℕ, zero, suc, ◌+◌, ◌*◌, ◌^◌, ◌<◌, ◌≤◌, List, [], ◌∷◌, ◌++◌, length, take}
+use Rattle.std.proofs.Common.{refl, sym, ap, ◌∙◌, arith}
+use Rattle.egt_table.specs.Prelude.{div-div-eq-div-mul, pow-succ', take_all, byte_at, bytes_low_first, little_bytes}
+use Rattle.egt_table.specs.Prelude.{little_number, little_from, AreBytes, little_from-cons, little_number-reads_back}
 
 byte_behind : (k x : ℕ) → byte_at (suc k) x ≡ byte_at k (x / 256)
 byte_behind zero x = refl

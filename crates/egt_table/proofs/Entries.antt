@@ -1,5 +1,5 @@
 -- Entries as bytes, two bytes each.
-use Rattle.egt_table.specs.Prelude.{◌≡◌, ℕ, suc, ◌*◌, List, [], ◌∷◌, ◌++◌, length, drop, refl, ap, ◌∙◌, arith}
+use Rattle.std.proofs.Common.{◌≡◌, ℕ, suc, ◌*◌, List, [], ◌∷◌, ◌++◌, length, drop, refl, ap, ◌∙◌, arith}
 use Rattle.egt_table.specs.Prelude.{little_bytes, little_number, IsRead, flat_map-append, AreBytes, entries_bytes}
 use Rattle.egt_table.proofs.Digits.{bytes_back}
 

@@ -1,10 +1,10 @@
 -- A header's fields: what bytes have no fault, and that no byte behind the fields matters.
-use Rattle.egt_table.specs.Prelude.{◌≡◌, ℕ, ◌+◌, ◌^◌, ◌<◌, ◌≤◌, ◌==◌, Bool, true, false, List, [], ◌∷◌, ◌++◌, length}
-use Rattle.egt_table.specs.Prelude.{take, drop, Option, Some, None, refl, sym, ap, ◌∙◌, arith, length-drop}
-use Rattle.egt_table.specs.Prelude.{append_assoc, eq-eqb, if◌then◌else◌, flat_map, little_bytes, little_number}
-use Rattle.egt_table.specs.Prelude.{little_from-append, little_number-reads_back, length-bytes_low_first, eqb-true}
-use Rattle.egt_table.specs.Prelude.{take-append-drop, get_or-drop, drop_at, drop-append-le, FileFault, AreBytes, Field}
-use Rattle.egt_table.specs.Prelude.{field_bytes, first_fault}
+use Rattle.std.proofs.Common.{◌≡◌, ℕ, ◌+◌, ◌^◌, ◌<◌, ◌≤◌, ◌==◌, Bool, true, false, List, [], ◌∷◌, ◌++◌, length, take}
+use Rattle.std.proofs.Common.{drop, Option, Some, None, refl, sym, ap, ◌∙◌, arith, length-drop, append_assoc, eq-eqb}
+use Rattle.std.proofs.Common.{if◌then◌else◌}
+use Rattle.egt_table.specs.Prelude.{flat_map, little_bytes, little_number, little_from-append, little_number-reads_back}
+use Rattle.egt_table.specs.Prelude.{length-bytes_low_first, eqb-true, take-append-drop, get_or-drop, drop_at}
+use Rattle.egt_table.specs.Prelude.{drop-append-le, FileFault, AreBytes, Field, field_bytes, first_fault}
 use Rattle.egt_table.proofs.Digits.{bytes_back}
 
 abbrev pub widths : List Field → ℕ

@@ -1,7 +1,8 @@
 -- Known bytes over several calls.
-use Rattle.egt_table.specs.Prelude.{◌≡◌, ℕ, ◌+◌, ◌≤◌, min, List, [], ◌++◌, length, take, Option, Some, None}
-use Rattle.egt_table.specs.Prelude.{append_assoc, sym, ap, subst, ◌∙◌, arith, Consumes, Appends, Keeps, common_steps}
-use Rattle.egt_table.specs.Prelude.{take-append-le, take_min, take-append-add, take-append_seam, AppendsFront}
+use Rattle.std.proofs.Common.{◌≡◌, ℕ, ◌+◌, ◌≤◌, min, List, [], ◌++◌, length, take, Option, Some, None, append_assoc}
+use Rattle.std.proofs.Common.{sym, ap, subst, ◌∙◌, arith}
+use Rattle.egt_table.specs.Prelude.{Consumes, Appends, Keeps, common_steps, take-append-le, take_min, take-append-add}
+use Rattle.egt_table.specs.Prelude.{take-append_seam, AppendsFront}
 
 -- what two calls took, one after the other
 pub consumes_more : (a b c : Option (List ℕ)) (x y z : List ℕ) → Consumes a b x → Consumes b c y → z ≡ x ++ y → Consumes a c z

@@ -1,11 +1,12 @@
 -- Where the numbers of a table's file stand, and that they determine the table.
-use Rattle.egt_table.specs.Prelude.{◌≡◌, ℕ, zero, suc, ◌+◌, ◌*◌, ◌^◌, ◌<◌, ◌≤◌, List, [], ◌∷◌, ◌++◌, length, drop}
-use Rattle.egt_table.specs.Prelude.{get_or, Option, Some, None, IsSome, refl, sym, ap, subst, ◌∙◌, arith, flat_map}
-use Rattle.egt_table.specs.Prelude.{slice_get, drop-append-add, ext_get_or, little_number, little_number-reads_back}
-use Rattle.egt_table.specs.Prelude.{size_of, Column, Mate, Zeroing, Reach, bytes_of, column_bytes, columns_in}
-use Rattle.egt_table.specs.Prelude.{entries_bytes, field_bytes, header_fields, header_of, version_of, stated_version}
-use Rattle.egt_table.specs.Prelude.{EntriesFit, EntriesStand, HeaderStands, number_at, HasColumn, IsTable, TableValue}
-use Rattle.egt_table.specs.Prelude.{columns_of, entries_of, entries_or_none, reach_columns}
+use Rattle.std.proofs.Common.{◌≡◌, ℕ, zero, suc, ◌+◌, ◌*◌, ◌^◌, ◌<◌, ◌≤◌, List, [], ◌∷◌, ◌++◌, length, drop, get_or}
+use Rattle.std.proofs.Common.{Option, Some, None, IsSome, refl, sym, ap, subst, ◌∙◌, arith}
+use Rattle.egt_table.specs.Prelude.{flat_map, slice_get, drop-append-add, ext_get_or, little_number}
+use Rattle.egt_table.specs.Prelude.{little_number-reads_back, size_of, Column, Mate, Zeroing, Reach, bytes_of}
+use Rattle.egt_table.specs.Prelude.{column_bytes, columns_in, entries_bytes, field_bytes, header_fields, header_of}
+use Rattle.egt_table.specs.Prelude.{version_of, stated_version, EntriesFit, EntriesStand, HeaderStands, number_at}
+use Rattle.egt_table.specs.Prelude.{HasColumn, IsTable, TableValue, columns_of, entries_of, entries_or_none}
+use Rattle.egt_table.specs.Prelude.{reach_columns}
 use Rattle.egt_table.proofs.Answers.{header_of_length}
 use Rattle.egt_table.proofs.Entries.{entries_length}
 use Rattle.egt_table.proofs.Versions.{told_of_table, version_small}

@@ -1,10 +1,10 @@
 -- Files of both versions: what their bytes tell of the version, and what stands behind the header.
-use Rattle.egt_table.specs.Prelude.{◌≡◌, ℕ, ◌+◌, ◌*◌, ◌≤◌, inl, inr, List, ◌++◌, length, drop, Option, Some, None}
-use Rattle.egt_table.specs.Prelude.{IsSome, refl, ap, ◌∙◌, arith, length-append, length-drop, flat_map, append-nil}
-use Rattle.egt_table.specs.Prelude.{drop-append-le, little_number, little_from-append, size_of, Column, Mate, Zeroing}
-use Rattle.egt_table.specs.Prelude.{Reach, bytes_of, column_bytes, columns_in, entries_bytes, file_length}
-use Rattle.egt_table.specs.Prelude.{header_fields, header_of, version_of, stated_version, IsVersion, length_in, IsTable}
-use Rattle.egt_table.specs.Prelude.{TableValue, columns_of, entries_or_none, reach_columns}
+use Rattle.std.proofs.Common.{◌≡◌, ℕ, ◌+◌, ◌*◌, ◌≤◌, inl, inr, List, ◌++◌, length, drop, Option, Some, None, IsSome}
+use Rattle.std.proofs.Common.{refl, ap, ◌∙◌, arith, length-append, length-drop}
+use Rattle.egt_table.specs.Prelude.{flat_map, append-nil, drop-append-le, little_number, little_from-append, size_of}
+use Rattle.egt_table.specs.Prelude.{Column, Mate, Zeroing, Reach, bytes_of, column_bytes, columns_in, entries_bytes}
+use Rattle.egt_table.specs.Prelude.{file_length, header_fields, header_of, version_of, stated_version, IsVersion}
+use Rattle.egt_table.specs.Prelude.{length_in, IsTable, TableValue, columns_of, entries_or_none, reach_columns}
 use Rattle.egt_table.proofs.Entries.{entries_length}
 
 -- the version stands in the first six bytes

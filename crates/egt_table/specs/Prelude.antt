@@ -16,10 +16,6 @@ pub use Rattle.egt_table.specs.Table.{reach_columns}
 pub use Rattle.egt_table.specs.declared.column.Column.{Column}
 pub use Rattle.egt_table.specs.declared.column.Column.TheVariants.{Mate, Reach, Zeroing}
 pub use Rattle.egt_table.specs.declared.fault.FileFault.{FileFault}
-pub use Rattle.std.proofs.Common.{Bool, IsSome, List, None, Option, Some, [], ap, append_assoc, arith, drop, eq-eqb}
-pub use Rattle.std.proofs.Common.{false, get_or, if◌then◌else◌, inl, inr, le-ltb, length, length-append, length-drop}
-pub use Rattle.std.proofs.Common.{lt-ltb, min, nat_lt, refl, subst, suc, sym, take, true, zero, ℕ, ◌%◌, ◌*◌, ◌++◌, ◌+◌}
-pub use Rattle.std.proofs.Common.{◌-◌, ◌/◌, ◌<◌, ◌==◌, ◌^◌, ◌∙◌, ◌∷◌, ◌≡◌, ◌≤◌, ◌⊎◌}
 pub use Rattle.std.proofs.Math.Nat.{div-div-eq-div-mul, pow-succ'}
 pub use Rattle.std.proofs.Math.Seq.{drop-append-add, take-append-add, take-append_seam}
 pub use Rattle.std.proofs.lemmas.Bool.{eqb-true}
@@ -30,4 +26,3 @@ pub use Rattle.std.proofs.lemmas.Result.{IfErr-weaker, err_from_is_err_and}
 pub use Rattle.std.specs.Int.{byte_at, bytes_low_first}
 pub use Rattle.std.specs.Io.KnownBytes.{Appends, Consumes, IsAtEnd, Keeps, ReadConsumes, WriteAppends}
 pub use Rattle.std.specs.List.{flat_map, slice_get}
-pub use Rattle.std.specs.Prelude.{IfErr, IfOk, IfSome, IsOk, IsTrue, OnErr, OnOk, slice_index, ◌↔◌, ◌≢◌}

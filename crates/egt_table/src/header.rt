@@ -1,5 +1,6 @@
 //! The header of a table's file.
-ghost use Rattle.egt_table.specs.Prelude.{◌≡◌, ◌≤◌, length, drop, None, Some, OnOk, IfErr, little_number};
+ghost use Rattle.std.specs.Prelude.{◌≡◌, ◌≤◌, length, drop, None, Some, OnOk, IfErr};
+ghost use Rattle.egt_table.specs.Prelude.{little_number};
 ghost use Rattle.egt_table.specs.File.{columns_in as number_of_columns, first_fault, header_fields, header_of, stated_version};
 
 use crate::fault::FileFault;

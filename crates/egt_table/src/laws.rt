@@ -1,7 +1,7 @@
 //! Laws of files. Each is what the contract of a function that does nothing says.
-ghost use Rattle.egt_table.specs.Prelude.{◌≡◌, ◌<◌, ◌^◌, ℕ, List, length, None, little_bytes, little_number, AreBytes};
-ghost use Rattle.egt_table.specs.Prelude.{bytes_of, file_fault, EntriesFit, EntriesStand, HeaderStands, IsTable};
-ghost use Rattle.egt_table.specs.Prelude.{TableValue};
+ghost use Rattle.std.specs.Prelude.{◌≡◌, ◌<◌, ◌^◌, ℕ, List, length, None};
+ghost use Rattle.egt_table.specs.Prelude.{little_bytes, little_number, AreBytes, bytes_of, file_fault, EntriesFit};
+ghost use Rattle.egt_table.specs.Prelude.{EntriesStand, HeaderStands, IsTable, TableValue};
 
 use egt_class::Class;
 use egt_index::size;

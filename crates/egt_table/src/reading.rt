@@ -1,8 +1,8 @@
 //! Tables read from files.
-ghost use Rattle.egt_table.specs.Prelude.{◌≡◌, ◌+◌, ◌*◌, ◌≤◌, [], ◌++◌, length, IfOk, IfErr, IfSome, OnOk, Consumes};
-ghost use Rattle.egt_table.specs.Prelude.{IsAtEnd, size_of, HasHeader, IsAnswer, Reads, entries_bytes, header_of};
-ghost use Rattle.egt_table.specs.Prelude.{stated_version, CountsDevice, IsAll, IsCut, IsMisfit, IsVersion, length_in};
-ghost use Rattle.egt_table.specs.Prelude.{reach_in};
+ghost use Rattle.std.specs.Prelude.{◌≡◌, ◌+◌, ◌*◌, ◌≤◌, [], ◌++◌, length, IfOk, IfErr, IfSome, OnOk};
+ghost use Rattle.egt_table.specs.Prelude.{Consumes, IsAtEnd, size_of, HasHeader, IsAnswer, Reads, entries_bytes};
+ghost use Rattle.egt_table.specs.Prelude.{header_of, stated_version, CountsDevice, IsAll, IsCut, IsMisfit, IsVersion};
+ghost use Rattle.egt_table.specs.Prelude.{length_in, reach_in};
 
 use crate::fault::FileFault;
 use crate::header::{LENGTH, WITH_REACH, check_header, version_in};

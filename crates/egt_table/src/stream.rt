@@ -1,6 +1,6 @@
 //! Streams of bytes: what a table's file is read from and written to.
-ghost use Rattle.egt_table.specs.Prelude.{◌≡◌, ◌<◌, ◌≤◌, ℕ, List, Option, length, IfOk, ReadConsumes, WriteAppends};
-ghost use Rattle.egt_table.specs.Prelude.{CountsFailure};
+ghost use Rattle.std.specs.Prelude.{◌≡◌, ◌<◌, ◌≤◌, ℕ, List, Option, length, IfOk};
+ghost use Rattle.egt_table.specs.Prelude.{ReadConsumes, WriteAppends, CountsFailure};
 
 use crate::device::Device;
 

@@ -1,6 +1,6 @@
 //! Tables.
-ghost use Rattle.egt_table.specs.Prelude.{◌≡◌, ◌≢◌, ◌<◌, ◌↔◌, ℕ, length, slice_index, IsSome, IsOk, IfOk, IfErr};
-ghost use Rattle.egt_table.specs.Prelude.{IsTrue, size_of, HasColumn, IsTable, columns_of, entries_of, Reach};
+ghost use Rattle.std.specs.Prelude.{◌≡◌, ◌≢◌, ◌<◌, ◌↔◌, ℕ, length, slice_index, IsSome, IsOk, IfOk, IfErr, IsTrue};
+ghost use Rattle.egt_table.specs.Prelude.{size_of, HasColumn, IsTable, columns_of, entries_of, Reach};
 
 use crate::column::Column;
 use egt_class::Class;

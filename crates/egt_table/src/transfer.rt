@@ -1,6 +1,6 @@
 //! Whole pieces through streams that take or give them in parts.
-ghost use Rattle.egt_table.specs.Prelude.{◌≡◌, ◌<◌, ◌≤◌, ℕ, length, take, slice_index, IfOk, OnOk, OnErr, Consumes};
-ghost use Rattle.egt_table.specs.Prelude.{Appends, IsAtEnd, CountsFailure, AppendsFront};
+ghost use Rattle.std.specs.Prelude.{◌≡◌, ◌<◌, ◌≤◌, ℕ, length, take, slice_index, IfOk, OnOk, OnErr};
+ghost use Rattle.egt_table.specs.Prelude.{Consumes, Appends, IsAtEnd, CountsFailure, AppendsFront};
 
 use crate::device::Device;
 use crate::stream::{Sink, Source};

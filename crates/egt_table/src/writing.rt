@@ -1,6 +1,6 @@
 //! Tables written to files.
-ghost use Rattle.egt_table.specs.Prelude.{◌≡◌, ◌≤◌, length, OnOk, OnErr, Appends, bytes_of, entries_bytes, version_of};
-ghost use Rattle.egt_table.specs.Prelude.{CountsFailure, AppendsFront};
+ghost use Rattle.std.specs.Prelude.{◌≡◌, ◌≤◌, length, OnOk, OnErr};
+ghost use Rattle.egt_table.specs.Prelude.{Appends, bytes_of, entries_bytes, version_of, CountsFailure, AppendsFront};
 
 use crate::device::Device;
 use crate::header::{WITH_REACH, WITHOUT_REACH, header};

@@ -1,10 +1,10 @@
 -- What a move that neither captures nor promotes does to the men, and taking it back.
-use Rattle.egt_unmoves.specs.Prelude.{◌≡◌, ◌≢◌, ℕ, ◌&&◌, Option, Some, None, false, refl, sym, ap, ◌∙◌, inl, inr}
-use Rattle.egt_unmoves.specs.Prelude.{if◌then◌else◌, cases_eq, eqb_tells, Kind, Q, R, B, N, P, K, Man, other_side}
-use Rattle.egt_unmoves.specs.Prelude.{ahead, Placement, Stands, IsFree, one_man, same_men, get-insert_same}
-use Rattle.egt_unmoves.specs.Prelude.{get-insert_other, get-remove_same, get-remove_other, Setup, SettlesTo, Move, Goes}
-use Rattle.egt_unmoves.specs.Prelude.{plain, is_target, takes_in_passing, men_left, is_pawn, arriving, ComesBy}
-use Rattle.egt_unmoves.specs.Prelude.{MayComeFrom, GoesOver, men_before, setup_before, side_twice, side_cases}
+use Rattle.std.proofs.Common.{◌≡◌, ◌≢◌, ℕ, ◌&&◌, Option, Some, None, false, refl, sym, ap, ◌∙◌, inl, inr, if◌then◌else◌}
+use Rattle.egt_unmoves.specs.Prelude.{cases_eq, eqb_tells, Kind, Q, R, B, N, P, K, Man, other_side, ahead, Placement}
+use Rattle.egt_unmoves.specs.Prelude.{Stands, IsFree, one_man, same_men, get-insert_same, get-insert_other}
+use Rattle.egt_unmoves.specs.Prelude.{get-remove_same, get-remove_other, Setup, SettlesTo, Move, Goes, plain, is_target}
+use Rattle.egt_unmoves.specs.Prelude.{takes_in_passing, men_left, is_pawn, arriving, ComesBy, MayComeFrom, GoesOver}
+use Rattle.egt_unmoves.specs.Prelude.{men_before, setup_before, side_twice, side_cases}
 use Rattle.std.specs.FinMap as map
 pub use Rattle.egt_board.proofs.Facing.{unput_free}
 

@@ -1,10 +1,10 @@
 -- Four men leave room for one target that a pawn stands ready to take.
-use Rattle.egt_unmoves.specs.Prelude.{◌≡◌, ◌≢◌, ℕ, suc, zero, ◌-◌, ◌≤◌, ◌⊎◌, Option, Some, None, IfSome, cond, arith}
-use Rattle.egt_unmoves.specs.Prelude.{refl, sym, ap, ◌∙◌, inl, inr, subst, is_some, nat_cmp_total, nat_cmp, cases_eq}
-use Rattle.egt_unmoves.specs.Prelude.{Side, White, Black, P, K, Man, other_side, king_of, pawn_of, ahead, HasPawnBeside}
-use Rattle.egt_unmoves.specs.Prelude.{Placement, Stands, one_man, get-remove_other, Setup, IsAdmissible, IsSettled}
-use Rattle.egt_unmoves.specs.Prelude.{rank_of, IsTarget, target_rank, Move, advanced_rank, ComesBy, MayComeFrom}
-use Rattle.egt_unmoves.specs.Prelude.{side_twice, sides_differ}
+use Rattle.std.proofs.Common.{◌≡◌, ◌≢◌, ℕ, suc, zero, ◌-◌, ◌≤◌, ◌⊎◌, Option, Some, None, IfSome, cond, arith, refl, sym}
+use Rattle.std.proofs.Common.{ap, ◌∙◌, inl, inr, subst}
+use Rattle.egt_unmoves.specs.Prelude.{is_some, nat_cmp_total, nat_cmp, cases_eq, Side, White, Black, P, K, Man}
+use Rattle.egt_unmoves.specs.Prelude.{other_side, king_of, pawn_of, ahead, HasPawnBeside, Placement, Stands, one_man}
+use Rattle.egt_unmoves.specs.Prelude.{get-remove_other, Setup, IsAdmissible, IsSettled, rank_of, IsTarget, target_rank}
+use Rattle.egt_unmoves.specs.Prelude.{Move, advanced_rank, ComesBy, MayComeFrom, side_twice, sides_differ}
 use Rattle.std.specs.FinMap as map
 use Rattle.egt_unmoves.proofs.Came.{Came, came, not_free}
 use Rattle.egt_unmoves.proofs.Went.{elsewhere, stood}

@@ -1,9 +1,9 @@
 -- The list of moves backwards as it grows.
-use Rattle.egt_unmoves.specs.Prelude.{◌≡◌, ℕ, ◌+◌, ◌*◌, ◌<◌, ◌≤◌, ◌↔◌, List, [], ◌∷◌, ◌++◌, arith, refl, ap, inl, inr}
-use Rattle.egt_unmoves.specs.Prelude.{subst, suc, Option, Some, None, Contains, cases_lt, Contains-push}
-use Rattle.egt_unmoves.specs.Prelude.{Contains-push_cases, Contains-append_left, Setup, Move, goes_on_board, Unmove}
-use Rattle.egt_unmoves.specs.Prelude.{ComesBy, TakesBack, IsUnmove, place_of, target_place, ComesFirst, IsInOrder}
-use Rattle.egt_unmoves.specs.Prelude.{ListsBelow}
+use Rattle.std.proofs.Common.{◌≡◌, ℕ, ◌+◌, ◌*◌, ◌<◌, ◌≤◌, ◌↔◌, List, [], ◌∷◌, ◌++◌, arith, refl, ap, inl, inr, subst}
+use Rattle.std.proofs.Common.{suc, Option, Some, None}
+use Rattle.egt_unmoves.specs.Prelude.{Contains, cases_lt, Contains-push, Contains-push_cases, Contains-append_left}
+use Rattle.egt_unmoves.specs.Prelude.{Setup, Move, goes_on_board, Unmove, ComesBy, TakesBack, IsUnmove, place_of}
+use Rattle.egt_unmoves.specs.Prelude.{target_place, ComesFirst, IsInOrder, ListsBelow}
 use Rattle.egt_unmoves.proofs.Came.{same_move}
 
 -- both squares of a move are on the board

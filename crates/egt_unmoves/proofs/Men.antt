@@ -1,9 +1,9 @@
 -- The unmoves of all men of the side that waits, and room for them: two a goal, of which a man has 28 and the king 8.
-use Rattle.egt_unmoves.specs.Prelude.{◌≡◌, ◌≢◌, ℕ, ◌+◌, ◌*◌, ◌<◌, ◌≤◌, ◌↔◌, List, [], length, arith, refl, sym, ap, ◌∙◌}
-use Rattle.egt_unmoves.specs.Prelude.{inl, inr, subst, bit_at, cases_eq, cases_lt, bit_at-lt, Side, White, Black, Kind}
-use Rattle.egt_unmoves.specs.Prelude.{Q, R, B, N, P, K, Man, SquareSet, other_side, king_of, Stands, IsHeld, one_man}
-use Rattle.egt_unmoves.specs.Prelude.{Has, size_of, size_of-some, Setup, IsAdmissible, IsKingOn, most_goals, Unmove}
-use Rattle.egt_unmoves.specs.Prelude.{ListsBelow}
+use Rattle.std.proofs.Common.{◌≡◌, ◌≢◌, ℕ, ◌+◌, ◌*◌, ◌<◌, ◌≤◌, ◌↔◌, List, [], length, arith, refl, sym, ap, ◌∙◌, inl}
+use Rattle.std.proofs.Common.{inr, subst}
+use Rattle.egt_unmoves.specs.Prelude.{bit_at, cases_eq, cases_lt, bit_at-lt, Side, White, Black, Kind, Q, R, B, N, P, K}
+use Rattle.egt_unmoves.specs.Prelude.{Man, SquareSet, other_side, king_of, Stands, IsHeld, one_man, Has, size_of}
+use Rattle.egt_unmoves.specs.Prelude.{size_of-some, Setup, IsAdmissible, IsKingOn, most_goals, Unmove, ListsBelow}
 use Rattle.egt_unmoves.proofs.Came.{came}
 use Rattle.egt_unmoves.proofs.InOrder.{squares_within, target_place_small, ListsBelow-none, ListsBelow-skip}
 use Rattle.egt_board.proofs.Bits.{not_both}

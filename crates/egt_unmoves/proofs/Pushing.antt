@@ -1,10 +1,10 @@
 -- The unmoves of one place, of one square before, and of one man.
-use Rattle.egt_unmoves.specs.Prelude.{◌≡◌, ◌≢◌, ℕ, ◌+◌, ◌*◌, ◌<◌, ◌≤◌, ◌↔◌, ◌⊎◌, List, [], ◌∷◌, ◌++◌, length, Bool}
-use Rattle.egt_unmoves.specs.Prelude.{true, false, IsTrue, Option, Some, None, arith, refl, sym, ap, ◌∙◌, inl, inr}
-use Rattle.egt_unmoves.specs.Prelude.{subst, bit_at, cases_eq, cases_lt, false≢true, P, Man, SquareSet, Side}
-use Rattle.egt_unmoves.specs.Prelude.{other_side, ahead, HasPawnBeside, Placement, Stands, one_man, IsTarget, Has}
-use Rattle.egt_unmoves.specs.Prelude.{size_of, Setup, Move, IsPawnOn, plain, most_goals, Unmove, ComesBy, TakesBack}
-use Rattle.egt_unmoves.specs.Prelude.{MayComeFrom, Went, men_before, place_of, target_place, ListsBelow}
+use Rattle.std.proofs.Common.{◌≡◌, ◌≢◌, ℕ, ◌+◌, ◌*◌, ◌<◌, ◌≤◌, ◌↔◌, ◌⊎◌, List, [], ◌∷◌, ◌++◌, length, Bool, true, false}
+use Rattle.std.proofs.Common.{IsTrue, Option, Some, None, arith, refl, sym, ap, ◌∙◌, inl, inr, subst}
+use Rattle.egt_unmoves.specs.Prelude.{bit_at, cases_eq, cases_lt, false≢true, P, Man, SquareSet, Side, other_side}
+use Rattle.egt_unmoves.specs.Prelude.{ahead, HasPawnBeside, Placement, Stands, one_man, IsTarget, Has, size_of, Setup}
+use Rattle.egt_unmoves.specs.Prelude.{Move, IsPawnOn, plain, most_goals, Unmove, ComesBy, TakesBack, MayComeFrom, Went}
+use Rattle.egt_unmoves.specs.Prelude.{men_before, place_of, target_place, ListsBelow}
 use Rattle.egt_unmoves.proofs.Came.{Came, came, before_is}
 use Rattle.egt_unmoves.proofs.FiveMen.{target_of}
 use Rattle.egt_unmoves.proofs.Went.{comes_went}

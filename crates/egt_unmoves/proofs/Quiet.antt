@@ -1,8 +1,8 @@
 -- Squares on which a man leaves the king of the side to move unattacked.
-use Rattle.egt_unmoves.specs.Prelude.{◌≡◌, ◌≢◌, ◌↔◌, ℕ, refl, sym, ap, ◌∙◌, inl, inr, subst, cases_eq, Side, Man}
-use Rattle.egt_unmoves.specs.Prelude.{king_of, IsAttacked, IsInCheck, Reaches, Reaches-free, other_side, Placement}
-use Rattle.egt_unmoves.specs.Prelude.{Stands, IsFree, one_man, get-insert_same, get-insert_other, get-remove_same}
-use Rattle.egt_unmoves.specs.Prelude.{get-remove_other, IsKeptFrom, Setup, IsKingOn, sides_differ}
+use Rattle.std.proofs.Common.{◌≡◌, ◌≢◌, ◌↔◌, ℕ, refl, sym, ap, ◌∙◌, inl, inr, subst}
+use Rattle.egt_unmoves.specs.Prelude.{cases_eq, Side, Man, king_of, IsAttacked, IsInCheck, Reaches, Reaches-free}
+use Rattle.egt_unmoves.specs.Prelude.{other_side, Placement, Stands, IsFree, one_man, get-insert_same, get-insert_other}
+use Rattle.egt_unmoves.specs.Prelude.{get-remove_same, get-remove_other, IsKeptFrom, Setup, IsKingOn, sides_differ}
 use Rattle.std.specs.FinMap as map
 use Rattle.egt_unmoves.proofs.Came.{not_free}
 

@@ -1,5 +1,5 @@
 -- A man taken back leaves as many men.
-use Rattle.egt_unmoves.specs.Prelude.{◌≡◌, ℕ, ◌+◌, ◌-◌, ◌<◌, ◌≤◌, Option, cond, Bool, true, false, arith, ap, ◌∙◌}
+use Rattle.std.proofs.Common.{◌≡◌, ℕ, ◌+◌, ◌-◌, ◌<◌, ◌≤◌, Option, cond, Bool, true, false, arith, ap, ◌∙◌}
 use Rattle.egt_unmoves.specs.Prelude.{is_some, nat_cmp_total, Man, Placement, Stands, men_before}
 use Rattle.std.specs.FinMap as map
 

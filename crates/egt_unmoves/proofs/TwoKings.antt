@@ -1,8 +1,9 @@
 -- Two kings in the corners are a position.
-use Rattle.egt_unmoves.specs.Prelude.{◌≡◌, ◌≢◌, ℕ, ◌+◌, ◌≤◌, ◌⊎◌, Some, None, cond, Bool, true, false, arith, refl, sym}
-use Rattle.egt_unmoves.specs.Prelude.{ap, ◌∙◌, inl, inr, subst, is_some, nat_cmp_total, nat_cmp, cases_eq, Side, White}
-use Rattle.egt_unmoves.specs.Prelude.{Black, P, K, Man, king_of, IsInCheck, corners, Reaches, Placement, Stands, IsFree}
-use Rattle.egt_unmoves.specs.Prelude.{get-insert_same, get-insert_other, IsAdmissible, IsKingOn}
+use Rattle.std.proofs.Common.{◌≡◌, ◌≢◌, ℕ, ◌+◌, ◌≤◌, ◌⊎◌, Some, None, cond, Bool, true, false, arith, refl, sym, ap}
+use Rattle.std.proofs.Common.{◌∙◌, inl, inr, subst}
+use Rattle.egt_unmoves.specs.Prelude.{is_some, nat_cmp_total, nat_cmp, cases_eq, Side, White, Black, P, K, Man, king_of}
+use Rattle.egt_unmoves.specs.Prelude.{IsInCheck, corners, Reaches, Placement, Stands, IsFree, get-insert_same}
+use Rattle.egt_unmoves.specs.Prelude.{get-insert_other, IsAdmissible, IsKingOn}
 use Rattle.std.specs.FinMap as map
 
 no_more : (m : Placement) (s : ℕ) (man : Man) → map.len (map.insert m s man) ≤ map.len m + 1

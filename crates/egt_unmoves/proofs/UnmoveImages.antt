@@ -1,11 +1,11 @@
 -- The unmoves of an image.
-use Rattle.egt_unmoves.specs.Prelude.{◌≡◌, ℕ, ◌<◌, ◌↔◌, ◌/◌, ◌%◌, ◌==◌, Bool, true, false, Option, Some, None, IfSome}
-use Rattle.egt_unmoves.specs.Prelude.{arith, refl, sym, ap, ◌∙◌, inl, inr, subst, option_map, cases_eq, Side, White}
-use Rattle.egt_unmoves.specs.Prelude.{Black, Man, Mirror, Files, Ranks, Diagonal, Colours, square_by, square_by-twice}
-use Rattle.egt_unmoves.specs.Prelude.{HasNoPawn, Stands, IsFree, one_man, get-insert_other, get-remove_other, Setup}
-use Rattle.egt_unmoves.specs.Prelude.{IsAdmissible, IsSettled, SettlesTo, rank_of, square_if, square_of, KeepsPlay}
-use Rattle.egt_unmoves.specs.Prelude.{IsTarget, target_rank, turned_square, turned_man, IsSetBy, Move, IsPawnOn, Leads}
-use Rattle.egt_unmoves.specs.Prelude.{turned_move, ComesBy}
+use Rattle.std.proofs.Common.{◌≡◌, ℕ, ◌<◌, ◌↔◌, ◌/◌, ◌%◌, ◌==◌, Bool, true, false, Option, Some, None, IfSome, arith}
+use Rattle.std.proofs.Common.{refl, sym, ap, ◌∙◌, inl, inr, subst}
+use Rattle.egt_unmoves.specs.Prelude.{option_map, cases_eq, Side, White, Black, Man, Mirror, Files, Ranks, Diagonal}
+use Rattle.egt_unmoves.specs.Prelude.{Colours, square_by, square_by-twice, HasNoPawn, Stands, IsFree, one_man}
+use Rattle.egt_unmoves.specs.Prelude.{get-insert_other, get-remove_other, Setup, IsAdmissible, IsSettled, SettlesTo}
+use Rattle.egt_unmoves.specs.Prelude.{rank_of, square_if, square_of, KeepsPlay, IsTarget, target_rank, turned_square}
+use Rattle.egt_unmoves.specs.Prelude.{turned_man, IsSetBy, Move, IsPawnOn, Leads, turned_move, ComesBy}
 use Rattle.std.specs.FinMap as map
 use Rattle.egt_unmoves.proofs.Came.{Came, came, not_free}
 use Rattle.egt_unmoves.proofs.InOrder.{squares_within}

@@ -1,7 +1,7 @@
 -- The ways back.
-use Rattle.egt_unmoves.specs.Prelude.{◌≡◌, ℕ, zero, suc, ◌+◌, ◌-◌, ◌<◌, ◌≤◌, ◌⊎◌, arith, refl, sym, ap, ◌∙◌, inl, inr}
-use Rattle.egt_unmoves.specs.Prelude.{if◌then◌else◌, ◌==◌, Bool, true, false, Some, None, ◌&&◌, ◌/◌, Side, White}
-use Rattle.egt_unmoves.specs.Prelude.{Black, P, Man, other_side, rank_of, Away, ahead, forward, home_rank}
+use Rattle.std.proofs.Common.{◌≡◌, ℕ, zero, suc, ◌+◌, ◌-◌, ◌<◌, ◌≤◌, ◌⊎◌, arith, refl, sym, ap, ◌∙◌, inl, inr}
+use Rattle.std.proofs.Common.{if◌then◌else◌, ◌==◌, Bool, true, false, Some, None, ◌&&◌, ◌/◌}
+use Rattle.egt_unmoves.specs.Prelude.{Side, White, Black, P, Man, other_side, rank_of, Away, ahead, forward, home_rank}
 use Rattle.egt_unmoves.specs.Prelude.{farthest_advance, Advances, passed, is_two_ranks, is_pawn}
 use Rattle.egt_moves.proofs.Admissible.{two_ranks_told}
 use Rattle.egt_moves.proofs.SettledMoves.{farthest_two}

@@ -1,13 +1,13 @@
 -- A move led here from a square exactly where what `Went` asks of the square holds.
-use Rattle.egt_unmoves.specs.Prelude.{◌≡◌, ◌≢◌, ◌↔◌, ℕ, ◌<◌, ◌⊎◌, ◌==◌, ◌&&◌, Option, Some, None, IfSome, arith, refl}
-use Rattle.egt_unmoves.specs.Prelude.{sym, ap, ◌∙◌, inl, inr, subst, cases_eq, eqb_tells, Side, White, Black, Kind, Q}
-use Rattle.egt_unmoves.specs.Prelude.{R, B, N, P, K, Man, king_of, IsInCheck, Rides-free, other_side, pawn_of, ahead}
-use Rattle.egt_unmoves.specs.Prelude.{forward, last_rank, farthest_advance, MayStand, Advances, HasPawnBeside}
-use Rattle.egt_unmoves.specs.Prelude.{Placement, Stands, IsFree, one_man, get-insert_other, get-remove_other, Setup}
-use Rattle.egt_unmoves.specs.Prelude.{IsAdmissible, IsKingOn, HasKings, IsSettled, SettlesTo, rank_of, FitsTarget}
-use Rattle.egt_unmoves.specs.Prelude.{IsTarget, Move, Goes, plain, passed, men_after, after, is_pawn, promotes}
-use Rattle.egt_unmoves.specs.Prelude.{FitsPromotion, ComesBy, MayComeFrom, Went, GoesOver, led_to, men_before}
-use Rattle.egt_unmoves.specs.Prelude.{setup_before, side_twice, sides_differ}
+use Rattle.std.proofs.Common.{◌≡◌, ◌≢◌, ◌↔◌, ℕ, ◌<◌, ◌⊎◌, ◌==◌, ◌&&◌, Option, Some, None, IfSome, arith, refl, sym, ap}
+use Rattle.std.proofs.Common.{◌∙◌, inl, inr, subst}
+use Rattle.egt_unmoves.specs.Prelude.{cases_eq, eqb_tells, Side, White, Black, Kind, Q, R, B, N, P, K, Man, king_of}
+use Rattle.egt_unmoves.specs.Prelude.{IsInCheck, Rides-free, other_side, pawn_of, ahead, forward, last_rank}
+use Rattle.egt_unmoves.specs.Prelude.{farthest_advance, MayStand, Advances, HasPawnBeside, Placement, Stands, IsFree}
+use Rattle.egt_unmoves.specs.Prelude.{one_man, get-insert_other, get-remove_other, Setup, IsAdmissible, IsKingOn}
+use Rattle.egt_unmoves.specs.Prelude.{HasKings, IsSettled, SettlesTo, rank_of, FitsTarget, IsTarget, Move, Goes, plain}
+use Rattle.egt_unmoves.specs.Prelude.{passed, men_after, after, is_pawn, promotes, FitsPromotion, ComesBy, MayComeFrom}
+use Rattle.egt_unmoves.specs.Prelude.{Went, GoesOver, led_to, men_before, setup_before, side_twice, sides_differ}
 use Rattle.std.specs.FinMap as map
 use Rattle.egt_unmoves.proofs.Came.{Came, came, came_man, moved_on, not_free, left_whole, settles_men, settles_side, settles_once}
 use Rattle.egt_unmoves.proofs.Room.{few_before}

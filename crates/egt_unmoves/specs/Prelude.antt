@@ -47,9 +47,6 @@ pub use Rattle.egt_unmoves.specs.Targets.{advanced_rank}
 pub use Rattle.egt_unmoves.specs.Unmoves.{ComesBy, GoesOver, IsUnmove, MayComeFrom, MayHaveLeft, TakesBack, Went}
 pub use Rattle.egt_unmoves.specs.Unmoves.{led_to, men_before, setup_before}
 pub use Rattle.egt_unmoves.specs.declared.unmove.Unmove.{Unmove}
-pub use Rattle.std.proofs.Common.{Bool, IfSome, List, None, Option, Some, [], ap, arith, cond, false, if◌then◌else◌}
-pub use Rattle.std.proofs.Common.{inl, inr, length, max, min, refl, rules, subst, suc, sym, true, zero, ℕ, ◌%◌, ◌&&◌}
-pub use Rattle.std.proofs.Common.{◌*◌, ◌++◌, ◌+◌, ◌-◌, ◌/◌, ◌<◌, ◌==◌, ◌||◌, ◌↔◌, ◌∙◌, ◌∷◌, ◌≡◌, ◌≢◌, ◌≤◌, ◌⊎◌}
 pub use Rattle.std.proofs.lemmas.Bool.{cases_eq, cases_lt, false≢true}
 pub use Rattle.std.proofs.lemmas.Bool.Decides.{eqb_tells}
 pub use Rattle.std.proofs.lemmas.List.Elements.{Contains-append_left, Contains-push, Contains-push_cases}
@@ -59,4 +56,3 @@ pub use Rattle.std.specs.Int.{bit_at}
 pub use Rattle.std.specs.List.{Contains}
 pub use Rattle.std.specs.Option.{is_some, option_map}
 pub use Rattle.std.specs.Ordering.{nat_cmp}
-pub use Rattle.std.specs.Prelude.{IsTrue}

@@ -1,6 +1,7 @@
 //! What holds of moves backwards. These functions do nothing: a caller calls one to know what it ensures.
-ghost use Rattle.egt_unmoves.specs.Prelude.{◌≡◌, ◌<◌, ℕ, Bool, AreImages, Setup, IsAdmissible, KeepsPlay, IsTurnedBy};
-ghost use Rattle.egt_unmoves.specs.Prelude.{Move, ComesBy, IsUnmove, Unmove};
+ghost use Rattle.std.specs.Prelude.{◌≡◌, ◌<◌, ℕ, Bool};
+ghost use Rattle.egt_unmoves.specs.Prelude.{AreImages, Setup, IsAdmissible, KeepsPlay, IsTurnedBy, Move, ComesBy};
+ghost use Rattle.egt_unmoves.specs.Prelude.{IsUnmove, Unmove};
 
 use egt_board::laws::{
     images_are_turns, images_keep_men, images_settle_alike, positions_settle_once, turns_make_one,

@@ -1,8 +1,8 @@
 //! The list of moves backwards.
-ghost use Rattle.egt_unmoves.specs.Prelude.{◌≡◌, ◌+◌, ◌*◌, ◌<◌, ◌≤◌, ◌↔◌, ◌⊎◌, None, Contains, array_vec_len, Stands};
-ghost use Rattle.egt_unmoves.specs.Prelude.{other_side, Setup, IsSettled, Move, plain, most_goals, ComesBy};
-ghost use Rattle.egt_unmoves.specs.Prelude.{MayComeFrom, MayHaveLeft, IsUnmove, men_before, setup_before, IsInOrder};
-ghost use Rattle.egt_unmoves.specs.Prelude.{ListsBelow, target_place, Unmove};
+ghost use Rattle.std.specs.Prelude.{◌≡◌, ◌+◌, ◌*◌, ◌<◌, ◌≤◌, ◌↔◌, ◌⊎◌, None};
+ghost use Rattle.egt_unmoves.specs.Prelude.{Contains, array_vec_len, Stands, other_side, Setup, IsSettled, Move, plain};
+ghost use Rattle.egt_unmoves.specs.Prelude.{most_goals, ComesBy, MayComeFrom, MayHaveLeft, IsUnmove, men_before};
+ghost use Rattle.egt_unmoves.specs.Prelude.{setup_before, IsInOrder, ListsBelow, target_place, Unmove};
 ghost use Rattle.std.specs.FinMap as map;
 
 use crate::sources::sources;

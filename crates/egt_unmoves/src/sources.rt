@@ -1,6 +1,7 @@
 //! Where a man may have come from.
-ghost use Rattle.egt_unmoves.specs.Prelude.{◌≡◌, ℕ, ◌<◌, ◌≤◌, ◌↔◌, IsInCheck, other_side, Stands, IsFree, Reaches};
-ghost use Rattle.egt_unmoves.specs.Prelude.{Advances, IsKingOn, rank_of, Has, size_of, most_goals, MayHaveLeft, Went};
+ghost use Rattle.std.specs.Prelude.{◌≡◌, ℕ, ◌<◌, ◌≤◌, ◌↔◌};
+ghost use Rattle.egt_unmoves.specs.Prelude.{IsInCheck, other_side, Stands, IsFree, Reaches, Advances, IsKingOn};
+ghost use Rattle.egt_unmoves.specs.Prelude.{rank_of, Has, size_of, most_goals, MayHaveLeft, Went};
 ghost use Rattle.std.specs.FinMap as map;
 
 use crate::taking_back::is_pawn;

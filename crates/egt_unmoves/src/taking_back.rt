@@ -1,7 +1,7 @@
 //! One man back on the square that it may have come from.
-ghost use Rattle.egt_unmoves.specs.Prelude.{◌≡◌, ◌↔◌, IsTrue, Man, other_side, MayStand, Advances, IsFree, SettlesTo};
-ghost use Rattle.egt_unmoves.specs.Prelude.{IsKingOn, P, plain, ComesBy, MayComeFrom, MayHaveLeft, Went, led_to};
-ghost use Rattle.egt_unmoves.specs.Prelude.{men_before, setup_before};
+ghost use Rattle.std.specs.Prelude.{◌≡◌, ◌↔◌, IsTrue};
+ghost use Rattle.egt_unmoves.specs.Prelude.{Man, other_side, MayStand, Advances, IsFree, SettlesTo, IsKingOn, P, plain};
+ghost use Rattle.egt_unmoves.specs.Prelude.{ComesBy, MayComeFrom, MayHaveLeft, Went, led_to, men_before, setup_before};
 
 use egt_board::{Board, Kind, Man, Position, Side, Square};
 use egt_moves::going::passed;

@@ -1,6 +1,7 @@
 //! The target that a position may have had before the last move.
-ghost use Rattle.egt_unmoves.specs.Prelude.{◌≡◌, ◌⊎◌, ◌↔◌, None, IsTrue, other_side, pawn_of, ahead, HasPawnBeside};
-ghost use Rattle.egt_unmoves.specs.Prelude.{Stands, Setup, rank_of, IsTarget, Move, advanced_rank, ComesBy};
+ghost use Rattle.std.specs.Prelude.{◌≡◌, ◌⊎◌, ◌↔◌, None, IsTrue};
+ghost use Rattle.egt_unmoves.specs.Prelude.{other_side, pawn_of, ahead, HasPawnBeside, Stands, Setup, rank_of};
+ghost use Rattle.egt_unmoves.specs.Prelude.{IsTarget, Move, advanced_rank, ComesBy};
 
 use egt_board::{Board, Position, Side, Square};
 

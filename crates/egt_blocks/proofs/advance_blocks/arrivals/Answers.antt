@@ -1,5 +1,5 @@
-use Rattle.egt_blocks.specs.Prelude.{◌-◌, ◌∙◌, ◌≡◌, ◌↔◌, IfSome, Option, ap, cond, eqb, min, subst, sym, bit_at}
-use Rattle.egt_blocks.specs.Prelude.{bit_at_ones, last_rank, rank_of, Kind, FitsPromotion, IsOfficer}
+use Rattle.std.proofs.Common.{◌-◌, ◌∙◌, ◌≡◌, ◌↔◌, IfSome, Option, ap, cond, eqb, min, subst, sym}
+use Rattle.egt_blocks.specs.Prelude.{bit_at, bit_at_ones, last_rank, rank_of, Kind, FitsPromotion, IsOfficer}
 use Rattle.egt_blocks.proofs.AdvanceRaising.{arrives_promoted, arrives_unpromoted}
 use Rattle.egt_blocks.proofs.advance_blocks.arrivals.Goals as goal
 

@@ -1,4 +1,5 @@
-use Rattle.egt_blocks.specs.Prelude.{◌∙◌, ap, refl, pawn_of, Side, at}
+use Rattle.std.proofs.Common.{◌∙◌, ap, refl}
+use Rattle.egt_blocks.specs.Prelude.{pawn_of, Side, at}
 use Rattle.egt_blocks.proofs.LeapRaising.{all_leaps}
 use Rattle.egt_blocks.proofs.advance_blocks.leap_block.Goals as goal
 

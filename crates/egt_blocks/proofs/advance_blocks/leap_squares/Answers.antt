@@ -1,4 +1,5 @@
-use Rattle.egt_blocks.specs.Prelude.{◌≡◌, ◌↔◌, sym, subst, bit_at, rank_of, Side, leap_rank}
+use Rattle.std.proofs.Common.{◌≡◌, ◌↔◌, sym, subst}
+use Rattle.egt_blocks.specs.Prelude.{bit_at, rank_of, Side, leap_rank}
 use Rattle.egt_blocks.proofs.LeapRaising.{on_rank}
 use Rattle.egt_blocks.proofs.advance_blocks.leap_squares.Goals as goal
 

@@ -1,5 +1,5 @@
-use Rattle.egt_blocks.specs.Prelude.{◌≡◌, ◌∙◌, ap, arith, cond, eqb, max, refl, subst, slice_index, Reaches, rank_of}
-use Rattle.egt_blocks.specs.Prelude.{ShelfMen, at, IsRaised, IsPastKings}
+use Rattle.std.proofs.Common.{◌≡◌, ◌∙◌, ap, arith, cond, eqb, max, refl, subst, slice_index}
+use Rattle.egt_blocks.specs.Prelude.{Reaches, rank_of, ShelfMen, at, IsRaised, IsPastKings}
 use Rattle.egt_blocks.proofs.AdvanceRaising.{all_captures}
 use Rattle.egt_blocks.proofs.advance_blocks.promoting_block.Goals as goal
 

@@ -1,4 +1,5 @@
-use Rattle.egt_blocks.specs.Prelude.{Some, refl, at}
+use Rattle.std.specs.Prelude.{Some, refl}
+use Rattle.egt_blocks.specs.Prelude.{at}
 use Rattle.egt_blocks.proofs.AdvanceRaising.{all_advances}
 use Rattle.egt_blocks.proofs.BlockRaising.{all_squares}
 use Rattle.egt_blocks.proofs.advance_blocks.promotion_block.Goals as goal

@@ -1,4 +1,5 @@
-use Rattle.egt_blocks.specs.Prelude.{◌≡◌, ◌<◌, ◌↔◌, ℕ, [], get_or, subst, bit_at, Advances, at, IsClear, rows_more}
+use Rattle.std.proofs.Common.{◌≡◌, ◌<◌, ◌↔◌, ℕ, [], get_or, subst}
+use Rattle.egt_blocks.specs.Prelude.{bit_at, Advances, at, IsClear, rows_more}
 use Rattle.egt_blocks.proofs.AdvanceRaising.{arrived_raised, clear_without}
 use Rattle.egt_blocks.proofs.advance_blocks.raise_advances.Goals as goal
 

@@ -1,4 +1,5 @@
-use Rattle.egt_blocks.specs.Prelude.{◌≡◌, bit_at, Advances, at, IsClear, RowsRaised}
+use Rattle.std.specs.Prelude.{◌≡◌}
+use Rattle.egt_blocks.specs.Prelude.{bit_at, Advances, at, IsClear, RowsRaised}
 use Rattle.egt_blocks.proofs.advance_blocks.raise_advances.Given as goal
 
 abbrev pub invariant-loop-a : goal.invariant-loop-a

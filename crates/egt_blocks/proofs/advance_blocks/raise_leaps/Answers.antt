@@ -1,5 +1,5 @@
-use Rattle.egt_blocks.specs.Prelude.{◌≡◌, ◌<◌, ◌↔◌, ℕ, [], get_or, subst, bit_at, AdvancesBy, at, IsBesideWhere}
-use Rattle.egt_blocks.specs.Prelude.{IsClear, rows_more}
+use Rattle.std.proofs.Common.{◌≡◌, ◌<◌, ◌↔◌, ℕ, [], get_or, subst}
+use Rattle.egt_blocks.specs.Prelude.{bit_at, AdvancesBy, at, IsBesideWhere, IsClear, rows_more}
 use Rattle.egt_blocks.proofs.AdvanceRaising.{clear_without}
 use Rattle.egt_blocks.proofs.LeapRaising.{arrived_by}
 use Rattle.egt_blocks.proofs.advance_blocks.raise_leaps.Goals as goal

@@ -1,4 +1,5 @@
-use Rattle.egt_blocks.specs.Prelude.{Bool, ◌≡◌, ◌↔◌, sym, subst, bit_at, IsBeside, IsBesideWhere}
+use Rattle.std.proofs.Common.{Bool, ◌≡◌, ◌↔◌, sym, subst}
+use Rattle.egt_blocks.specs.Prelude.{bit_at, IsBeside, IsBesideWhere}
 use Rattle.egt_blocks.proofs.LeapRaising.{others_lack}
 use Rattle.egt_blocks.proofs.advance_blocks.squares_where.Goals as goal
 

@@ -1,4 +1,5 @@
-use Rattle.egt_blocks.specs.Prelude.{◌≢◌, ◌∙◌, None, ap, false, refl, sym, false≢true, other_side, pawn_of, Side, at}
+use Rattle.std.proofs.Common.{◌≢◌, ◌∙◌, None, ap, false, refl, sym}
+use Rattle.egt_blocks.specs.Prelude.{false≢true, other_side, pawn_of, Side, at}
 use Rattle.egt_blocks.proofs.AdvanceRaising.{all_advances}
 use Rattle.egt_blocks.proofs.LeapRaising.{all_steps, steps_alone}
 use Rattle.egt_blocks.proofs.advance_blocks.step_block.Goals as goal

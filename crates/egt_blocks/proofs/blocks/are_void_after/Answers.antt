@@ -1,4 +1,5 @@
-use Rattle.egt_blocks.specs.Prelude.{arith, refl, AreOnBoard, stand_on}
+use Rattle.std.proofs.Common.{arith, refl}
+use Rattle.egt_blocks.specs.Prelude.{AreOnBoard, stand_on}
 use Rattle.egt_blocks.proofs.blocks.are_void_after.Goals as goal
 
 pub returns : goal.returns

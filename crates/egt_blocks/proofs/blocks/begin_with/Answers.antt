@@ -1,4 +1,5 @@
-use Rattle.egt_blocks.specs.Prelude.{subst, eqb-true, AreShelvesOf}
+use Rattle.std.proofs.Common.{subst}
+use Rattle.egt_blocks.specs.Prelude.{eqb-true, AreShelvesOf}
 use Rattle.egt_blocks.proofs.blocks.begin_with.Goals as goal
 
 pub returns-in-Some : goal.returns-in-Some

@@ -1,5 +1,5 @@
-use Rattle.egt_blocks.specs.Prelude.{◌≡◌, ℕ, Bool, Option, refl, ap, ◌∙◌, subst, material_of, AreHome, has_pawns, at}
-use Rattle.egt_blocks.specs.Prelude.{stand_on, IsCodeAfter}
+use Rattle.std.proofs.Common.{◌≡◌, ℕ, Bool, Option, refl, ap, ◌∙◌, subst}
+use Rattle.egt_blocks.specs.Prelude.{material_of, AreHome, has_pawns, at, stand_on, IsCodeAfter}
 use Rattle.egt_blocks.proofs.BlockRaising.{home_by_one, home_by_two, raised_max}
 use Rattle.egt_blocks.proofs.blocks.home_block.Goals as goal
 

@@ -1,4 +1,5 @@
-use Rattle.egt_blocks.specs.Prelude.{List, [], ℕ, ap, get_or, replicate, ◌∙◌, get_or-replicate}
+use Rattle.std.proofs.Common.{List, [], ℕ, ap, get_or, replicate, ◌∙◌}
+use Rattle.egt_blocks.specs.Prelude.{get_or-replicate}
 use Rattle.egt_blocks.proofs.blocks.nothing.Goals as goal
 
 pub returns : goal.returns

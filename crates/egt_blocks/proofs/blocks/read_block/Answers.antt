@@ -1,4 +1,5 @@
-use Rattle.egt_blocks.specs.Prelude.{◌∙◌, ap, refl, sym, subst, has_equal_sides, stand_on, IsReadWith}
+use Rattle.std.proofs.Common.{◌∙◌, ap, refl, sym, subst}
+use Rattle.egt_blocks.specs.Prelude.{has_equal_sides, stand_on, IsReadWith}
 use Rattle.egt_blocks.proofs.BlockRaising.{settled_raised}
 use Rattle.egt_blocks.proofs.blocks.read_block.Goals as goal
 

@@ -1,6 +1,6 @@
-use Rattle.egt_blocks.specs.Prelude.{◌≡◌, ◌<◌, ◌+◌, inl, inr, refl, ◌/◌, ◌%◌, eqb, arith, sym, ap, ◌∙◌, subst}
-use Rattle.egt_blocks.specs.Prelude.{slice_index, false≢true, get_or-replicate, MayStand, turned_side, turned_square}
-use Rattle.egt_blocks.specs.Prelude.{Side, kind_digits, kind_less, IsShelfOf, IsWithin, stand_with, TellsMen, turned_by}
+use Rattle.std.proofs.Common.{◌≡◌, ◌<◌, ◌+◌, inl, inr, refl, ◌/◌, ◌%◌, eqb, arith, sym, ap, ◌∙◌, subst, slice_index}
+use Rattle.egt_blocks.specs.Prelude.{false≢true, get_or-replicate, MayStand, turned_side, turned_square, Side}
+use Rattle.egt_blocks.specs.Prelude.{kind_digits, kind_less, IsShelfOf, IsWithin, stand_with, TellsMen, turned_by}
 use Rattle.egt_blocks.specs.Prelude.{ShelfMen, IsRaised, men_on, stand_on, IsCodeAfter, IsRaisedAfter, turned_from}
 use Rattle.egt_blocks.proofs.BlockRaising.{raised_by_none, turned_in}
 use Rattle.egt_blocks.proofs.ShelfRuns.{digit_there}

@@ -1,5 +1,5 @@
-use Rattle.egt_blocks.specs.Prelude.{◌≡◌, ◌+◌, ◌*◌, ◌/◌, ◌≤◌, ◌∙◌, ap, arith, subst, mul-le-mul_right, div-add-mod'}
-use Rattle.egt_blocks.specs.Prelude.{kind_less, IsShelfOf, size_of, ShelfMen, men_on}
+use Rattle.std.proofs.Common.{◌≡◌, ◌+◌, ◌*◌, ◌/◌, ◌≤◌, ◌∙◌, ap, arith, subst}
+use Rattle.egt_blocks.specs.Prelude.{mul-le-mul_right, div-add-mod', kind_less, IsShelfOf, size_of, ShelfMen, men_on}
 use Rattle.egt_blocks.proofs.ShelfRuns.{shelf_up}
 use Rattle.egt_blocks.proofs.blocks.shelves_of.Goals as goal
 

@@ -1,6 +1,7 @@
-use Rattle.egt_blocks.specs.Prelude.{◌≡◌, ◌≢◌, ℕ, Bool, List, [], get_or, get_or-set_other, arith, ap, sym, ◌∙◌, inl}
-use Rattle.egt_blocks.specs.Prelude.{inr, subst, length-set, cases_lt, get_or-set_at, bit_at, IsVoid, IsTurnedCodeWith}
-use Rattle.egt_blocks.specs.Prelude.{ShelfMen, stand_on, AreShelvesOf, IsCodeAfter, IsRaisedAfter, turned_from}
+use Rattle.std.proofs.Common.{◌≡◌, ◌≢◌, ℕ, Bool, List, [], get_or, get_or-set_other, arith, ap, sym, ◌∙◌, inl, inr}
+use Rattle.std.proofs.Common.{subst}
+use Rattle.egt_blocks.specs.Prelude.{length-set, cases_lt, get_or-set_at, bit_at, IsVoid, IsTurnedCodeWith, ShelfMen}
+use Rattle.egt_blocks.specs.Prelude.{stand_on, AreShelvesOf, IsCodeAfter, IsRaisedAfter, turned_from}
 use Rattle.egt_blocks.proofs.BlockRaising.{raised_by_zeros}
 use Rattle.egt_blocks.proofs.blocks.turned_block.Goals as goal
 

@@ -1,4 +1,5 @@
-use Rattle.egt_blocks.specs.Prelude.{◌≡◌, ℕ, ◌<◌, length, Has, at, stand_on, IsRaisedAfter}
+use Rattle.std.specs.Prelude.{◌≡◌, ℕ, ◌<◌, length}
+use Rattle.egt_blocks.specs.Prelude.{Has, at, stand_on, IsRaisedAfter}
 use Rattle.egt_blocks.proofs.blocks.turned_block.Given as goal
 
 -- those of the rows below a are written

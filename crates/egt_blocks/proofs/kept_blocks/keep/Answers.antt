@@ -1,6 +1,6 @@
-use Rattle.egt_blocks.specs.Prelude.{◌≡◌, ◌∙◌, ◌<◌, [], Option, None, length, slice_index_or, slice_set, arith, subst}
-use Rattle.egt_blocks.specs.Prelude.{sym, get_or_default, get_or-set_other, get_or-set_same, length-set, IsKept}
-use Rattle.egt_blocks.specs.Prelude.{IsPlaced, key_of, BlockKey}
+use Rattle.std.proofs.Common.{◌≡◌, ◌∙◌, ◌<◌, [], Option, None, length, slice_index_or, slice_set, arith, subst, sym}
+use Rattle.std.proofs.Common.{get_or-set_other}
+use Rattle.egt_blocks.specs.Prelude.{get_or_default, get_or-set_same, length-set, IsKept, IsPlaced, key_of, BlockKey}
 use Rattle.egt_blocks.proofs.Keeping.{kept_anew}
 use Rattle.egt_blocks.proofs.kept_blocks.keep.Goals as goal
 

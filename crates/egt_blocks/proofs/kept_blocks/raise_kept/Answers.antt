@@ -1,4 +1,5 @@
-use Rattle.egt_blocks.specs.Prelude.{[], false, slice_index_or, IsSomeTurnedCode, at, stand_on}
+use Rattle.std.specs.Prelude.{[], false, slice_index_or}
+use Rattle.egt_blocks.specs.Prelude.{IsSomeTurnedCode, at, stand_on}
 use Rattle.egt_blocks.proofs.BlockRaising.{raised_max}
 use Rattle.egt_blocks.proofs.kept_blocks.raise_kept.Goals as goal
 

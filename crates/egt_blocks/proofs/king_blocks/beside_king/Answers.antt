@@ -1,4 +1,5 @@
-use Rattle.egt_blocks.specs.Prelude.{◌≡◌, sym, subst, bit_at, king_of, Reaches}
+use Rattle.std.proofs.Common.{◌≡◌, sym, subst}
+use Rattle.egt_blocks.specs.Prelude.{bit_at, king_of, Reaches}
 use Rattle.egt_blocks.proofs.king_blocks.beside_king.Goals as goal
 
 pub returns : goal.returns

@@ -1,6 +1,6 @@
-use Rattle.egt_blocks.specs.Prelude.{◌≡◌, ◌∙◌, ℕ, List, Option, false, arith, sym, ap, subst, inl, inr, bit_at}
-use Rattle.egt_blocks.specs.Prelude.{cases_eq, other_side, Side, Column, ShelfMen, IsSomeTurnedCode, at, IsRaised}
-use Rattle.egt_blocks.specs.Prelude.{IsBesideKing, stand_on, with_king, AreKingCodes, AreKept, BlockKey}
+use Rattle.std.proofs.Common.{◌≡◌, ◌∙◌, ℕ, List, Option, false, arith, sym, ap, subst, inl, inr}
+use Rattle.egt_blocks.specs.Prelude.{bit_at, cases_eq, other_side, Side, Column, ShelfMen, IsSomeTurnedCode, at}
+use Rattle.egt_blocks.specs.Prelude.{IsRaised, IsBesideKing, stand_on, with_king, AreKingCodes, AreKept, BlockKey}
 use Rattle.egt_blocks.proofs.BlockRaising.{GoneKing, kept_beside, king_goes, raised_alike, raised_by_none}
 use Rattle.egt_blocks.proofs.king_blocks.king_block.Goals as goal
 

@@ -1,4 +1,5 @@
-use Rattle.egt_blocks.specs.Prelude.{ℕ, ◌<◌, other_side, Has, at, IsRaised, IsBesideKing, AreKingCodes, AreKept}
+use Rattle.std.specs.Prelude.{ℕ, ◌<◌}
+use Rattle.egt_blocks.specs.Prelude.{other_side, Has, at, IsRaised, IsBesideKing, AreKingCodes, AreKept}
 use Rattle.egt_blocks.proofs.BlockRaising.{GoneKing}
 use Rattle.egt_blocks.proofs.king_blocks.king_block.Given as goal
 

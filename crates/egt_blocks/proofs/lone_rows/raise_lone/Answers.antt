@@ -1,5 +1,5 @@
-use Rattle.egt_blocks.specs.Prelude.{◌/◌, ◌%◌, eqb, max, arith, ap, ◌∙◌, subst, slice_index, false, turned_side}
-use Rattle.egt_blocks.specs.Prelude.{turned_square, Side, lone_stand, TellsMen, IsRaised, IsCodeAfter}
+use Rattle.std.proofs.Common.{◌/◌, ◌%◌, eqb, max, arith, ap, ◌∙◌, subst, slice_index, false}
+use Rattle.egt_blocks.specs.Prelude.{turned_side, turned_square, Side, lone_stand, TellsMen, IsRaised, IsCodeAfter}
 use Rattle.egt_blocks.proofs.BlockRaising.{raised_max, turned_in}
 use Rattle.egt_blocks.proofs.lone_rows.raise_lone.Goals as goal
 

@@ -1,5 +1,5 @@
-use Rattle.egt_blocks.specs.Prelude.{◌<◌, Bool, false, Option, arith, get_or, refl, replicate, ap, ◌∙◌, subst}
-use Rattle.egt_blocks.specs.Prelude.{slice_index, get_or-replicate, material_of, AreHome, lone_stand, has_pawns}
+use Rattle.std.proofs.Common.{◌<◌, Bool, false, Option, arith, get_or, refl, replicate, ap, ◌∙◌, subst, slice_index}
+use Rattle.egt_blocks.specs.Prelude.{get_or-replicate, material_of, AreHome, lone_stand, has_pawns}
 use Rattle.egt_blocks.proofs.BlockRaising.{home_by_one, home_by_two}
 use Rattle.egt_blocks.proofs.LoneRead.{lone_read}
 use Rattle.egt_blocks.proofs.lone_rows.read_lone.Goals as goal

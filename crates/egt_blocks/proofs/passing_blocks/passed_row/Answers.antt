@@ -1,4 +1,5 @@
-use Rattle.egt_blocks.specs.Prelude.{◌∙◌, List, [], ℕ, ap, arith, get_or, inl, inr, get_or-replicate}
+use Rattle.std.proofs.Common.{◌∙◌, List, [], ℕ, ap, arith, get_or, inl, inr}
+use Rattle.egt_blocks.specs.Prelude.{get_or-replicate}
 use Rattle.egt_blocks.proofs.passing_blocks.passed_row.Goals.{in-Some, in-None}
 use Rattle.egt_blocks.proofs.passing_blocks.passed_row.Goals as goal
 

@@ -1,5 +1,6 @@
-use Rattle.egt_blocks.specs.Prelude.{◌<◌, ◌≡◌, ◌∙◌, max, arith, ap, refl, subst, Reaches, other_side, pawn_of, Side}
-use Rattle.egt_blocks.specs.Prelude.{ShelfMen, at, IsRaised, slice_index, IsPastKings, left_of, stand_left, IsRead}
+use Rattle.std.proofs.Common.{◌<◌, ◌≡◌, ◌∙◌, max, arith, ap, refl, subst, slice_index}
+use Rattle.egt_blocks.specs.Prelude.{Reaches, other_side, pawn_of, Side, ShelfMen, at, IsRaised, IsPastKings, left_of}
+use Rattle.egt_blocks.specs.Prelude.{stand_left, IsRead}
 use Rattle.egt_blocks.proofs.PassingRaising.{all_passing}
 use Rattle.egt_blocks.proofs.passing_blocks.passing_block.Goals as goal
 

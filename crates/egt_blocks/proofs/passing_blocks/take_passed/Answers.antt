@@ -1,4 +1,5 @@
-use Rattle.egt_blocks.specs.Prelude.{ℕ, ◌<◌, get_or, subst, IsAtPassed}
+use Rattle.std.proofs.Common.{ℕ, ◌<◌, get_or, subst}
+use Rattle.egt_blocks.specs.Prelude.{IsAtPassed}
 use Rattle.egt_blocks.proofs.PassingRaising.{rows_set}
 use Rattle.egt_blocks.proofs.passing_blocks.take_passed.Goals as goal
 

@@ -1,4 +1,5 @@
-use Rattle.egt_blocks.specs.Prelude.{◌∙◌, bit_at_ones}
+use Rattle.std.proofs.Common.{◌∙◌}
+use Rattle.egt_blocks.specs.Prelude.{bit_at_ones}
 use Rattle.egt_blocks.proofs.QuietRaising.{left_without}
 use Rattle.egt_blocks.proofs.quiet_blocks.clear_of.Goals as goal
 

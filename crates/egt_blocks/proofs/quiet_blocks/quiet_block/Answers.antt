@@ -1,5 +1,5 @@
-use Rattle.egt_blocks.specs.Prelude.{◌<◌, ℕ, false, sym, subst, other_side, Side, IsSomeTurnedCode, at, IsRaised}
-use Rattle.egt_blocks.specs.Prelude.{stand_on, AreKept, IsRead}
+use Rattle.std.proofs.Common.{◌<◌, ℕ, false, sym, subst}
+use Rattle.egt_blocks.specs.Prelude.{other_side, Side, IsSomeTurnedCode, at, IsRaised, stand_on, AreKept, IsRead}
 use Rattle.egt_blocks.proofs.QuietRaising.{all_quiet, king_alone, no_piece}
 use Rattle.egt_blocks.proofs.quiet_blocks.quiet_block.Goals as goal
 

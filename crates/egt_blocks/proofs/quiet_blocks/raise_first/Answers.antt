@@ -1,4 +1,5 @@
-use Rattle.egt_blocks.specs.Prelude.{ℕ, Reaches, IsOpen, at, IsClear, IsFirstStep}
+use Rattle.std.specs.Prelude.{ℕ}
+use Rattle.egt_blocks.specs.Prelude.{Reaches, IsOpen, at, IsClear, IsFirstStep}
 use Rattle.egt_blocks.proofs.QuietRaising.{no_pawn}
 use Rattle.egt_blocks.proofs.BlockRaising.{raised_alike}
 use Rattle.egt_blocks.proofs.QuietRaising.{open_is_clear, steps_raised}

@@ -1,4 +1,5 @@
-use Rattle.egt_blocks.specs.Prelude.{◌≡◌, ◌↔◌, ◌<◌, ℕ, get_or, subst, bit_at, Reaches, at, IsClear, rows_more}
+use Rattle.std.proofs.Common.{◌≡◌, ◌↔◌, ◌<◌, ℕ, get_or, subst}
+use Rattle.egt_blocks.specs.Prelude.{bit_at, Reaches, at, IsClear, rows_more}
 use Rattle.egt_blocks.proofs.QuietRaising.{steps_raised}
 use Rattle.egt_blocks.proofs.quiet_blocks.raise_lanes.Goals as goal
 

@@ -1,4 +1,5 @@
-use Rattle.egt_blocks.specs.Prelude.{◌≡◌, ◌↔◌, ◌∙◌, ap, get_or, max, subst, bit_at, slice_index, Reaches, at, rows_more}
+use Rattle.std.proofs.Common.{◌≡◌, ◌↔◌, ◌∙◌, ap, get_or, max, subst, slice_index}
+use Rattle.egt_blocks.specs.Prelude.{bit_at, Reaches, at, rows_more}
 use Rattle.egt_blocks.proofs.Taking.{IsTake, take_raised}
 use Rattle.egt_blocks.proofs.taken_blocks.raise_takes.Goals as goal
 

@@ -1,4 +1,5 @@
-use Rattle.egt_blocks.specs.Prelude.{slice_index, RowsRaised}
+use Rattle.std.specs.Prelude.{slice_index}
+use Rattle.egt_blocks.specs.Prelude.{RowsRaised}
 use Rattle.egt_blocks.proofs.Taking.{IsTake}
 use Rattle.egt_blocks.proofs.taken_blocks.raise_takes.Given as goal
 

@@ -1,5 +1,5 @@
-use Rattle.egt_blocks.specs.Prelude.{arith, refl, subst, slice_index, set, other_side, ShelfMen, left_of, stand_left}
-use Rattle.egt_blocks.specs.Prelude.{IsRead}
+use Rattle.std.proofs.Common.{arith, refl, subst, slice_index}
+use Rattle.egt_blocks.specs.Prelude.{set, other_side, ShelfMen, left_of, stand_left, IsRead}
 use Rattle.egt_blocks.proofs.Taking.{RowsTaken, taken_all, taken_more, taken_none}
 use Rattle.egt_blocks.proofs.taken_blocks.read_king_takes.Goals as goal
 

@@ -1,4 +1,5 @@
-use Rattle.egt_blocks.specs.Prelude.{◌∙◌, refl, sym, false≢true, at}
+use Rattle.std.proofs.Common.{◌∙◌, refl, sym}
+use Rattle.egt_blocks.specs.Prelude.{false≢true, at}
 use Rattle.egt_blocks.proofs.Taking.{both_take, king_raised, king_takes}
 use Rattle.egt_blocks.proofs.taken_blocks.taken_block.Goals as goal
 

@@ -1,4 +1,5 @@
-use Rattle.egt_board.specs.Prelude.{sym, ◌∙◌, arith, false≢true}
+use Rattle.std.proofs.Common.{sym, ◌∙◌, arith}
+use Rattle.egt_board.specs.Prelude.{false≢true}
 use Rattle.egt_board.proofs.Hiding.{Reaches-bare, attacks_open}
 use Rattle.egt_board.proofs.attack_lines.attacks.Goals as goal
 

@@ -1,4 +1,5 @@
-use Rattle.egt_board.specs.Prelude.{ap, sym, ◌∙◌, bit_at, false≢true, bit_at_ones}
+use Rattle.std.proofs.Common.{ap, sym, ◌∙◌}
+use Rattle.egt_board.specs.Prelude.{bit_at, false≢true, bit_at_ones}
 use Rattle.egt_board.proofs.Hiding.{stops_none, stops_between}
 use Rattle.egt_board.proofs.attack_lines.stops.Goals as goal
 

@@ -1,4 +1,5 @@
-use Rattle.egt_board.specs.Prelude.{ap, ◌∙◌, arith, bit_and, and_le_l, line_of}
+use Rattle.std.proofs.Common.{ap, ◌∙◌, arith}
+use Rattle.egt_board.specs.Prelude.{bit_and, and_le_l, line_of}
 use Rattle.egt_board.proofs.Computed.{behind_shows}
 use Rattle.egt_board.proofs.lookup.behind.Goals as goal
 

@@ -1,4 +1,5 @@
-use Rattle.egt_board.specs.Prelude.{ap, ◌∙◌, arith, bit_and, bit_xor, and_le_l, below, line_of}
+use Rattle.std.proofs.Common.{ap, ◌∙◌, arith}
+use Rattle.egt_board.specs.Prelude.{bit_and, bit_xor, and_le_l, below, line_of}
 use Rattle.egt_board.proofs.Computed.{between_shows}
 use Rattle.egt_board.proofs.lookup.between.Goals as goal
 

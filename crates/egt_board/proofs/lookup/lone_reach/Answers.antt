@@ -1,4 +1,5 @@
-use Rattle.egt_board.specs.Prelude.{◌+◌, ◌*◌, get_or, ap, ◌∙◌, arith, LONE}
+use Rattle.std.proofs.Common.{◌+◌, ◌*◌, get_or, ap, ◌∙◌, arith}
+use Rattle.egt_board.specs.Prelude.{LONE}
 use Rattle.egt_board.proofs.Computed.{lone_shows}
 use Rattle.egt_board.proofs.lookup.lone_reach.Goals as goal
 

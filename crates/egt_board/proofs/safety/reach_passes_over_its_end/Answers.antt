@@ -1,4 +1,5 @@
-use Rattle.egt_board.specs.Prelude.{sym, ◌∙◌, IsFree, get-insert_other}
+use Rattle.std.proofs.Common.{sym, ◌∙◌}
+use Rattle.egt_board.specs.Prelude.{IsFree, get-insert_other}
 use Rattle.std.specs.FinMap as map
 use Rattle.egt_board.proofs.Hiding.{Reaches-target}
 use Rattle.egt_board.proofs.safety.reach_passes_over_its_end.Goals as goal

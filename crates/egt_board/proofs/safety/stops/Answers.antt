@@ -1,5 +1,5 @@
-use Rattle.egt_board.specs.Prelude.{◌≡◌, true, refl, sym, ◌∙◌, ap, false≢true, bit_at_ones, the_type, Side, White}
-use Rattle.egt_board.specs.Prelude.{Black}
+use Rattle.std.proofs.Common.{◌≡◌, true, refl, sym, ◌∙◌, ap}
+use Rattle.egt_board.specs.Prelude.{false≢true, bit_at_ones, the_type, Side, White, Black}
 use denote.Enum.Bare.{sameb}
 use Rattle.egt_board.proofs.safety.stops.Goals as goal
 

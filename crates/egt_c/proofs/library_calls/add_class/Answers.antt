@@ -1,4 +1,5 @@
-use Rattle.egt_c.specs.Prelude.{List, ℕ, refl, sym, subst, ◌∙◌, IsAnswer, NotRead, TurnedAway, Added}
+use Rattle.std.proofs.Common.{List, ℕ, refl, sym, subst, ◌∙◌}
+use Rattle.egt_c.specs.Prelude.{IsAnswer, NotRead, TurnedAway, Added}
 use Rattle.egt_c.proofs.Reading.{memory_never_fails}
 use Rattle.egt_c.proofs.library_calls.add_class.Goals as goal
 

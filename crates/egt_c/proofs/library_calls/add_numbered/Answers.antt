@@ -1,4 +1,5 @@
-use Rattle.egt_c.specs.Prelude.{ℕ, subst, Adds}
+use Rattle.std.proofs.Common.{ℕ, subst}
+use Rattle.egt_c.specs.Prelude.{Adds}
 use Rattle.egt_c.proofs.library_calls.add_numbered.Goals as goal
 
 pub returns-in-Some : goal.returns-in-Some

@@ -1,4 +1,5 @@
-use Rattle.egt_c.specs.Prelude.{subst, Adds, Places}
+use Rattle.std.proofs.Common.{subst}
+use Rattle.egt_c.specs.Prelude.{Adds, Places}
 use Rattle.egt_c.proofs.library_calls.add_owned.Goals as goal
 
 pub returns-in-Some : goal.returns-in-Some

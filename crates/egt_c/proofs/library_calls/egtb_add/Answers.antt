@@ -1,4 +1,5 @@
-use Rattle.egt_c.specs.Prelude.{IfSome, ap, refl, arc_value, Adds, Places, held}
+use Rattle.std.proofs.Common.{IfSome, ap, refl}
+use Rattle.egt_c.specs.Prelude.{arc_value, Adds, Places, held}
 use Rattle.egt_c.proofs.Kept.{if_held}
 use Rattle.egt_c.proofs.library_calls.egtb_add.Goals as goal
 

@@ -1,4 +1,5 @@
-use Rattle.egt_c.specs.Prelude.{◌≡◌, None, sym, ap, ◌∙◌, subst, arc_value, table_at, Opened, Places}
+use Rattle.std.proofs.Common.{◌≡◌, None, sym, ap, ◌∙◌, subst}
+use Rattle.egt_c.specs.Prelude.{arc_value, table_at, Opened, Places}
 use Rattle.egt_c.proofs.library_calls.egtb_open.Goals as goal
 
 pub returns : goal.returns

@@ -1,4 +1,5 @@
-use Rattle.egt_c.specs.Prelude.{◌≡◌, ℕ, suc, ◌+◌, take, Some, sym, ap, ◌∙◌, subst, arith, men_of}
+use Rattle.std.proofs.Common.{◌≡◌, ℕ, suc, ◌+◌, take, Some, sym, ap, ◌∙◌, subst, arith}
+use Rattle.egt_c.specs.Prelude.{men_of}
 use Rattle.egt_c.proofs.Named.{one_named, none_named}
 use Rattle.egt_c.proofs.men.men_of.Goals as goal
 

@@ -1,4 +1,5 @@
-use Rattle.egt_c.specs.Prelude.{◌≡◌, take, Some, array_vec_len, men_of}
+use Rattle.std.specs.Prelude.{◌≡◌, take, Some}
+use Rattle.egt_c.specs.Prelude.{array_vec_len, men_of}
 use Rattle.egt_c.proofs.men.men_of.Given as goal
 
 -- the men so far are named

@@ -1,4 +1,5 @@
-use Rattle.egt_c.specs.Prelude.{rules, arith, NoPosition}
+use Rattle.std.proofs.Common.{rules, arith}
+use Rattle.egt_c.specs.Prelude.{NoPosition}
 use Rattle.egt_c.proofs.men.position_of.Goals as goal
 
 pub returns-in-Err-clause-fault : goal.returns-in-Err-clause-fault

@@ -1,4 +1,5 @@
-use Rattle.egt_c.specs.Prelude.{◌≡◌, List, length, map, take, ap, ◌∙◌, subst, Move, Answered, Listed, written}
+use Rattle.std.proofs.Common.{◌≡◌, List, length, map, take, ap, ◌∙◌, subst}
+use Rattle.egt_c.specs.Prelude.{Move, Answered, Listed, written}
 use Rattle.egt_c.proofs.position_calls.egtb_legal_moves.Goals as goal
 
 pub returns-in-Ok : goal.returns-in-Ok

@@ -1,4 +1,5 @@
-use Rattle.egt_c.specs.Prelude.{sym, arc_value, loaded_in, OfText, TellsVerdict, Places, held}
+use Rattle.std.proofs.Common.{sym}
+use Rattle.egt_c.specs.Prelude.{arc_value, loaded_in, OfText, TellsVerdict, Places, held}
 use Rattle.egt_c.proofs.Kept.{if_held, told_of}
 use Rattle.egt_c.proofs.position_calls.egtb_verdict.Goals as goal
 

@@ -1,4 +1,5 @@
-use Rattle.egt_c.specs.Prelude.{refl, NotLoaded, Best}
+use Rattle.std.specs.Prelude.{refl}
+use Rattle.egt_c.specs.Prelude.{NotLoaded, Best}
 use Rattle.egt_c.proofs.position_calls.tell_move.Goals as goal
 
 pub returns-in-Ok-best_move : goal.returns-in-Ok-best_move

@@ -1,5 +1,5 @@
-use Rattle.egt_c.specs.Prelude.{◌≡◌, List, length, map, take, ap, ◌∙◌, refl, subst, RootMove, NoTable, Ranked}
-use Rattle.egt_c.specs.Prelude.{shown_root}
+use Rattle.std.proofs.Common.{◌≡◌, List, length, map, take, ap, ◌∙◌, refl, subst}
+use Rattle.egt_c.specs.Prelude.{RootMove, NoTable, Ranked, shown_root}
 use Rattle.egt_c.proofs.position_calls.tell_root.Goals as goal
 
 pub returns-in-Ok-root : goal.returns-in-Ok-root

@@ -1,4 +1,5 @@
-use Rattle.egt_c.specs.Prelude.{refl, Unloaded, Told}
+use Rattle.std.specs.Prelude.{refl}
+use Rattle.egt_c.specs.Prelude.{Unloaded, Told}
 use Rattle.egt_c.proofs.position_calls.tell_verdict.Goals as goal
 
 pub returns-in-Ok-verdict : goal.returns-in-Ok-verdict

@@ -1,6 +1,6 @@
-use Rattle.egt_check.specs.Prelude.{◌≡◌, ◌+◌, ◌<◌, ℕ, ap, arith, inl, inr, subst, sym, cases_lt, bit_at, Man, code_of}
-use Rattle.egt_check.specs.Prelude.{kind_digits, kind_less, IsShelfOf, number_in, size_of, ShelfMen, AreShelvesOf}
-use Rattle.egt_check.specs.Prelude.{column_score, run_at}
+use Rattle.std.proofs.Common.{◌≡◌, ◌+◌, ◌<◌, ℕ, ap, arith, inl, inr, subst, sym}
+use Rattle.egt_check.specs.Prelude.{cases_lt, bit_at, Man, code_of, kind_digits, kind_less, IsShelfOf, number_in}
+use Rattle.egt_check.specs.Prelude.{size_of, ShelfMen, AreShelvesOf, column_score, run_at}
 use Rattle.egt_check.proofs.LaneRight.{blank_lane}
 use Rattle.egt_check.proofs.Marks.{mark, none_marked}
 use Rattle.egt_check.proofs.blank.shelves_are_blank.Goals as goal

@@ -1,4 +1,5 @@
-use Rattle.egt_check.specs.Prelude.{ℕ, ◌+◌, ◌<◌, code_of, kind_digits, number_in, IsBlank}
+use Rattle.std.specs.Prelude.{ℕ, ◌+◌, ◌<◌}
+use Rattle.egt_check.specs.Prelude.{code_of, kind_digits, number_in, IsBlank}
 use Rattle.egt_check.proofs.blank.shelves_are_blank.Given as goal
 
 -- the shelves below this digit are

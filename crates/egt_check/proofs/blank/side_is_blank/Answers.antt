@@ -1,4 +1,5 @@
-use Rattle.egt_check.specs.Prelude.{arith, subst, AreBlank}
+use Rattle.std.proofs.Common.{arith, subst}
+use Rattle.egt_check.specs.Prelude.{AreBlank}
 use Rattle.egt_check.proofs.blank.side_is_blank.Goals as goal
 
 pub returns-then-half-eq0 : goal.returns-then-half-eq0

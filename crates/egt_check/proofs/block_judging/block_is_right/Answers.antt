@@ -1,6 +1,6 @@
-use Rattle.egt_check.specs.Prelude.{◌+◌, true, false, subst, arith, code_of, kind_less, number_in, at, TableValue}
-use Rattle.egt_check.specs.Prelude.{AreJudged, IsRightLane, square_in, ◌⊎◌, ℕ, Setup, Spells, IsIndex, IsVoid, Column}
-use Rattle.egt_check.specs.Prelude.{AreBlank}
+use Rattle.std.proofs.Common.{◌+◌, true, false, subst, arith, ◌⊎◌, ℕ}
+use Rattle.egt_check.specs.Prelude.{code_of, kind_less, number_in, at, TableValue, AreJudged, IsRightLane, square_in}
+use Rattle.egt_check.specs.Prelude.{Setup, Spells, IsIndex, IsVoid, Column, AreBlank}
 use Rattle.egt_check.proofs.BlankKept.{blank_kept}
 use Rattle.egt_check.proofs.block_judging.block_is_right.Goals as goal
 

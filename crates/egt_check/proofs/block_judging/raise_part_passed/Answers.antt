@@ -1,4 +1,5 @@
-use Rattle.egt_check.specs.Prelude.{false, true, subst, sym, at, AreAllScoresOf, Part}
+use Rattle.std.proofs.Common.{false, true, subst, sym}
+use Rattle.egt_check.specs.Prelude.{at, AreAllScoresOf, Part}
 use Rattle.egt_check.proofs.block_judging.raise_part_passed.Goals as goal
 
 pub returns-in-Values : goal.returns-in-Values

@@ -1,6 +1,6 @@
-use Rattle.egt_check.specs.Prelude.{◌≡◌, ◌≢◌, ℕ, ◌+◌, ◌<◌, ap, arith, inl, inr, subst, sym, cases_lt, code_of}
-use Rattle.egt_check.specs.Prelude.{kind_digits, kind_less, IsShelfOf, number_in, size_of, ShelfMen, Man, at}
-use Rattle.egt_check.specs.Prelude.{AreShelvesOf, column_of, IsRightAtOf, column_score, run_at}
+use Rattle.std.proofs.Common.{◌≡◌, ◌≢◌, ℕ, ◌+◌, ◌<◌, ap, arith, inl, inr, subst, sym}
+use Rattle.egt_check.specs.Prelude.{cases_lt, code_of, kind_digits, kind_less, IsShelfOf, number_in, size_of, ShelfMen}
+use Rattle.egt_check.specs.Prelude.{Man, at, AreShelvesOf, column_of, IsRightAtOf, column_score, run_at}
 use Rattle.egt_check.proofs.LaneRight.{right_lane}
 use Rattle.egt_check.proofs.block_judging.shelves_are_right.Goals as goal
 

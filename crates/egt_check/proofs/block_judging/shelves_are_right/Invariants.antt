@@ -1,4 +1,5 @@
-use Rattle.egt_check.specs.Prelude.{ℕ, ◌+◌, ◌<◌, code_of, kind_digits, kind_less, number_in, at, IsRightLane}
+use Rattle.std.specs.Prelude.{ℕ, ◌+◌, ◌<◌}
+use Rattle.egt_check.specs.Prelude.{code_of, kind_digits, kind_less, number_in, at, IsRightLane}
 use Rattle.egt_check.proofs.block_judging.shelves_are_right.Given as goal
 
 -- the shelves below this digit are right

@@ -1,4 +1,5 @@
-use Rattle.egt_check.specs.Prelude.{◌<◌, ℕ, List, ap, subst, sym, slice_index, AreVoidOrAlike, Zeroing, entry_at}
+use Rattle.std.proofs.Common.{◌<◌, ℕ, List, ap, subst, sym, slice_index}
+use Rattle.egt_check.specs.Prelude.{AreVoidOrAlike, Zeroing, entry_at}
 use Rattle.egt_check.proofs.bytes.are_alike.Goals as goal
 
 pub returns : goal.returns

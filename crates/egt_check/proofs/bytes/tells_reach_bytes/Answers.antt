@@ -1,4 +1,5 @@
-use Rattle.egt_check.specs.Prelude.{◌<◌, ℕ, List, slice_index, ap, subst, sym, IsVoidOrNear, reach_at}
+use Rattle.std.proofs.Common.{◌<◌, ℕ, List, slice_index, ap, subst, sym}
+use Rattle.egt_check.specs.Prelude.{IsVoidOrNear, reach_at}
 use Rattle.egt_check.proofs.NearBytes.{has_near_bytes}
 use Rattle.egt_check.proofs.bytes.tells_reach_bytes.Goals as goal
 

@@ -1,5 +1,5 @@
-use Rattle.egt_check.specs.Prelude.{◌≡◌, ap, subst, ◌∙◌, arith, size_of, IsJudgedBy, KeepsReach, table_at, beside}
-use Rattle.egt_check.specs.Prelude.{keeps_reach_more}
+use Rattle.std.proofs.Common.{◌≡◌, ap, subst, ◌∙◌, arith}
+use Rattle.egt_check.specs.Prelude.{size_of, IsJudgedBy, KeepsReach, table_at, beside, keeps_reach_more}
 use Rattle.egt_check.proofs.checking.first_bad_reach.Goals as goal
 
 pub loop-index-preserved : goal.loop-index-preserved

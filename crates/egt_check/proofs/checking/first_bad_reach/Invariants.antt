@@ -1,4 +1,5 @@
-use Rattle.egt_check.specs.Prelude.{◌≤◌, size_of, KeepsReachBelow, table_at, beside}
+use Rattle.std.specs.Prelude.{◌≤◌}
+use Rattle.egt_check.specs.Prelude.{size_of, KeepsReachBelow, table_at, beside}
 use Rattle.egt_check.proofs.checking.first_bad_reach.Given as goal
 
 abbrev pub invariant-loop-index : goal.invariant-loop-index

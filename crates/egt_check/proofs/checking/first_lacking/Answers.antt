@@ -1,5 +1,5 @@
-use Rattle.egt_check.specs.Prelude.{◌≡◌, ℕ, List, sym, subst, ◌∙◌, Contains, IsStrictlyIncreasing, children_of}
-use Rattle.egt_check.specs.Prelude.{LacksReach, table_at, first_is_least}
+use Rattle.std.proofs.Common.{◌≡◌, ℕ, List, sym, subst, ◌∙◌}
+use Rattle.egt_check.specs.Prelude.{Contains, IsStrictlyIncreasing, children_of, LacksReach, table_at, first_is_least}
 use Rattle.egt_check.proofs.checking.first_lacking.Goals as goal
 
 pub returns-then-lacks_reach-clause-some : goal.returns-then-lacks_reach-clause-some

@@ -1,4 +1,5 @@
-use Rattle.egt_check.specs.Prelude.{◌≡◌, ℕ, ◌<◌, get_or, LacksReach, table_at}
+use Rattle.std.specs.Prelude.{◌≡◌, ℕ, ◌<◌, get_or}
+use Rattle.egt_check.specs.Prelude.{LacksReach, table_at}
 use Rattle.egt_check.proofs.checking.first_lacking.Given as goal
 
 -- no child so far lacks the column

@@ -1,4 +1,5 @@
-use Rattle.egt_check.specs.Prelude.{◌≡◌, ℕ, ◌<◌, get_or, IsSome, table_at}
+use Rattle.std.specs.Prelude.{◌≡◌, ℕ, ◌<◌, get_or, IsSome}
+use Rattle.egt_check.specs.Prelude.{table_at}
 use Rattle.egt_check.proofs.checking.first_missing.Given as goal
 
 -- the children so far have their tables

@@ -1,5 +1,6 @@
-use Rattle.egt_check.specs.Prelude.{◌≡◌, ◌+◌, ap, subst, sym, ◌∙◌, arith, size_of, Mate, Zeroing, IsFirstBad, IsJudged}
-use Rattle.egt_check.specs.Prelude.{KeepsBelow, table_at, beside, keeps_more, first_bad_more}
+use Rattle.std.proofs.Common.{◌≡◌, ◌+◌, ap, subst, sym, ◌∙◌, arith}
+use Rattle.egt_check.specs.Prelude.{size_of, Mate, Zeroing, IsFirstBad, IsJudged, KeepsBelow, table_at, beside}
+use Rattle.egt_check.specs.Prelude.{keeps_more, first_bad_more}
 use Rattle.egt_check.proofs.checking.judge_from.Goals as goal
 
 pub loop-index-init : goal.loop-index-init

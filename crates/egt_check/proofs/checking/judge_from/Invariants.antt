@@ -1,4 +1,5 @@
-use Rattle.egt_check.specs.Prelude.{◌≤◌, size_of, Mate, IsFirstBad, KeepsBelow, table_at, beside}
+use Rattle.std.specs.Prelude.{◌≤◌}
+use Rattle.egt_check.specs.Prelude.{size_of, Mate, IsFirstBad, KeepsBelow, table_at, beside}
 use Rattle.egt_check.proofs.checking.judge_from.Given as goal
 
 abbrev pub invariant-loop-index : goal.invariant-loop-index

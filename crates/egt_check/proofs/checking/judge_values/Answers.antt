@@ -1,4 +1,5 @@
-use Rattle.egt_check.specs.Prelude.{refl, subst, size_of, IsFirstBad, table_at, beside, keeps_both}
+use Rattle.std.proofs.Common.{refl, subst}
+use Rattle.egt_check.specs.Prelude.{size_of, IsFirstBad, table_at, beside, keeps_both}
 use Rattle.egt_check.proofs.checking.judge_values.Goals as goal
 
 pub returns-in-Ok-None-clause-exact : goal.returns-in-Ok-None-clause-exact

@@ -1,4 +1,4 @@
-use Rattle.egt_check.specs.Prelude.{◌≡◌, ◌∙◌, ◌*◌, ◌/◌, ◌%◌, ◌<◌, ℕ, List, length, map, ap, arith, sym, subst}
+use Rattle.std.proofs.Common.{◌≡◌, ◌∙◌, ◌*◌, ◌/◌, ◌%◌, ◌<◌, ℕ, List, length, map, ap, arith, sym, subst}
 use Rattle.egt_check.specs.Prelude.{ext_get_or, length-map, places, size_of, TableValue, entries_of, IsToldEntry, told}
 use Rattle.egt_check.proofs.FoundTold.{told_at, told_none}
 use Rattle.egt_check.proofs.ScoreRowsRead.{whole_class}

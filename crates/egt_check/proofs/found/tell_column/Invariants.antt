@@ -1,4 +1,5 @@
-use Rattle.egt_check.specs.Prelude.{ℕ, ◌<◌, Side, code_of, places, number_in, IsToldEntry, IsToldFrom}
+use Rattle.std.specs.Prelude.{ℕ, ◌<◌}
+use Rattle.egt_check.specs.Prelude.{Side, code_of, places, number_in, IsToldEntry, IsToldFrom}
 use Rattle.egt_check.proofs.found.tell_column.Given as goal
 
 -- the codes of the shelves so far are told

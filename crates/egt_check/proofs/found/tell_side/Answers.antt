@@ -1,4 +1,4 @@
-use Rattle.egt_check.specs.Prelude.{◌≡◌, ◌∙◌, ◌+◌, ◌*◌, ◌<◌, ℕ, ap, arith, below_more, length, sym, subst, slice_index}
+use Rattle.std.proofs.Common.{◌≡◌, ◌∙◌, ◌+◌, ◌*◌, ◌<◌, ℕ, ap, arith, below_more, length, sym, subst, slice_index}
 use Rattle.egt_check.specs.Prelude.{get_or_default, code_of, kind_digits, kind_less, number_in, square_in, TableValue}
 use Rattle.egt_check.specs.Prelude.{IsToldEntry, told}
 use Rattle.egt_check.proofs.FoundTold.{told_here, told_more, told_still}

@@ -1,4 +1,5 @@
-use Rattle.egt_check.specs.Prelude.{ℕ, ◌<◌, code_of, number_in, IsToldEntry, IsToldFrom}
+use Rattle.std.specs.Prelude.{ℕ, ◌<◌}
+use Rattle.egt_check.specs.Prelude.{code_of, number_in, IsToldEntry, IsToldFrom}
 use Rattle.egt_check.proofs.found.tell_side.Given as goal
 
 -- the codes of the digits so far are told

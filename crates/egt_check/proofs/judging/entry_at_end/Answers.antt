@@ -1,4 +1,5 @@
-use Rattle.egt_check.specs.Prelude.{refl, inl, inr, stale_unless_mated}
+use Rattle.std.proofs.Common.{refl, inl, inr}
+use Rattle.egt_check.specs.Prelude.{stale_unless_mated}
 use Rattle.egt_check.proofs.judging.entry_at_end.Goals as goal
 
 pub returns-in-Checkmate : goal.returns-in-Checkmate

@@ -1,5 +1,5 @@
-use Rattle.egt_check.specs.Prelude.{ℕ, false, sym, subst, Setup, Spells, IsVoid, Mate, Zeroing, Finds, FindsVoid}
-use Rattle.egt_check.specs.Prelude.{table_at, beside, entry_at}
+use Rattle.std.proofs.Common.{ℕ, false, sym, subst}
+use Rattle.egt_check.specs.Prelude.{Setup, Spells, IsVoid, Mate, Zeroing, Finds, FindsVoid, table_at, beside, entry_at}
 use Rattle.egt_check.proofs.FirstRule.{judged, void_judged}
 use Rattle.egt_check.proofs.judging.judge.Goals as goal
 

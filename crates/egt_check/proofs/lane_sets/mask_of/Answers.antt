@@ -1,5 +1,5 @@
-use Rattle.egt_check.specs.Prelude.{◌≡◌, ◌∙◌, ℕ, arith, inl, inr, replicate, sym, bit_at, slice_index, cases_eq}
-use Rattle.egt_check.specs.Prelude.{get_or-replicate, bit_at-lt}
+use Rattle.std.proofs.Common.{◌≡◌, ◌∙◌, ℕ, arith, inl, inr, replicate, sym, slice_index}
+use Rattle.egt_check.specs.Prelude.{bit_at, cases_eq, get_or-replicate, bit_at-lt}
 use Rattle.egt_check.proofs.ByteJudged.{if_not, if_same}
 use Rattle.egt_check.proofs.lane_sets.mask_of.Goals as goal
 

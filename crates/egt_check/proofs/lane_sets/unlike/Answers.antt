@@ -1,4 +1,5 @@
-use Rattle.egt_check.specs.Prelude.{◌≡◌, ◌∙◌, cond, eqb, get_or, replicate, subst, sym, arith, other, select}
+use Rattle.std.proofs.Common.{◌≡◌, ◌∙◌, cond, eqb, get_or, replicate, subst, sym, arith}
+use Rattle.egt_check.specs.Prelude.{other, select}
 use lib.Lanes.{zip2}
 use Rattle.egt_check.proofs.UnlikeRows.{unlike_at}
 use Rattle.egt_check.proofs.lane_sets.unlike.Goals as goal

@@ -1,4 +1,5 @@
-use Rattle.egt_check.specs.Prelude.{◌==◌, if◌then◌else◌, ◌∙◌, ap, slice_index, get_or-replicate}
+use Rattle.std.proofs.Common.{◌==◌, if◌then◌else◌, ◌∙◌, ap, slice_index}
+use Rattle.egt_check.specs.Prelude.{get_or-replicate}
 use Rattle.egt_check.proofs.lane_sets.without_score.Goals as goal
 
 pub returns : goal.returns

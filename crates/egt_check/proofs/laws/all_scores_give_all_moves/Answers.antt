@@ -1,6 +1,6 @@
-use Rattle.egt_check.specs.Prelude.{◌≡◌, ◌≢◌, ◌<◌, ℕ, Bool, true, false, Some, inl, max, refl, sym, subst, arith, P, K}
-use Rattle.egt_check.specs.Prelude.{Side, Setup, HasStand, ShelfMen, zeroing_score, stand_on, AreGiven, AreAllScores}
-use Rattle.egt_check.specs.Prelude.{AreMoveScores, AreTablesOf, stand_in, Tables, men_swapped, FourMen}
+use Rattle.std.proofs.Common.{◌≡◌, ◌≢◌, ◌<◌, ℕ, Bool, true, false, Some, inl, max, refl, sym, subst, arith}
+use Rattle.egt_check.specs.Prelude.{P, K, Side, Setup, HasStand, ShelfMen, zeroing_score, stand_on, AreGiven}
+use Rattle.egt_check.specs.Prelude.{AreAllScores, AreMoveScores, AreTablesOf, stand_in, Tables, men_swapped, FourMen}
 use Rattle.egt_check.proofs.ByteJudged.{zeroing_max}
 use Rattle.egt_check.proofs.PawnsGiven.{IsEitherPassing, PawnLaws, loud_given, nothing_passing, passing_given}
 use Rattle.egt_check.proofs.laws.all_scores_give_all_moves.Goals as goal

@@ -1,4 +1,5 @@
-use Rattle.egt_check.specs.Prelude.{Mate, Zeroing, Metric, Tells, Setup, Value, ◌≡◌}
+use Rattle.std.specs.Prelude.{◌≡◌}
+use Rattle.egt_check.specs.Prelude.{Mate, Zeroing, Metric, Tells, Setup, Value}
 use Rattle.egt_check.proofs.EqualTables.{One, equal_tables}
 use Rattle.egt_check.proofs.laws.true_tables_of_a_class_are_equal.Goals as goal
 

@@ -1,5 +1,6 @@
-use Rattle.egt_check.specs.Prelude.{◌≡◌, ℕ, ◌<◌, List, false, sym, subst, other_side, Side, IsSomeTurnedCode, ShelfMen}
-use Rattle.egt_check.specs.Prelude.{at, IsRaised, TableValue, Column, stand_on, AreKept, AreStill, column_score, IsRead}
+use Rattle.std.proofs.Common.{◌≡◌, ℕ, ◌<◌, List, false, sym, subst}
+use Rattle.egt_check.specs.Prelude.{other_side, Side, IsSomeTurnedCode, ShelfMen, at, IsRaised, TableValue, Column}
+use Rattle.egt_check.specs.Prelude.{stand_on, AreKept, AreStill, column_score, IsRead}
 use Rattle.egt_check.proofs.move_scores.advances.Goals as goal
 
 -- ---- the men where they stand

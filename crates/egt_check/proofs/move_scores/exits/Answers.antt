@@ -1,4 +1,5 @@
-use Rattle.egt_check.specs.Prelude.{◌∙◌, max, ap, at}
+use Rattle.std.proofs.Common.{◌∙◌, max, ap}
+use Rattle.egt_check.specs.Prelude.{at}
 use Rattle.egt_check.proofs.move_scores.exits.Goals as goal
 
 pub returns-then-raise_first_taken : goal.returns-then-raise_first_taken

@@ -1,4 +1,5 @@
-use Rattle.egt_check.specs.Prelude.{◌∙◌, max, ap, refl, at, zeroing_score}
+use Rattle.std.proofs.Common.{◌∙◌, max, ap, refl}
+use Rattle.egt_check.specs.Prelude.{at, zeroing_score}
 use Rattle.egt_check.proofs.ByteJudged.{zeroing_max}
 use Rattle.egt_check.proofs.Exits.{raised_twice, zeroed_alone, zeroing_of}
 use Rattle.egt_table.specs.declared.column.Column.TheVariants.{Mate}

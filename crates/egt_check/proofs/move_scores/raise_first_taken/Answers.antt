@@ -1,5 +1,6 @@
-use Rattle.egt_check.specs.Prelude.{◌≢◌, ◌∙◌, arith, inl, inr, subst, sym, false≢true, other_side, ShelfMen, at}
-use Rattle.egt_check.specs.Prelude.{IsRaised, AreLeftCodes, men_swapped, column_score, raised_by_none}
+use Rattle.std.proofs.Common.{◌≢◌, ◌∙◌, arith, inl, inr, subst, sym}
+use Rattle.egt_check.specs.Prelude.{false≢true, other_side, ShelfMen, at, IsRaised, AreLeftCodes, men_swapped}
+use Rattle.egt_check.specs.Prelude.{column_score, raised_by_none}
 use Rattle.egt_check.proofs.move_scores.raise_first_taken.Goals as goal
 
 pub returns-then-not-is_of : goal.returns-then-not-is_of

@@ -1,4 +1,5 @@
-use Rattle.egt_check.specs.Prelude.{Option, arith, inl, refl, sym, subst, ShelfMen, at, IsBestPromotion, Promotions}
+use Rattle.std.proofs.Common.{Option, arith, inl, refl, sym, subst}
+use Rattle.egt_check.specs.Prelude.{ShelfMen, at, IsBestPromotion, Promotions}
 use Rattle.egt_check.proofs.EqualPawns.{same_order}
 use Rattle.egt_check.proofs.Exits.{raised_twice}
 use Rattle.egt_check.proofs.move_scores.raise_pawns_promoted.Goals as goal

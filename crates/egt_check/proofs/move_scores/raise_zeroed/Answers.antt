@@ -1,5 +1,5 @@
-use Rattle.egt_check.specs.Prelude.{◌≡◌, ◌≢◌, ℕ, get_or, List, [], max, sym, ap, ◌∙◌, get_or-set_other, inl, inr, arith}
-use Rattle.egt_check.specs.Prelude.{length-set, cases_lt, get_or-set_at, at, zeroing_score}
+use Rattle.std.proofs.Common.{◌≡◌, ◌≢◌, ℕ, get_or, List, [], max, sym, ap, ◌∙◌, inl, inr, arith}
+use Rattle.egt_check.specs.Prelude.{get_or-set_other, length-set, cases_lt, get_or-set_at, at, zeroing_score}
 use Rattle.egt_check.proofs.move_scores.raise_zeroed.Goals as goal
 
 pub loop-i-preserved : goal.loop-i-preserved

@@ -1,4 +1,5 @@
-use Rattle.egt_check.specs.Prelude.{◌≡◌, ℕ, ◌<◌, ◌≤◌, List, length, max, at, zeroing_score}
+use Rattle.std.specs.Prelude.{◌≡◌, ℕ, ◌<◌, ◌≤◌, List, length, max}
+use Rattle.egt_check.specs.Prelude.{at, zeroing_score}
 use Rattle.egt_check.proofs.move_scores.raise_zeroed.Given as goal
 
 -- rows below i are raised, and the others are as they were

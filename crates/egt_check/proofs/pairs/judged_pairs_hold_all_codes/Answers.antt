@@ -1,4 +1,5 @@
-use Rattle.egt_check.specs.Prelude.{◌<◌, ◌*◌, arith, kind_digits, KeepsPart}
+use Rattle.std.proofs.Common.{◌<◌, ◌*◌, arith}
+use Rattle.egt_check.specs.Prelude.{kind_digits, KeepsPart}
 use Rattle.egt_check.proofs.PairsJudged.{pairs_keep}
 use Rattle.egt_check.proofs.pairs.judged_pairs_hold_all_codes.Goals as goal
 

@@ -1,8 +1,8 @@
-use Rattle.egt_check.specs.Prelude.{◌≡◌, ◌≢◌, ◌*◌, ◌-◌, ◌%◌, ◌<◌, ◌∙◌, ℕ, Bool, ap, arith, inl, inr, sym, cases_eq}
-use Rattle.egt_check.specs.Prelude.{Setup, K, Side, Spells, IsIndex, IsVoid, ShelfMen, byte_score, reach_score, FourMen}
-use Rattle.egt_check.specs.Prelude.{Mate, Part, Values, Reach, stand_on, AreTablesOf, near_tables, four_in, tables_in}
-use Rattle.egt_check.specs.Prelude.{AreAllReachScores, AreAllScoresOf, IsRightLane, KeepsPart, Tables, entry_at}
-use Rattle.egt_check.specs.Prelude.{reach_at, column_score}
+use Rattle.std.proofs.Common.{◌≡◌, ◌≢◌, ◌*◌, ◌-◌, ◌%◌, ◌<◌, ◌∙◌, ℕ, Bool, ap, arith, inl, inr, sym}
+use Rattle.egt_check.specs.Prelude.{cases_eq, Setup, K, Side, Spells, IsIndex, IsVoid, ShelfMen, byte_score}
+use Rattle.egt_check.specs.Prelude.{reach_score, FourMen, Mate, Part, Values, Reach, stand_on, AreTablesOf, near_tables}
+use Rattle.egt_check.specs.Prelude.{four_in, tables_in, AreAllReachScores, AreAllScoresOf, IsRightLane, KeepsPart}
+use Rattle.egt_check.specs.Prelude.{Tables, entry_at, reach_at, column_score}
 use Rattle.egt_table.specs.declared.column.Column.TheVariants as columns
 use Rattle.egt_check.proofs.AllJudged.{Says, all_judged, some_score}
 use Rattle.egt_check.proofs.NearJudged.{void_kept}

@@ -1,5 +1,5 @@
-use Rattle.egt_check.specs.Prelude.{true, ◌∙◌, ap, arith, sym, subst, has_equal_sides, ShelfMen, at, AreAdvanceScores}
-use Rattle.egt_check.specs.Prelude.{men_swapped}
+use Rattle.std.proofs.Common.{true, ◌∙◌, ap, arith, sym, subst}
+use Rattle.egt_check.specs.Prelude.{has_equal_sides, ShelfMen, at, AreAdvanceScores, men_swapped}
 use Rattle.egt_check.proofs.EqualPawns.{advanced_as_last}
 use Rattle.egt_check.proofs.Exits.{no_advances, no_own_pawn}
 use Rattle.egt_check.proofs.pawn_scores.own_pawn_moves.Goals as goal

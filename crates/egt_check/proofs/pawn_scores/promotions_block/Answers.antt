@@ -1,4 +1,5 @@
-use Rattle.egt_check.specs.Prelude.{inr, sym, subst, ◌∙◌, at, pawn_is, ArePromotionScores}
+use Rattle.std.proofs.Common.{inr, sym, subst, ◌∙◌}
+use Rattle.egt_check.specs.Prelude.{at, pawn_is, ArePromotionScores}
 use Rattle.egt_check.proofs.pawn_scores.promotions_block.Goals as goal
 
 pub returns : goal.returns

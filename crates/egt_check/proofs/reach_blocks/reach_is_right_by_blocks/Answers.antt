@@ -1,4 +1,5 @@
-use Rattle.egt_check.specs.Prelude.{ℕ, ◌<◌, subst, size_of, TableValue, KeepsPart, beside, table_at, Mate, Reach}
+use Rattle.std.proofs.Common.{ℕ, ◌<◌, subst}
+use Rattle.egt_check.specs.Prelude.{size_of, TableValue, KeepsPart, beside, table_at, Mate, Reach}
 use Rattle.egt_entries.specs.declared.rule.Rule.TheVariants as rules
 use Rattle.egt_check.proofs.reach_blocks.reach_is_right_by_blocks.Goals as goal
 

@@ -1,5 +1,5 @@
-use Rattle.egt_check.specs.Prelude.{ℕ, false, sym, subst, Setup, Spells, IsVoid, FindsReach, table_at, beside}
-use Rattle.egt_check.specs.Prelude.{reach_judged}
+use Rattle.std.proofs.Common.{ℕ, false, sym, subst}
+use Rattle.egt_check.specs.Prelude.{Setup, Spells, IsVoid, FindsReach, table_at, beside, reach_judged}
 use Rattle.egt_check.proofs.reach_judging.judge_reach.Goals as goal
 
 pub reach_due-requires-clause-own : goal.reach_due-requires-clause-own

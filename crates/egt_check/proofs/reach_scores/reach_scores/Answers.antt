@@ -1,4 +1,5 @@
-use Rattle.egt_check.specs.Prelude.{max, refl, at}
+use Rattle.std.specs.Prelude.{max, refl}
+use Rattle.egt_check.specs.Prelude.{at}
 use Rattle.egt_check.proofs.Exits.{raised_twice, zeroed_alone, zeroing_of}
 use Rattle.egt_table.specs.declared.column.Column.TheVariants.{Reach}
 use Rattle.egt_check.proofs.reach_scores.reach_scores.Goals as goal

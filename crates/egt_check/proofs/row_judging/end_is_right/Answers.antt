@@ -1,6 +1,6 @@
-use Rattle.egt_check.specs.Prelude.{◌≡◌, ℕ, ◌+◌, ◌/◌, ◌∙◌, arith, inl, inr, sym, subst, eqb-true, Setup, Spells, Mate}
-use Rattle.egt_check.specs.Prelude.{Zeroing, Part, near_entry, IsRightEnd, IsRightEndOf, IsRightReachEnd, IsAtEnd}
-use Rattle.egt_check.specs.Prelude.{reach_at}
+use Rattle.std.proofs.Common.{◌≡◌, ℕ, ◌+◌, ◌/◌, ◌∙◌, arith, inl, inr, sym, subst}
+use Rattle.egt_check.specs.Prelude.{eqb-true, Setup, Spells, Mate, Zeroing, Part, near_entry, IsRightEnd, IsRightEndOf}
+use Rattle.egt_check.specs.Prelude.{IsRightReachEnd, IsAtEnd, reach_at}
 use Rattle.egt_check.proofs.row_judging.end_is_right.Goals as goal
 
 -- checkmate and stalemate as they are read

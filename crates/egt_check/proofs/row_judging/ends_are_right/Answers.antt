@@ -1,5 +1,5 @@
-use Rattle.egt_check.specs.Prelude.{◌≡◌, ◌∙◌, ◌+◌, ◌*◌, arith, ap, inl, inr, sym, subst, cases_eq, code_of, kind_less}
-use Rattle.egt_check.specs.Prelude.{size_of, IsRightEndOf}
+use Rattle.std.proofs.Common.{◌≡◌, ◌∙◌, ◌+◌, ◌*◌, arith, ap, inl, inr, sym, subst}
+use Rattle.egt_check.specs.Prelude.{cases_eq, code_of, kind_less, size_of, IsRightEndOf}
 use Rattle.egt_check.proofs.row_judging.ends_are_right.Goals as goal
 
 pub overflow_add-first : goal.overflow_add-first

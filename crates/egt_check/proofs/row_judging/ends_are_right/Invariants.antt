@@ -1,4 +1,5 @@
-use Rattle.egt_check.specs.Prelude.{◌≡◌, ℕ, ◌+◌, ◌*◌, ◌<◌, bit_at, Has, code_of, kind_digits, kind_less, IsRightEndOf}
+use Rattle.std.specs.Prelude.{◌≡◌, ℕ, ◌+◌, ◌*◌, ◌<◌}
+use Rattle.egt_check.specs.Prelude.{bit_at, Has, code_of, kind_digits, kind_less, IsRightEndOf}
 use Rattle.egt_check.proofs.row_judging.ends_are_right.Given as goal
 
 -- the squares that are no longer left

@@ -1,7 +1,7 @@
-use Rattle.egt_check.specs.Prelude.{◌==◌, if◌then◌else◌, ◌≡◌, ◌≢◌, ◌∙◌, ℕ, ◌+◌, ◌*◌, ap, arith, refl, sym, subst}
-use Rattle.egt_check.specs.Prelude.{slice_index, get_or-replicate, code_of, kind_less, number_in, due_score}
-use Rattle.egt_check.specs.Prelude.{TableValue, Column, Zeroing, Part, Values, Reach, column_of, IsRightAtOf}
-use Rattle.egt_check.specs.Prelude.{IsRightEndOf, due_in, column_score, score_at, square_in}
+use Rattle.std.proofs.Common.{◌==◌, if◌then◌else◌, ◌≡◌, ◌≢◌, ◌∙◌, ℕ, ◌+◌, ◌*◌, ap, arith, refl, sym, subst, slice_index}
+use Rattle.egt_check.specs.Prelude.{get_or-replicate, code_of, kind_less, number_in, due_score, TableValue, Column}
+use Rattle.egt_check.specs.Prelude.{Zeroing, Part, Values, Reach, column_of, IsRightAtOf, IsRightEndOf, due_in}
+use Rattle.egt_check.specs.Prelude.{column_score, score_at, square_in}
 use Rattle.egt_check.proofs.ByteJudged.{if_not, if_same}
 use Rattle.egt_check.proofs.RowJudged.{lane_is}
 use Rattle.egt_check.proofs.row_judging.row_is_right.Goals as goal

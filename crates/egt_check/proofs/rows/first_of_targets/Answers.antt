@@ -1,4 +1,5 @@
-use Rattle.egt_check.specs.Prelude.{◌*◌, ◌+◌, ◌/◌, ◌≤◌, ◌∙◌, ap, subst, sym, code_of, size_of, first_within}
+use Rattle.std.proofs.Common.{◌*◌, ◌+◌, ◌/◌, ◌≤◌, ◌∙◌, ap, subst, sym}
+use Rattle.egt_check.specs.Prelude.{code_of, size_of, first_within}
 use Rattle.egt_check.proofs.rows.first_of_targets.Goals as goal
 
 pub returns-clause-within : goal.returns-clause-within

@@ -1,4 +1,5 @@
-use Rattle.egt_check.specs.Prelude.{◌*◌, ◌∙◌, ap, refl, sym, ℕ, List, slice_index, places}
+use Rattle.std.proofs.Common.{◌*◌, ◌∙◌, ap, refl, sym, ℕ, List, slice_index}
+use Rattle.egt_check.specs.Prelude.{places}
 use Rattle.egt_check.proofs.RowRead.{of_pawn, of_piece}
 use Rattle.egt_check.proofs.rows.plain_row.Goals.{then-is_pawn, else-is_pawn}
 use Rattle.egt_check.proofs.rows.plain_row.Goals as goal

@@ -1,4 +1,5 @@
-use Rattle.egt_check.specs.Prelude.{List, ℕ, sym, subst, IsShelfRow, row_read, column_score}
+use Rattle.std.proofs.Common.{List, ℕ, sym, subst}
+use Rattle.egt_check.specs.Prelude.{IsShelfRow, row_read, column_score}
 use Rattle.egt_check.proofs.rows.row_of.Goals.{then-has_target, else-has_target}
 use Rattle.egt_check.proofs.rows.row_of.Goals as goal
 

@@ -1,4 +1,5 @@
-use Rattle.egt_check.specs.Prelude.{◌*◌, ◌+◌, ◌/◌, ◌∙◌, ap, refl, code_of, places, bit_of, first_of_shelf}
+use Rattle.std.proofs.Common.{◌*◌, ◌+◌, ◌/◌, ◌∙◌, ap, refl}
+use Rattle.egt_check.specs.Prelude.{code_of, places, bit_of, first_of_shelf}
 use Rattle.egt_check.proofs.RowRead.{of_targets}
 use Rattle.egt_check.proofs.rows.target_row.Goals as goal
 

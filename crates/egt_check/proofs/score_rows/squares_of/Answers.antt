@@ -1,5 +1,5 @@
-use Rattle.egt_check.specs.Prelude.{◌≡◌, ◌∙◌, ◌+◌, ◌-◌, ap, arith, inl, inr, sym, bit_at}
-use Rattle.egt_check.specs.Prelude.{kind_less, pawn_digits}
+use Rattle.std.proofs.Common.{◌≡◌, ◌∙◌, ◌+◌, ◌-◌, ap, arith, inl, inr, sym}
+use Rattle.egt_check.specs.Prelude.{bit_at, kind_less, pawn_digits}
 use Rattle.egt_check.proofs.ScoresDrawn.{shifted_high, shifted_low}
 use Rattle.egt_check.proofs.score_rows.squares_of.Goals as goal
 

@@ -1,5 +1,6 @@
-use Rattle.egt_check.specs.Prelude.{None, sym, subst, Contains, shown_by, best_found, listed_there, none_found}
-use Rattle.egt_check.specs.Prelude.{tried_all, tried_more, tried_none}
+use Rattle.std.proofs.Common.{None, sym, subst}
+use Rattle.egt_check.specs.Prelude.{Contains, shown_by, best_found, listed_there, none_found, tried_all, tried_more}
+use Rattle.egt_check.specs.Prelude.{tried_none}
 use Rattle.egt_check.proofs.successors.best.Goals as goal
 
 pub loop-chess_move-init : goal.loop-chess_move-init

@@ -1,4 +1,5 @@
-use Rattle.egt_check.specs.Prelude.{None, AreRaised, shown_by, Tried}
+use Rattle.std.specs.Prelude.{None}
+use Rattle.egt_check.specs.Prelude.{AreRaised, shown_by, Tried}
 use Rattle.egt_check.proofs.successors.best.Given as goal
 
 -- the best of the moves so far

@@ -1,4 +1,5 @@
-use Rattle.egt_check.specs.Prelude.{◌<◌, sym, subst, size_of, HasEntry, beside, table_at}
+use Rattle.std.proofs.Common.{◌<◌, sym, subst}
+use Rattle.egt_check.specs.Prelude.{size_of, HasEntry, beside, table_at}
 use Rattle.egt_check.proofs.Told.{entry_there}
 use Rattle.egt_check.proofs.successors.entries_in.Goals as goal
 

@@ -1,4 +1,5 @@
-use Rattle.egt_check.specs.Prelude.{ℕ, Some, Setup, IsNearest, ShowsReachOf, table_at, beside, Tried}
+use Rattle.std.specs.Prelude.{ℕ, Some}
+use Rattle.egt_check.specs.Prelude.{Setup, IsNearest, ShowsReachOf, table_at, beside, Tried}
 use Rattle.egt_check.proofs.successors.least_reach.Given as goal
 
 -- the least number after the moves so far

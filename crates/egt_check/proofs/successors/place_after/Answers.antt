@@ -1,4 +1,5 @@
-use Rattle.egt_check.specs.Prelude.{refl, subst, Setup, leads_to_one, IsPlaceOf}
+use Rattle.std.proofs.Common.{refl, subst}
+use Rattle.egt_check.specs.Prelude.{Setup, leads_to_one, IsPlaceOf}
 use Rattle.egt_check.proofs.successors.place_after.Goals as goal
 
 pub place_by_men-requires : goal.place_by_men-requires

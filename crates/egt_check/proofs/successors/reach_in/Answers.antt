@@ -1,4 +1,5 @@
-use Rattle.egt_check.specs.Prelude.{◌≡◌, ◌<◌, Some, refl, sym, subst, ◌∙◌, IsSome, size_of, TableValue}
+use Rattle.std.proofs.Common.{◌≡◌, ◌<◌, Some, refl, sym, subst, ◌∙◌, IsSome}
+use Rattle.egt_check.specs.Prelude.{size_of, TableValue}
 use Rattle.egt_check.proofs.successors.reach_in.Goals as goal
 
 pub table_of-requires : goal.table_of-requires

@@ -1,4 +1,5 @@
-use Rattle.egt_check.specs.Prelude.{◌≡◌, eqb, false, ap, sym, subst, ◌∙◌, IsSome, option_map, eqb-true, table_at}
+use Rattle.std.proofs.Common.{◌≡◌, eqb, false, ap, sym, subst, ◌∙◌, IsSome}
+use Rattle.egt_check.specs.Prelude.{option_map, eqb-true, table_at}
 use Rattle.egt_check.proofs.Finding.{beside_own, beside_other, some_before}
 use Rattle.egt_check.proofs.successors.table_of.Goals as goal
 

@@ -1,6 +1,6 @@
-use Rattle.egt_check.specs.Prelude.{◌≢◌, ℕ, false, Some, refl, rules, sym, subst, Setup, IsOf, AreNonKings, column_of}
-use Rattle.egt_check.specs.Prelude.{four_in, tables_in, AreFourMen, AreTablesOf, Children, beside, table_at}
-use Rattle.egt_check.specs.Prelude.{men_swapped}
+use Rattle.std.proofs.Common.{◌≢◌, ℕ, false, Some, refl, rules, sym, subst}
+use Rattle.egt_check.specs.Prelude.{Setup, IsOf, AreNonKings, column_of, four_in, tables_in, AreFourMen, AreTablesOf}
+use Rattle.egt_check.specs.Prelude.{Children, beside, table_at, men_swapped}
 use Rattle.egt_check.proofs.Finding.{beside_own}
 use Rattle.egt_check.proofs.NearReading.{found_in, is_table_in}
 use Rattle.egt_check.proofs.PromotionTables.{beside_any}

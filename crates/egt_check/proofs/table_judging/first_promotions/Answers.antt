@@ -1,5 +1,6 @@
-use Rattle.egt_check.specs.Prelude.{◌≡◌, IfSome, subst, ShelfMen, TableValue, column_of, promotions_in, tables_in}
-use Rattle.egt_check.specs.Prelude.{ArePromotionsOf, HasPromotions, beside, table_at}
+use Rattle.std.proofs.Common.{◌≡◌, IfSome, subst}
+use Rattle.egt_check.specs.Prelude.{ShelfMen, TableValue, column_of, promotions_in, tables_in, ArePromotionsOf}
+use Rattle.egt_check.specs.Prelude.{HasPromotions, beside, table_at}
 use Rattle.egt_check.proofs.EqualPawns.{same_order}
 use Rattle.egt_check.proofs.table_judging.first_promotions.Goals as goal
 

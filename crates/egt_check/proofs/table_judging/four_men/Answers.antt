@@ -1,5 +1,6 @@
-use Rattle.egt_check.specs.Prelude.{◌≡◌, ℕ, sym, subst, ShelfMen, TableValue, AreFourMen, AreTablesOf, IsOwnTable}
-use Rattle.egt_check.specs.Prelude.{column_of, four_in, tables_in, Children, FourMen, Part, Tables, beside, table_at}
+use Rattle.std.proofs.Common.{◌≡◌, ℕ, sym, subst}
+use Rattle.egt_check.specs.Prelude.{ShelfMen, TableValue, AreFourMen, AreTablesOf, IsOwnTable, column_of, four_in}
+use Rattle.egt_check.specs.Prelude.{tables_in, Children, FourMen, Part, Tables, beside, table_at}
 use Rattle.egt_check.proofs.table_judging.four_men.Goals as goal
 
 -- what holds beside each table of the class holds beside this one

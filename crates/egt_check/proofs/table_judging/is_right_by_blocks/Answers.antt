@@ -1,4 +1,5 @@
-use Rattle.egt_check.specs.Prelude.{ℕ, ◌<◌, subst, size_of, TableValue, KeepsPart, beside, table_at, Values}
+use Rattle.std.proofs.Common.{ℕ, ◌<◌, subst}
+use Rattle.egt_check.specs.Prelude.{size_of, TableValue, KeepsPart, beside, table_at, Values}
 use Rattle.egt_check.proofs.table_judging.is_right_by_blocks.Goals as goal
 
 pub returns : goal.returns

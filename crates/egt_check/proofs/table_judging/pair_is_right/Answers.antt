@@ -1,6 +1,6 @@
-use Rattle.egt_check.specs.Prelude.{◌≡◌, ◌↔◌, ◌+◌, ℕ, List, Option, sym, subst, other_side, Side, Column, BlockKey}
-use Rattle.egt_check.specs.Prelude.{ShelfMen, with_kings, AreKept, AreFourMen, AreTablesOf, column_of, four_in}
-use Rattle.egt_check.specs.Prelude.{tables_in, AreJudged, FourMen, Part, column_score}
+use Rattle.std.proofs.Common.{◌≡◌, ◌↔◌, ◌+◌, ℕ, List, Option, sym, subst}
+use Rattle.egt_check.specs.Prelude.{other_side, Side, Column, BlockKey, ShelfMen, with_kings, AreKept, AreFourMen}
+use Rattle.egt_check.specs.Prelude.{AreTablesOf, column_of, four_in, tables_in, AreJudged, FourMen, Part, column_score}
 use Rattle.egt_check.proofs.PromotionTables.{four_there, tables_of_there}
 use Rattle.egt_check.proofs.table_judging.pair_is_right.Goals as goal
 

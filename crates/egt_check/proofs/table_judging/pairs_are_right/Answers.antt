@@ -1,4 +1,5 @@
-use Rattle.egt_check.specs.Prelude.{subst, Side, White, Black, AreJudgedPairs, ArePairs}
+use Rattle.std.proofs.Common.{subst}
+use Rattle.egt_check.specs.Prelude.{Side, White, Black, AreJudgedPairs, ArePairs}
 use Rattle.egt_check.proofs.table_judging.pairs_are_right.Goals as goal
 
 pub returns-then-side_pairs_are_right : goal.returns-then-side_pairs_are_right

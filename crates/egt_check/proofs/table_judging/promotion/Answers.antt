@@ -1,4 +1,5 @@
-use Rattle.egt_check.specs.Prelude.{◌≢◌, ◌∙◌, sym, subst, turned_man, Man, officer_of, AreNamed, table_at}
+use Rattle.std.proofs.Common.{◌≢◌, ◌∙◌, sym, subst}
+use Rattle.egt_check.specs.Prelude.{turned_man, Man, officer_of, AreNamed, table_at}
 use Rattle.egt_check.proofs.PromotionTables.{table_after}
 use Rattle.egt_check.proofs.TablePairs.{table_left}
 use Rattle.egt_check.proofs.table_judging.promotion.Goals as goal

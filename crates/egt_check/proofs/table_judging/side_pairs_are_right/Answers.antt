@@ -1,5 +1,5 @@
-use Rattle.egt_check.specs.Prelude.{◌≡◌, ◌∙◌, refl, replicate, ap, arith, inl, inr, subst, cases_lt, other_side}
-use Rattle.egt_check.specs.Prelude.{nth_pair, IsJudgedPair, column_score}
+use Rattle.std.proofs.Common.{◌≡◌, ◌∙◌, refl, replicate, ap, arith, inl, inr, subst}
+use Rattle.egt_check.specs.Prelude.{cases_lt, other_side, nth_pair, IsJudgedPair, column_score}
 use Rattle.egt_check.proofs.PairsJudged.{pair_comes}
 use Rattle.egt_check.proofs.table_judging.side_pairs_are_right.Goals as goal
 

@@ -1,5 +1,6 @@
-use Rattle.egt_check.specs.Prelude.{ℕ, ◌<◌, other_side, AreKept, AreTablesOf, nth_pair, IsJudgedPair, four_in}
-use Rattle.egt_check.specs.Prelude.{tables_in, Tables, column_score}
+use Rattle.std.specs.Prelude.{ℕ, ◌<◌}
+use Rattle.egt_check.specs.Prelude.{other_side, AreKept, AreTablesOf, nth_pair, IsJudgedPair, four_in, tables_in}
+use Rattle.egt_check.specs.Prelude.{Tables, column_score}
 use Rattle.egt_check.proofs.table_judging.side_pairs_are_right.Given as goal
 
 -- the pairs that came before are right, and what is kept holds

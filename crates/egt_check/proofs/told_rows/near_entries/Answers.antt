@@ -1,4 +1,5 @@
-use Rattle.egt_check.specs.Prelude.{◌≡◌, get_or, subst, arith, near_told}
+use Rattle.std.proofs.Common.{◌≡◌, get_or, subst, arith}
+use Rattle.egt_check.specs.Prelude.{near_told}
 use Rattle.egt_check.proofs.ToldRows.{near_entries, near_entries_at}
 use Rattle.egt_check.proofs.told_rows.near_entries.Goals as goal
 

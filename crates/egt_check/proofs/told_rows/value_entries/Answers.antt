@@ -1,4 +1,5 @@
-use Rattle.egt_check.specs.Prelude.{◌≡◌, get_or, subst, arith, value_told}
+use Rattle.std.proofs.Common.{◌≡◌, get_or, subst, arith}
+use Rattle.egt_check.specs.Prelude.{value_told}
 use Rattle.egt_check.proofs.ToldRows.{value_entries, value_entries_at}
 use Rattle.egt_check.proofs.told_rows.value_entries.Goals as goal
 

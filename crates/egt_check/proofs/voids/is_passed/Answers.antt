@@ -1,4 +1,5 @@
-use Rattle.egt_check.specs.Prelude.{ℕ, false, true, subst, IsShelfOf}
+use Rattle.std.proofs.Common.{ℕ, false, true, subst}
+use Rattle.egt_check.specs.Prelude.{IsShelfOf}
 use Rattle.egt_check.proofs.voids.is_passed.Goals as goal
 
 pub returns-in-Some : goal.returns-in-Some

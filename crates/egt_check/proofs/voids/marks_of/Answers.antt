@@ -1,5 +1,5 @@
-use Rattle.egt_check.specs.Prelude.{◌≡◌, ◌∙◌, ◌+◌, ap, slice_index, bit_at, code_of, kind_less, number_in, column_score}
-use Rattle.egt_check.specs.Prelude.{square_in}
+use Rattle.std.proofs.Common.{◌≡◌, ◌∙◌, ◌+◌, ap, slice_index}
+use Rattle.egt_check.specs.Prelude.{bit_at, code_of, kind_less, number_in, column_score, square_in}
 use Rattle.egt_check.proofs.Marks.{bit_shifted, mark}
 use Rattle.egt_check.proofs.RowJudged.{lane_is}
 use Rattle.egt_check.proofs.voids.marks_of.Goals as goal

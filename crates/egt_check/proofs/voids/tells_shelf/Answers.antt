@@ -1,5 +1,6 @@
-use Rattle.egt_check.specs.Prelude.{◌≡◌, ◌∙◌, ◌<◌, ℕ, ap, sym, subst, bit_at, eqb-true, Side, White, Black, code_of}
-use Rattle.egt_check.specs.Prelude.{places, kind_digits, AreIndexes, IsShelfOf, number_in, TableValue, column_score}
+use Rattle.std.proofs.Common.{◌≡◌, ◌∙◌, ◌<◌, ℕ, ap, sym, subst}
+use Rattle.egt_check.specs.Prelude.{bit_at, eqb-true, Side, White, Black, code_of, places, kind_digits, AreIndexes}
+use Rattle.egt_check.specs.Prelude.{IsShelfOf, number_in, TableValue, column_score}
 use Rattle.egt_table.specs.declared.column.Column.TheVariants as columns
 use Rattle.egt_check.proofs.Marks.{mark, numbers_within, shelf_told}
 use Rattle.egt_check.proofs.voids.tells_shelf.Goals as goal

@@ -1,5 +1,5 @@
-use Rattle.egt_check.specs.Prelude.{◌≡◌, ◌∙◌, ◌<◌, ◌*◌, ◌/◌, ◌%◌, inl, inr, arith, ap, subst, cases_lt, code_of, places}
-use Rattle.egt_check.specs.Prelude.{number_in, size_of, TellsVoid}
+use Rattle.std.proofs.Common.{◌≡◌, ◌∙◌, ◌<◌, ◌*◌, ◌/◌, ◌%◌, inl, inr, arith, ap, subst}
+use Rattle.egt_check.specs.Prelude.{cases_lt, code_of, places, number_in, size_of, TellsVoid}
 use Rattle.egt_check.proofs.ScoreRowsRead.{whole_class}
 use Rattle.egt_check.proofs.ScoresDrawn.{of_code}
 use Rattle.egt_check.proofs.voids.tells_voids.Goals as goal

@@ -1,4 +1,5 @@
-use Rattle.egt_check.specs.Prelude.{ℕ, ◌<◌, TellsVoidsIn}
+use Rattle.std.specs.Prelude.{ℕ, ◌<◌}
+use Rattle.egt_check.specs.Prelude.{TellsVoidsIn}
 use Rattle.egt_check.proofs.voids.tells_voids.Given as goal
 
 -- the shelves so far

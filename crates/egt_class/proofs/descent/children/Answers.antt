@@ -1,4 +1,5 @@
-use Rattle.egt_class.specs.Prelude.{◌<◌, ◌≤◌, arith, sym, ◌∙◌, common_steps}
+use Rattle.std.proofs.Common.{◌<◌, ◌≤◌, arith, sym, ◌∙◌}
+use Rattle.egt_class.specs.Prelude.{common_steps}
 use Rattle.egt_class.proofs.ChildTable.{listed_none, listed_more}
 use Rattle.egt_class.proofs.descent.children.Goals as goal
 

@@ -1,4 +1,5 @@
-use Rattle.egt_class.specs.Prelude.{◌≡◌, ◌+◌, length, listed}
+use Rattle.std.specs.Prelude.{◌≡◌, ◌+◌, length}
+use Rattle.egt_class.specs.Prelude.{listed}
 use Rattle.egt_class.proofs.descent.children.Given as goal
 
 abbrev pub invariant-loop-at : goal.invariant-loop-at

@@ -1,4 +1,5 @@
-use Rattle.egt_class.specs.Prelude.{◌<◌, ◌∙◌, ap, arith, children_of}
+use Rattle.std.proofs.Common.{◌<◌, ◌∙◌, ap, arith}
+use Rattle.egt_class.specs.Prelude.{children_of}
 use Rattle.egt_class.proofs.ChildTable.{children_are_right, spans_are_right}
 use Rattle.egt_class.proofs.descent.span.Goals as goal
 

@@ -1,4 +1,5 @@
-use Rattle.egt_class.specs.Prelude.{◌+◌, arith, range_with_len, length-range_with_len, get_or-range_with_len}
+use Rattle.std.proofs.Common.{◌+◌, arith}
+use Rattle.egt_class.specs.Prelude.{range_with_len, length-range_with_len, get_or-range_with_len}
 use Rattle.egt_class.specs.Prelude.{IsStrictlyIncreasing-filter, is_child_of, children_of}
 use Rattle.egt_class.proofs.ClassTests.{smaller}
 use Rattle.egt_class.proofs.laws.children_have_smaller_numbers.Goals as goal

@@ -1,4 +1,5 @@
-use Rattle.egt_class.specs.Prelude.{◌+◌, ◌*◌, None, map, man_entry, slot_of, class_at, flip_at}
+use Rattle.std.specs.Prelude.{◌+◌, ◌*◌, None, map}
+use Rattle.egt_class.specs.Prelude.{man_entry, slot_of, class_at, flip_at}
 use Rattle.std.specs.FinMap as placement
 use Rattle.egt_class.proofs.NonKings.{last_two, last_two-beside, one_king_each}
 use Rattle.egt_class.proofs.PairTable.{pair_is_of, pair_below, slot_below}

@@ -1,4 +1,5 @@
-use Rattle.egt_class.specs.Prelude.{refl, class_at, flip_at}
+use Rattle.std.specs.Prelude.{refl}
+use Rattle.egt_class.specs.Prelude.{class_at, flip_at}
 use Rattle.egt_class.proofs.PairTable.{pair_below}
 use Rattle.egt_class.proofs.membership.class_of_pair.Goals as goal
 

@@ -1,4 +1,5 @@
-use Rattle.egt_class.specs.Prelude.{subst, in_any_order, AreBeside, Placement}
+use Rattle.std.proofs.Common.{subst}
+use Rattle.egt_class.specs.Prelude.{in_any_order, AreBeside, Placement}
 use Rattle.egt_class.proofs.NonKings.{one_king_each}
 use Rattle.egt_class.proofs.TwoNonKings.{are_beside}
 use Rattle.egt_class.proofs.membership.non_kings.Goals as goal

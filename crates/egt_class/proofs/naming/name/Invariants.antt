@@ -1,4 +1,5 @@
-use Rattle.egt_class.specs.Prelude.{◌≡◌, ◌≤◌, take, filter, array_string_len, is_letter}
+use Rattle.std.specs.Prelude.{◌≡◌, ◌≤◌, take}
+use Rattle.egt_class.specs.Prelude.{filter, array_string_len, is_letter}
 use Rattle.egt_class.proofs.naming.name.Given as goal
 
 abbrev pub invariant-loop-letter : goal.invariant-loop-letter

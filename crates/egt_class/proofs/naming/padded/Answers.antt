@@ -1,4 +1,5 @@
-use Rattle.egt_class.specs.Prelude.{◌<◌, ◌∙◌, ap, arith, name_of}
+use Rattle.std.proofs.Common.{◌<◌, ◌∙◌, ap, arith}
+use Rattle.egt_class.specs.Prelude.{name_of}
 use Rattle.egt_class.proofs.NameTable.{names_are_right, names_are_ascii}
 use Rattle.egt_class.proofs.naming.padded.Goals as goal
 

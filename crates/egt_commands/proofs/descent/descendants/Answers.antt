@@ -1,5 +1,5 @@
-use Rattle.egt_commands.specs.Prelude.{◌≡◌, ℕ, ◌<◌, ◌+◌, ◌-◌, false, replicate, sym, subst, ◌∙◌, arith, false≢true}
-use Rattle.egt_commands.specs.Prelude.{children_of, IsMarked}
+use Rattle.std.proofs.Common.{◌≡◌, ℕ, ◌<◌, ◌+◌, ◌-◌, false, replicate, sym, subst, ◌∙◌, arith}
+use Rattle.egt_commands.specs.Prelude.{false≢true, children_of, IsMarked}
 use Rattle.egt_commands.proofs.Marking.{Marks, IsMarkedFrom, marked_first, marked_next, none_marked, all_marked}
 use Rattle.egt_commands.proofs.descent.descendants.Goals as goal
 

@@ -1,4 +1,5 @@
-use Rattle.egt_commands.specs.Prelude.{◌≡◌, ℕ, ◌+◌, ◌++◌, add-one, refl, class_line, lines_below}
+use Rattle.std.proofs.Common.{◌≡◌, ℕ, ◌+◌, ◌++◌, add-one, refl}
+use Rattle.egt_commands.specs.Prelude.{class_line, lines_below}
 use Rattle.egt_commands.proofs.listing.lines.Goals as goal
 
 lines_more : (c : ℕ) → lines_below (c + 1) ≡ lines_below c ++ class_line c

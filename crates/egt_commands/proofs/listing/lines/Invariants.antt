@@ -1,4 +1,5 @@
-use Rattle.egt_commands.specs.Prelude.{◌≡◌, lines_below}
+use Rattle.std.specs.Prelude.{◌≡◌}
+use Rattle.egt_commands.specs.Prelude.{lines_below}
 use Rattle.egt_commands.proofs.listing.lines.Given as goal
 
 abbrev pub invariant-loop-number : goal.invariant-loop-number

@@ -1,5 +1,5 @@
-use Rattle.egt_commands.specs.Prelude.{◌≡◌, ℕ, ◌<◌, ◌+◌, ◌⊎◌, sym, subst, ◌∙◌, arith, IsSome, false≢true, table_at}
-use Rattle.egt_commands.specs.Prelude.{Descends, HasExactly, IsMarked}
+use Rattle.std.proofs.Common.{◌≡◌, ℕ, ◌<◌, ◌+◌, ◌⊎◌, sym, subst, ◌∙◌, arith, IsSome}
+use Rattle.egt_commands.specs.Prelude.{false≢true, table_at, Descends, HasExactly, IsMarked}
 use Rattle.egt_commands.proofs.Marking.{descendants_below}
 use Rattle.egt_commands.proofs.Loaded.{one_more, none_more, all_there}
 use Rattle.egt_commands.proofs.loading.load_below.Goals as goal

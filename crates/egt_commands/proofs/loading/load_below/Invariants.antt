@@ -1,4 +1,5 @@
-use Rattle.egt_commands.specs.Prelude.{◌<◌, table_at, Descends, HasExactly}
+use Rattle.std.specs.Prelude.{◌<◌}
+use Rattle.egt_commands.specs.Prelude.{table_at, Descends, HasExactly}
 use Rattle.egt_commands.proofs.loading.load_below.Given as goal
 
 -- the descendants so far have their tables

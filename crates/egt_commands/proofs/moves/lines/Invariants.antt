@@ -1,4 +1,5 @@
-use Rattle.egt_commands.specs.Prelude.{◌≡◌, take, lines_of}
+use Rattle.std.specs.Prelude.{◌≡◌, take}
+use Rattle.egt_commands.specs.Prelude.{lines_of}
 use Rattle.egt_commands.proofs.moves.lines.Given as goal
 
 abbrev pub invariant-loop-chess_move : goal.invariant-loop-chess_move

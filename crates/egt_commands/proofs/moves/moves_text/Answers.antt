@@ -1,4 +1,5 @@
-use Rattle.egt_commands.specs.Prelude.{ap, ◌∙◌, lines_of}
+use Rattle.std.proofs.Common.{ap, ◌∙◌}
+use Rattle.egt_commands.specs.Prelude.{lines_of}
 use Rattle.egt_commands.proofs.moves.moves_text.Goals as goal
 
 pub returns-in-Ok-lines-clause-moves : goal.returns-in-Ok-lines-clause-moves

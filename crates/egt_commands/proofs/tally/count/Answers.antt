@@ -1,5 +1,5 @@
-use Rattle.egt_commands.specs.Prelude.{◌≡◌, ◌<◌, ◌≤◌, length, count_by, sym, ap, subst, ◌∙◌, arith, take_all, size_of}
-use Rattle.egt_commands.specs.Prelude.{entries_of, shows}
+use Rattle.std.proofs.Common.{◌≡◌, ◌<◌, ◌≤◌, length, count_by, sym, ap, subst, ◌∙◌, arith}
+use Rattle.egt_commands.specs.Prelude.{take_all, size_of, entries_of, shows}
 use Rattle.egt_commands.proofs.Tallying.{count_more, count_same}
 use Rattle.egt_commands.proofs.tally.count.Goals as goal
 use Rattle.egt_commands.proofs.tally.count.Goals.{then-shows, else-shows}

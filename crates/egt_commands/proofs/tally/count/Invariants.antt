@@ -1,4 +1,5 @@
-use Rattle.egt_commands.specs.Prelude.{◌≡◌, ◌≤◌, take, count_by, entries_of, shows}
+use Rattle.std.specs.Prelude.{◌≡◌, ◌≤◌, take, count_by}
+use Rattle.egt_commands.specs.Prelude.{entries_of, shows}
 use Rattle.egt_commands.proofs.tally.count.Given as goal
 
 abbrev pub invariant-loop-index : goal.invariant-loop-index

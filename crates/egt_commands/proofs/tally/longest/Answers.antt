@@ -1,5 +1,5 @@
-use Rattle.egt_commands.specs.Prelude.{◌≡◌, ℕ, ◌<◌, ◌+◌, length, sym, ap, subst, ◌∙◌, arith, size_of, entries_of, Mate}
-use Rattle.egt_commands.specs.Prelude.{shows, IsLongest}
+use Rattle.std.proofs.Common.{◌≡◌, ℕ, ◌<◌, ◌+◌, length, sym, ap, subst, ◌∙◌, arith}
+use Rattle.egt_commands.specs.Prelude.{size_of, entries_of, Mate, shows, IsLongest}
 use Rattle.egt_commands.proofs.Tallying.{longest_more, longest_same}
 use Rattle.egt_commands.proofs.tally.longest.Goals as goal
 use Rattle.egt_commands.proofs.tally.longest.Goals.{then-shows, else-shows}

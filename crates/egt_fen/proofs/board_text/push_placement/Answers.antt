@@ -1,4 +1,5 @@
-use Rattle.egt_fen.specs.Prelude.{◌-◌, ◌++◌, arith, sym, ap, ◌∙◌, rank_text}
+use Rattle.std.proofs.Common.{◌-◌, ◌++◌, arith, sym, ap, ◌∙◌}
+use Rattle.egt_fen.specs.Prelude.{rank_text}
 use Rattle.egt_fen.proofs.Written.{below, below-first, below-more}
 use Rattle.egt_fen.proofs.board_text.push_placement.Goals as goal
 

@@ -1,4 +1,5 @@
-use Rattle.egt_fen.specs.Prelude.{◌≡◌, ◌<◌, ◌++◌, placement_text}
+use Rattle.std.specs.Prelude.{◌≡◌, ◌<◌, ◌++◌}
+use Rattle.egt_fen.specs.Prelude.{placement_text}
 use Rattle.egt_fen.proofs.Written.{below}
 use Rattle.egt_fen.proofs.board_text.push_placement.Given as goal
 

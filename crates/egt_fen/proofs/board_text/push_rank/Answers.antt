@@ -1,5 +1,5 @@
-use Rattle.egt_fen.specs.Prelude.{◌≡◌, ◌+◌, ◌*◌, ◌++◌, ◌∷◌, [], drop, arith, sym, ap, ◌∙◌, on_ok_weaker, gap_text}
-use Rattle.egt_fen.specs.Prelude.{squares_text, squares_of}
+use Rattle.std.proofs.Common.{◌≡◌, ◌+◌, ◌*◌, ◌++◌, ◌∷◌, [], drop, arith, sym, ap, ◌∙◌}
+use Rattle.egt_fen.specs.Prelude.{on_ok_weaker, gap_text, squares_text, squares_of}
 use Rattle.std.specs.FinMap as placement
 use Rattle.egt_fen.proofs.Written.{squares_text-free, squares_text-man, squares_text-end}
 use Rattle.egt_fen.proofs.board_text.push_rank.Goals as goal

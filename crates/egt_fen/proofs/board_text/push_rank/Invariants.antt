@@ -1,4 +1,5 @@
-use Rattle.egt_fen.specs.Prelude.{◌≡◌, ◌≤◌, ◌++◌, drop, squares_text, squares_of, rank_text}
+use Rattle.std.specs.Prelude.{◌≡◌, ◌≤◌, ◌++◌, drop}
+use Rattle.egt_fen.specs.Prelude.{squares_text, squares_of, rank_text}
 use Rattle.egt_fen.proofs.board_text.push_rank.Given as goal
 
 abbrev pub invariant-loop-file : goal.invariant-loop-file

@@ -1,4 +1,5 @@
-use Rattle.egt_fen.specs.Prelude.{arith, ap, digits_value, take_all}
+use Rattle.std.proofs.Common.{arith, ap}
+use Rattle.egt_fen.specs.Prelude.{digits_value, take_all}
 use Rattle.egt_fen.proofs.Digits.{one_more, digits_value_small}
 use Rattle.egt_fen.proofs.counter.value_of.Goals as goal
 

@@ -1,4 +1,5 @@
-use Rattle.egt_fen.specs.Prelude.{◌≡◌, take, digits_value}
+use Rattle.std.specs.Prelude.{◌≡◌, take}
+use Rattle.egt_fen.specs.Prelude.{digits_value}
 use Rattle.egt_fen.proofs.counter.value_of.Given as goal
 
 abbrev pub invariant-loop-digit : goal.invariant-loop-digit

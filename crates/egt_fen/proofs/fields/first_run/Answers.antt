@@ -1,5 +1,5 @@
-use Rattle.egt_fen.specs.Prelude.{◌<◌, ◌∷◌, length, take, drop, arith, sym, ap, ◌∙◌, unwrap_or, eqb-true, eqb-false}
-use Rattle.egt_fen.specs.Prelude.{nil_from_length, is_space, runs_of}
+use Rattle.std.proofs.Common.{◌<◌, ◌∷◌, length, take, drop, arith, sym, ap, ◌∙◌, unwrap_or}
+use Rattle.egt_fen.specs.Prelude.{eqb-true, eqb-false, nil_from_length, is_space, runs_of}
 use Rattle.egt_fen.proofs.Runs.{runs_of-nil, runs_of-run, place_or_len}
 use Rattle.egt_fen.proofs.fields.first_run.Goals as goal
 

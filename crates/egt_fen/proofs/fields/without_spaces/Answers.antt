@@ -1,4 +1,5 @@
-use Rattle.egt_fen.specs.Prelude.{◌≢◌, List, ℕ, length, drop, get_or, sym, ap, ◌∙◌, subst, unwrap_or, is_other, runs_of}
+use Rattle.std.proofs.Common.{◌≢◌, List, ℕ, length, drop, get_or, sym, ap, ◌∙◌, subst, unwrap_or}
+use Rattle.egt_fen.specs.Prelude.{is_other, runs_of}
 use Rattle.egt_fen.proofs.Runs.{runs_of-spaces, other_first, place_or_len}
 use Rattle.egt_fen.proofs.fields.without_spaces.Goals as goal
 

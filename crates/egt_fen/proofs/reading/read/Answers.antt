@@ -1,4 +1,5 @@
-use Rattle.egt_fen.specs.Prelude.{sym, ap, ◌∙◌, refl, false≢true, setup_of, shown_parts}
+use Rattle.std.proofs.Common.{sym, ap, ◌∙◌, refl}
+use Rattle.egt_fen.specs.Prelude.{false≢true, setup_of, shown_parts}
 use Rattle.egt_fen.proofs.Spelling.{not_both, not_refused, spelled_admits, says_spells, admits_from, admits_to}
 use Rattle.egt_fen.proofs.reading.read.Goals as goal
 

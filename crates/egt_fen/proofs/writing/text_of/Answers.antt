@@ -1,5 +1,5 @@
-use Rattle.egt_fen.specs.Prelude.{◌≡◌, ℕ, List, [], ◌∷◌, ◌++◌, sym, ap, ◌∙◌, subst, append_assoc, decimal, canonical}
-use Rattle.egt_fen.specs.Prelude.{placement_text, side_text, target_text, Spells}
+use Rattle.std.proofs.Common.{◌≡◌, ℕ, List, [], ◌∷◌, ◌++◌, sym, ap, ◌∙◌, subst}
+use Rattle.egt_fen.specs.Prelude.{append_assoc, decimal, canonical, placement_text, side_text, target_text, Spells}
 use Rattle.egt_fen.proofs.Round.{written_spells}
 use Rattle.egt_fen.proofs.writing.text_of.Goals as goal
 

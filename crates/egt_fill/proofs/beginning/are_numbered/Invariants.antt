@@ -1,5 +1,5 @@
-use Rattle.egt_fill.specs.Prelude.{◌≡◌, ℕ, ◌<◌, slice_index, slice_index_or, Item}
-use Rattle.egt_fill.specs.Prelude.{place_of}
+use Rattle.std.specs.Prelude.{◌≡◌, ℕ, ◌<◌, slice_index, slice_index_or}
+use Rattle.egt_fill.specs.Prelude.{Item, place_of}
 use Rattle.egt_fill.proofs.beginning.are_numbered.Given as goal
 
 -- the numbers of the items that came before stand at their places

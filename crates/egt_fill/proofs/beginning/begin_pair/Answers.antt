@@ -1,4 +1,5 @@
-use Rattle.egt_fill.specs.Prelude.{Option, IfSome, subst, All-push, All-same, TableValue, IsItem, Item}
+use Rattle.std.proofs.Common.{Option, IfSome, subst}
+use Rattle.egt_fill.specs.Prelude.{All-push, All-same, TableValue, IsItem, Item}
 use Rattle.egt_fill.proofs.beginning.begin_pair.Goals as goal
 
 pub returns-clause-items : goal.returns-clause-items

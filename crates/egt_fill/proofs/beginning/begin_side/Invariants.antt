@@ -1,4 +1,5 @@
-use Rattle.egt_fill.specs.Prelude.{◌≡◌, All, IsItem, Item}
+use Rattle.std.specs.Prelude.{◌≡◌}
+use Rattle.egt_fill.specs.Prelude.{All, IsItem, Item}
 use Rattle.egt_fill.proofs.beginning.begin_side.Given as goal
 
 abbrev pub invariant-loop-n : goal.invariant-loop-n

@@ -1,5 +1,5 @@
-use Rattle.egt_fill.specs.Prelude.{ℕ, List, sym, subst, ShelfMen, Column, AreChildren, HoldsExits, column_of}
-use Rattle.egt_fill.specs.Prelude.{children_there}
+use Rattle.std.proofs.Common.{ℕ, List, sym, subst}
+use Rattle.egt_fill.specs.Prelude.{ShelfMen, Column, AreChildren, HoldsExits, column_of, children_there}
 use Rattle.egt_fill.proofs.BegunItems.{begun_item}
 use Rattle.egt_fill.proofs.beginning.item_of.Goals as goal
 

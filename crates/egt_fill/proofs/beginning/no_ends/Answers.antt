@@ -1,4 +1,5 @@
-use Rattle.egt_fill.specs.Prelude.{replicate, inl, inr, cases_lt, get_or-replicate, get_or_past, no_squares}
+use Rattle.std.proofs.Common.{replicate, inl, inr}
+use Rattle.egt_fill.specs.Prelude.{cases_lt, get_or-replicate, get_or_past, no_squares}
 use Rattle.egt_fill.proofs.beginning.no_ends.Goals as goal
 
 pub returns : goal.returns

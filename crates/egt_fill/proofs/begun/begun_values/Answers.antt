@@ -1,6 +1,6 @@
-use Rattle.egt_fill.specs.Prelude.{◌≡◌, ◌∙◌, ◌<◌, ℕ, Option, Some, IfSome, ap, subst, sym, size_of, TableValue}
-use Rattle.egt_fill.specs.Prelude.{TellColumn, table_told, AreDrawnOrNone, CodeScores, HasNoVoidScore, IsDrawnIndex}
-use Rattle.egt_fill.specs.Prelude.{HasBytes}
+use Rattle.std.proofs.Common.{◌≡◌, ◌∙◌, ◌<◌, ℕ, Option, Some, IfSome, ap, subst, sym}
+use Rattle.egt_fill.specs.Prelude.{size_of, TableValue, TellColumn, table_told, AreDrawnOrNone, CodeScores}
+use Rattle.egt_fill.specs.Prelude.{HasNoVoidScore, IsDrawnIndex, HasBytes}
 use Rattle.egt_table.specs.declared.column.Column.TheVariants as columns
 use Rattle.egt_fill.proofs.DrawnBytes.{values_known}
 use Rattle.egt_fill.proofs.DrawnEntries.{drawn_tell, drawn_told}

@@ -1,5 +1,5 @@
-use Rattle.egt_fill.specs.Prelude.{◌≡◌, ◌∙◌, ◌<◌, ℕ, None, ap, subst, sym, size_of, TableValue, table_told, table_in}
-use Rattle.egt_fill.specs.Prelude.{IsDrawnIndex, HasBytes}
+use Rattle.std.proofs.Common.{◌≡◌, ◌∙◌, ◌<◌, ℕ, None, ap, subst, sym}
+use Rattle.egt_fill.specs.Prelude.{size_of, TableValue, table_told, table_in, IsDrawnIndex, HasBytes}
 use Rattle.egt_table.specs.declared.column.Column.TheVariants as columns
 use Rattle.egt_check.specs.declared.part.Part.TheVariants as parts
 use Rattle.egt_fill.proofs.DrawnBytes.{reach_known}

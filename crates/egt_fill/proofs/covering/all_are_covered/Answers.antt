@@ -1,5 +1,5 @@
-use Rattle.egt_fill.specs.Prelude.{◌≡◌, ◌+◌, ◌*◌, arith, inl, inr, subst, sym, cases_lt, White, Black, ArePairs}
-use Rattle.egt_fill.specs.Prelude.{AreJudged, AreAllJudged, tables_with}
+use Rattle.std.proofs.Common.{◌≡◌, ◌+◌, ◌*◌, arith, inl, inr, subst, sym}
+use Rattle.egt_fill.specs.Prelude.{cases_lt, White, Black, ArePairs, AreJudged, AreAllJudged, tables_with}
 use Rattle.egt_fill.proofs.covering.all_are_covered.Goals as goal
 
 pub loop-pair-preserved : goal.loop-pair-preserved

@@ -1,4 +1,5 @@
-use Rattle.egt_fill.specs.Prelude.{ℕ, ◌*◌, ◌<◌, Side, AreAllJudged}
+use Rattle.std.specs.Prelude.{ℕ, ◌*◌, ◌<◌}
+use Rattle.egt_fill.specs.Prelude.{Side, AreAllJudged}
 use Rattle.egt_fill.proofs.covering.all_are_covered.Given as goal
 
 -- the pairs that came before are right

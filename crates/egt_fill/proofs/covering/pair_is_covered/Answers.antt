@@ -1,7 +1,8 @@
-use Rattle.egt_fill.specs.Prelude.{◌+◌, ◌⊎◌, ℕ, refl, subst, All-contains, Setup, Side, Spells, IsIndex, IsVoid}
-use Rattle.egt_fill.specs.Prelude.{ShelfMen, TableValue, Column, with_kings, AreBlank, AreTablesOf, IsOwnTable}
-use Rattle.egt_fill.specs.Prelude.{column_of, four_in, tables_in, FourMen, blank_kept, tables_of_there, AreAllJudged}
-use Rattle.egt_fill.specs.Prelude.{IsDueItem, tables_with, IsFilling, Filling, Item}
+use Rattle.std.proofs.Common.{◌+◌, ◌⊎◌, ℕ, refl, subst}
+use Rattle.egt_fill.specs.Prelude.{All-contains, Setup, Side, Spells, IsIndex, IsVoid, ShelfMen, TableValue, Column}
+use Rattle.egt_fill.specs.Prelude.{with_kings, AreBlank, AreTablesOf, IsOwnTable, column_of, four_in, tables_in}
+use Rattle.egt_fill.specs.Prelude.{FourMen, blank_kept, tables_of_there, AreAllJudged, IsDueItem, tables_with}
+use Rattle.egt_fill.specs.Prelude.{IsFilling, Filling, Item}
 use Rattle.egt_fill.proofs.DueJudged.{DueAreRight, all_due_judged}
 use Rattle.egt_fill.proofs.covering.pair_is_covered.Goals as goal
 

@@ -1,4 +1,5 @@
-use Rattle.egt_fill.specs.Prelude.{inl, inr, refl, subst, Setup, IsAtEnd}
+use Rattle.std.proofs.Common.{inl, inr, refl, subst}
+use Rattle.egt_fill.specs.Prelude.{Setup, IsAtEnd}
 use Rattle.egt_fill.proofs.ends.end_score.Goals as goal
 
 pub returns-in-3 : goal.returns-in-3

@@ -1,5 +1,6 @@
-use Rattle.egt_fill.specs.Prelude.{◌≡◌, ◌∙◌, ℕ, ◌/◌, ◌%◌, ◌==◌, Bool, List, Option, None, length, slice_index_or, arith}
-use Rattle.egt_fill.specs.Prelude.{sym, subst, inl, inr, cases_eq, turned_square, wide_place, BlockKey, AreFewer}
+use Rattle.std.proofs.Common.{◌≡◌, ◌∙◌, ℕ, ◌/◌, ◌%◌, ◌==◌, Bool, List, Option, None, length, slice_index_or, arith, sym}
+use Rattle.std.proofs.Common.{subst, inl, inr}
+use Rattle.egt_fill.specs.Prelude.{cases_eq, turned_square, wide_place, BlockKey, AreFewer}
 use Rattle.egt_fill.proofs.forgetting.forget_turned.Goals as goal
 
 -- what is gone stays so

@@ -1,5 +1,5 @@
-use Rattle.egt_fill.specs.Prelude.{◌≡◌, ℕ, ◌≤◌, ◌<◌, ◌/◌, ◌%◌, ◌==◌, None, length, slice_index_or, turned_square}
-use Rattle.egt_fill.specs.Prelude.{wide_place, Column, AreFewer}
+use Rattle.std.specs.Prelude.{◌≡◌, ℕ, ◌≤◌, ◌<◌, ◌/◌, ◌%◌, ◌==◌, None, length, slice_index_or}
+use Rattle.egt_fill.specs.Prelude.{turned_square, wide_place, Column, AreFewer}
 use Rattle.egt_fill.proofs.forgetting.forget_turned.Given as goal
 
 -- the keys at the places of the turns so far are gone

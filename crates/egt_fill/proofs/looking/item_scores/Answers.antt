@@ -1,6 +1,6 @@
-use Rattle.egt_fill.specs.Prelude.{◌∙◌, false, true, sym, subst, ShelfMen, at, TableValue, Column, AreChildren}
-use Rattle.egt_fill.specs.Prelude.{AreFourMen, IsOwnTable, column_of, children_there, four_there, ◌≡◌, AreBlockScores}
-use Rattle.std.proofs.Common.{rules}
+use Rattle.std.proofs.Common.{◌∙◌, false, true, sym, subst, ◌≡◌, rules}
+use Rattle.egt_fill.specs.Prelude.{ShelfMen, at, TableValue, Column, AreChildren, AreFourMen, IsOwnTable, column_of}
+use Rattle.egt_fill.specs.Prelude.{children_there, four_there, AreBlockScores}
 use Rattle.egt_fill.proofs.ScoresThrough.{scores_same}
 use Rattle.egt_fill.proofs.looking.item_scores.Goals.{After-part_scores}
 use Rattle.egt_fill.proofs.looking.item_scores.Goals as goal

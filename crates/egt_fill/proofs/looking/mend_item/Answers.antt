@@ -1,5 +1,6 @@
-use Rattle.egt_fill.specs.Prelude.{◌+◌, ℕ, List, true, false, subst, sym, kind_digits, ShelfMen, AllEnded, AreRightRows}
-use Rattle.egt_fill.specs.Prelude.{IsCodeIn, IsMendedAt, passed_shelves_of, shelves_of}
+use Rattle.std.proofs.Common.{◌+◌, ℕ, List, true, false, subst, sym}
+use Rattle.egt_fill.specs.Prelude.{kind_digits, ShelfMen, AllEnded, AreRightRows, IsCodeIn, IsMendedAt}
+use Rattle.egt_fill.specs.Prelude.{passed_shelves_of, shelves_of}
 use Rattle.egt_fill.proofs.ItemMended.{both_mended, lower_ended, lower_mended, lower_right, upper_ended}
 use Rattle.egt_fill.proofs.looking.mend_item.Goals.{After-mend_shelves-lower, After-mend_shelves-upper}
 use Rattle.egt_fill.proofs.looking.mend_item.Goals as goal

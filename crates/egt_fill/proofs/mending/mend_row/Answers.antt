@@ -1,5 +1,5 @@
-use Rattle.egt_fill.specs.Prelude.{◌∙◌, ◌+◌, slice_index, sym, subst, code_of, kind_less, number_in, due_score}
-use Rattle.egt_fill.specs.Prelude.{square_in, IsPutAt}
+use Rattle.std.proofs.Common.{◌∙◌, ◌+◌, slice_index, sym, subst}
+use Rattle.egt_fill.specs.Prelude.{code_of, kind_less, number_in, due_score, square_in, IsPutAt}
 use Rattle.egt_fill.proofs.RowMended.{due_row, row_ended, row_mended, row_right}
 use Rattle.egt_fill.proofs.mending.mend_row.Goals as goal
 

@@ -1,6 +1,7 @@
-use Rattle.egt_fill.specs.Prelude.{◌≡◌, ◌≢◌, ◌∙◌, ℕ, ◌+◌, ◌<◌, arith, sym, subst, length-set, code_of, number_of}
-use Rattle.egt_fill.specs.Prelude.{kind_digits, kind_less, size_of, AreShelvesOf, IsCodeOf, IsMendedAt, IsShelf}
-use Rattle.egt_fill.specs.Prelude.{shelf_at, slice_set, AllEnded, AreRightRows, IsCodeIn, Mended, Shelf}
+use Rattle.std.proofs.Common.{◌≡◌, ◌≢◌, ◌∙◌, ℕ, ◌+◌, ◌<◌, arith, sym, subst, slice_set}
+use Rattle.egt_fill.specs.Prelude.{length-set, code_of, number_of, kind_digits, kind_less, size_of, AreShelvesOf}
+use Rattle.egt_fill.specs.Prelude.{IsCodeOf, IsMendedAt, IsShelf, shelf_at, AllEnded, AreRightRows, IsCodeIn, Mended}
+use Rattle.egt_fill.specs.Prelude.{Shelf}
 use Rattle.egt_fill.specs.declared.mending.Mended.TheVariants as mends
 use Rattle.egt_fill.proofs.RowsMended.{more_ended, more_mended, more_right, shelf_same}
 use Rattle.egt_fill.proofs.mending.mend_shelves.Goals.{After-mend_row-row_found}

@@ -1,4 +1,5 @@
-use Rattle.egt_fill.specs.Prelude.{◌≡◌, length, AllEnded, AreRightRows, IsCodeIn, IsMendedAt}
+use Rattle.std.specs.Prelude.{◌≡◌, length}
+use Rattle.egt_fill.specs.Prelude.{AllEnded, AreRightRows, IsCodeIn, IsMendedAt}
 use Rattle.egt_fill.specs.declared.mending.Mended.TheVariants as mends
 use Rattle.egt_fill.proofs.mending.mend_shelves.Given as goal
 

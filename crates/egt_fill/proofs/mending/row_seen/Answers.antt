@@ -1,8 +1,8 @@
-use Rattle.egt_fill.specs.Prelude.{◌==◌, if◌then◌else◌, ap, ◌≡◌, ◌≢◌, ◌∙◌, ℕ, ◌+◌, ◌<◌, arith, inl, inr, refl, sym}
-use Rattle.egt_fill.specs.Prelude.{slice_index, subst, bit_at, cases_eq, get_or-replicate, code_of, kind_less}
-use Rattle.egt_fill.specs.Prelude.{number_in, due_score, TableValue, Column, Zeroing, column_of, due_in, column_score}
-use Rattle.egt_fill.specs.Prelude.{score_at, Part, Values, Reach, square_in, if_not, if_same, lane_is, left_at, IsPutAt}
-use Rattle.egt_fill.specs.Prelude.{score_in}
+use Rattle.std.proofs.Common.{◌==◌, if◌then◌else◌, ap, ◌≡◌, ◌≢◌, ◌∙◌, ℕ, ◌+◌, ◌<◌, arith, inl, inr, refl, sym}
+use Rattle.std.proofs.Common.{slice_index, subst}
+use Rattle.egt_fill.specs.Prelude.{bit_at, cases_eq, get_or-replicate, code_of, kind_less, number_in, due_score}
+use Rattle.egt_fill.specs.Prelude.{TableValue, Column, Zeroing, column_of, due_in, column_score, score_at, Part, Values}
+use Rattle.egt_fill.specs.Prelude.{Reach, square_in, if_not, if_same, lane_is, left_at, IsPutAt, score_in}
 use Rattle.egt_fill.proofs.LanesPut.{none_within, same_there}
 use Rattle.egt_fill.proofs.mending.row_seen.Goals as goal
 

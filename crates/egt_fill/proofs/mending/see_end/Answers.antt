@@ -1,4 +1,4 @@
-use Rattle.egt_fill.specs.Prelude.{◌≡◌, ◌≢◌, ◌∙◌, ◌+◌, ℕ, arith, ap, inl, inr, replicate, sym, subst, slice_index}
+use Rattle.std.proofs.Common.{◌≡◌, ◌≢◌, ◌∙◌, ◌+◌, ℕ, arith, ap, inl, inr, replicate, sym, subst, slice_index}
 use Rattle.egt_fill.specs.Prelude.{bit_at, cases_eq, get_or-replicate, bit_at-zero, Has, SquareSet, code_of, kind_less}
 use Rattle.egt_fill.specs.Prelude.{number_in, square_in, IsToldAt, IsEndScore, IsLaneOf}
 use Rattle.egt_fill.proofs.LanesPut.{end_told}

@@ -1,5 +1,5 @@
-use Rattle.egt_fill.specs.Prelude.{◌≡◌, ◌∙◌, ◌+◌, arith, sym, ap, inl, inr, subst, bit_at, cases_eq, code_of, kind_less}
-use Rattle.egt_fill.specs.Prelude.{number_in, IsRightEndOf}
+use Rattle.std.proofs.Common.{◌≡◌, ◌∙◌, ◌+◌, arith, sym, ap, inl, inr, subst}
+use Rattle.egt_fill.specs.Prelude.{bit_at, cases_eq, code_of, kind_less, number_in, IsRightEndOf}
 use Rattle.egt_fill.proofs.PutEntries.{end_stays}
 use Rattle.egt_fill.proofs.ShelfLanes.{code_at, first_here, more, one_digit}
 use Rattle.egt_fill.proofs.mending.see_ends.Goals as goal

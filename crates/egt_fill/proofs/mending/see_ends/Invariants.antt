@@ -1,5 +1,6 @@
-use Rattle.egt_fill.specs.Prelude.{◌≡◌, ℕ, ◌+◌, ◌<◌, bit_at, Has, code_of, kind_digits, kind_less, number_in}
-use Rattle.egt_fill.specs.Prelude.{IsRightEndOf, IsLaneOf, IsMendedAt}
+use Rattle.std.specs.Prelude.{◌≡◌, ℕ, ◌+◌, ◌<◌}
+use Rattle.egt_fill.specs.Prelude.{bit_at, Has, code_of, kind_digits, kind_less, number_in, IsRightEndOf, IsLaneOf}
+use Rattle.egt_fill.specs.Prelude.{IsMendedAt}
 use Rattle.egt_fill.proofs.mending.see_ends.Given as goal
 
 -- the squares that are no longer left are seen

@@ -1,5 +1,5 @@
-use Rattle.egt_fill.specs.Prelude.{◌≡◌, ◌∙◌, ◌+◌, ℕ, ap, sym, slice_index, get_or-replicate, kind_less, square_in, Part}
-use Rattle.egt_fill.specs.Prelude.{lane_is}
+use Rattle.std.proofs.Common.{◌≡◌, ◌∙◌, ◌+◌, ℕ, ap, sym, slice_index}
+use Rattle.egt_fill.specs.Prelude.{get_or-replicate, kind_less, square_in, Part, lane_is}
 use Rattle.egt_table.specs.declared.column.Column.TheVariants as columns
 use Rattle.egt_check.specs.declared.part.Part.TheVariants as parts
 use Rattle.egt_fill.proofs.LanesPut.{none_within, same_there}

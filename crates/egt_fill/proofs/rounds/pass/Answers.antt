@@ -1,4 +1,4 @@
-use Rattle.egt_fill.specs.Prelude.{◌≡◌, ◌≢◌, ◌∙◌, ◌+◌, ◌<◌, refl, sym, true, length, slice_index_or, ap, arith}
+use Rattle.std.proofs.Common.{◌≡◌, ◌≢◌, ◌∙◌, ◌+◌, ◌<◌, refl, sym, true, length, slice_index_or, ap, arith}
 use Rattle.egt_fill.specs.Prelude.{false≢true, get_or_default, Item, Visited}
 use Rattle.egt_fill.specs.declared.rounds.Visited.TheVariants as visits
 use Rattle.egt_fill.proofs.PassKept.{carried, left_alone, looked_at, passed_by}

@@ -1,5 +1,5 @@
-use Rattle.egt_fill.specs.Prelude.{◌≡◌, length, false, other_side, IsMendedAt, AreAllKept, AreFreshItems}
-use Rattle.egt_fill.specs.Prelude.{IsUntouchedPass, IsUnderWay}
+use Rattle.std.specs.Prelude.{◌≡◌, length, false}
+use Rattle.egt_fill.specs.Prelude.{other_side, IsMendedAt, AreAllKept, AreFreshItems, IsUntouchedPass, IsUnderWay}
 use Rattle.egt_fill.proofs.rounds.pass.Given as goal
 
 -- where no item was looked at yet, all is as it was, and those that came before are fresh

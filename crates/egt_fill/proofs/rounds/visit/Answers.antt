@@ -1,4 +1,5 @@
-use Rattle.egt_fill.specs.Prelude.{◌≡◌, ◌≢◌, ◌<◌, length, arith, subst, other_side, AreForgotten, Mended}
+use Rattle.std.proofs.Common.{◌≡◌, ◌≢◌, ◌<◌, length, arith, subst}
+use Rattle.egt_fill.specs.Prelude.{other_side, AreForgotten, Mended}
 use Rattle.egt_fill.specs.declared.mending.Mended.TheVariants as mends
 use Rattle.egt_fill.proofs.KeysForgotten.{kept_after}
 use Rattle.egt_fill.proofs.rounds.visit.Goals as goal

@@ -1,5 +1,5 @@
-use Rattle.egt_fill.specs.Prelude.{◌≡◌, ℕ, List, Option, Vec, IfSome, sym, subst, All, AreNumbered, IsItem, IsUnderWay}
-use Rattle.egt_fill.specs.Prelude.{Item}
+use Rattle.std.proofs.Common.{◌≡◌, ℕ, List, Option, Vec, IfSome, sym, subst}
+use Rattle.egt_fill.specs.Prelude.{All, AreNumbered, IsItem, IsUnderWay, Item}
 use Rattle.egt_fill.proofs.BegunWay.{begun_under_way}
 use Rattle.egt_fill.proofs.settling.settle.Goals as goal
 

@@ -1,4 +1,5 @@
-use Rattle.egt_fill.specs.Prelude.{◌∙◌, sym, subst, AreMenOf, column_of}
+use Rattle.std.proofs.Common.{◌∙◌, sym, subst}
+use Rattle.egt_fill.specs.Prelude.{AreMenOf, column_of}
 use Rattle.egt_fill.proofs.settling.settle_all.Goals as goal
 
 pub all_are_covered-requires-clause-own : goal.all_are_covered-requires-clause-own

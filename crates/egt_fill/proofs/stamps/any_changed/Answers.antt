@@ -1,5 +1,5 @@
-use Rattle.egt_fill.specs.Prelude.{ℕ, ◌≤◌, ◌/◌, ◌%◌, ◌==◌, Bool, slice_index, arith, sym, subst, inl, inr, cases_eq}
-use Rattle.egt_fill.specs.Prelude.{turned_square, stamp_place}
+use Rattle.std.proofs.Common.{ℕ, ◌≤◌, ◌/◌, ◌%◌, ◌==◌, Bool, slice_index, arith, sym, subst, inl, inr}
+use Rattle.egt_fill.specs.Prelude.{cases_eq, turned_square, stamp_place}
 use Rattle.egt_fill.proofs.stamps.any_changed.Goals as goal
 
 pub loop-turn-preserved : goal.loop-turn-preserved

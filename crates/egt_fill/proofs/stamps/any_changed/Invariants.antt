@@ -1,4 +1,5 @@
-use Rattle.egt_fill.specs.Prelude.{ℕ, ◌≤◌, ◌<◌, ◌/◌, ◌%◌, ◌==◌, slice_index, turned_square, stamp_place}
+use Rattle.std.specs.Prelude.{ℕ, ◌≤◌, ◌<◌, ◌/◌, ◌%◌, ◌==◌, slice_index}
+use Rattle.egt_fill.specs.Prelude.{turned_square, stamp_place}
 use Rattle.egt_fill.proofs.stamps.any_changed.Given as goal
 
 -- no stamp is later after the turns so far

@@ -1,4 +1,5 @@
-use Rattle.egt_fill.specs.Prelude.{◌∙◌, arith, sym, ap, subst, inl, inr, cases_eq, Side, ShelfMen, with_king, TurnsTo}
+use Rattle.std.proofs.Common.{◌∙◌, arith, sym, ap, subst, inl, inr}
+use Rattle.egt_fill.specs.Prelude.{cases_eq, Side, ShelfMen, with_king, TurnsTo}
 use Rattle.egt_fill.proofs.stamps.needs_look.Goals as goal
 
 pub loop-to-init : goal.loop-to-init

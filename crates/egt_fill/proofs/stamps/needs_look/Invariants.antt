@@ -1,5 +1,5 @@
-use Rattle.egt_fill.specs.Prelude.{◌≡◌, ℕ, ◌≤◌, slice_index, bit_at, other_side, Side, IsBesideKing, with_king}
-use Rattle.egt_fill.specs.Prelude.{stamp_place, TurnsTo}
+use Rattle.std.specs.Prelude.{◌≡◌, ℕ, ◌≤◌, slice_index}
+use Rattle.egt_fill.specs.Prelude.{bit_at, other_side, Side, IsBesideKing, with_king, stamp_place, TurnsTo}
 use Rattle.egt_fill.proofs.stamps.needs_look.Given as goal
 
 -- no stamp is later after the king's steps so far

@@ -1,5 +1,5 @@
-use Rattle.egt_fill.specs.Prelude.{◌∙◌, ◌%◌, ◌≤◌, true, slice_index, sym, subst, false≢true, Side, turned_square}
-use Rattle.egt_fill.specs.Prelude.{stamp_place}
+use Rattle.std.proofs.Common.{◌∙◌, ◌%◌, ◌≤◌, true, slice_index, sym, subst}
+use Rattle.egt_fill.specs.Prelude.{false≢true, Side, turned_square, stamp_place}
 use Rattle.egt_fill.proofs.StampPlaces.{none_turned}
 use Rattle.egt_fill.proofs.stamps.turned_since.Goals as goal
 

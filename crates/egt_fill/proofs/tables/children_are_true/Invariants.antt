@@ -1,4 +1,5 @@
-use Rattle.egt_fill.specs.Prelude.{◌≡◌, ℕ, ◌<◌, get_or, IfSome, table_at, IsTrueTable}
+use Rattle.std.specs.Prelude.{◌≡◌, ℕ, ◌<◌, get_or, IfSome}
+use Rattle.egt_fill.specs.Prelude.{table_at, IsTrueTable}
 use Rattle.egt_fill.proofs.tables.children_are_true.Given as goal
 
 -- the tables of the children so far are true

@@ -1,6 +1,6 @@
-use Rattle.egt_fill.specs.Prelude.{◌∙◌, ◌<◌, ℕ, Option, IfSome, subst, sym, size_of, CodeScores, IsDrawnIndex, Reach}
-use Rattle.egt_fill.specs.Prelude.{HasReachChildren, Tables, beside, table_at, HasTrueChildren, IsTrueTable, IsTable}
-use Rattle.egt_fill.specs.Prelude.{TableValue, IsWithReach}
+use Rattle.std.proofs.Common.{◌∙◌, ◌<◌, ℕ, Option, IfSome, subst, sym}
+use Rattle.egt_fill.specs.Prelude.{size_of, CodeScores, IsDrawnIndex, Reach, HasReachChildren, Tables, beside, table_at}
+use Rattle.egt_fill.specs.Prelude.{HasTrueChildren, IsTrueTable, IsTable, TableValue, IsWithReach}
 use Rattle.egt_table.specs.declared.column.Column.TheVariants as columns
 use Rattle.egt_fill.proofs.FilledTables.{KeepsAll, reach_is_true, with_true_reach}
 use Rattle.egt_fill.proofs.tables.filled_reach.Goals as goal

@@ -1,5 +1,5 @@
-use Rattle.egt_fill.specs.Prelude.{◌≡◌, ◌∙◌, None, Option, IfSome, subst, sym, Values, Tables, beside, table_at}
-use Rattle.egt_fill.specs.Prelude.{HasTrueChildren, IsTrueTable, IsTable, TableValue}
+use Rattle.std.proofs.Common.{◌≡◌, ◌∙◌, None, Option, IfSome, subst, sym}
+use Rattle.egt_fill.specs.Prelude.{Values, Tables, beside, table_at, HasTrueChildren, IsTrueTable, IsTable, TableValue}
 use Rattle.egt_fill.proofs.FilledTables.{KeepsAll, values_are_true}
 use Rattle.egt_fill.proofs.tables.filled_values.Goals as goal
 

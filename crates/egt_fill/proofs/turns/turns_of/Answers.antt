@@ -1,4 +1,4 @@
-use Rattle.egt_fill.specs.Prelude.{◌≡◌, ◌∙◌, ℕ, ◌+◌, ◌/◌, ◌%◌, ◌==◌, ◌<◌, Bool, true, false, cond, arith, ap, sym}
+use Rattle.std.proofs.Common.{◌≡◌, ◌∙◌, ℕ, ◌+◌, ◌/◌, ◌%◌, ◌==◌, ◌<◌, Bool, true, false, cond, arith, ap, sym}
 use Rattle.egt_fill.specs.Prelude.{nat_tests, material_of, IsTurnWith, has_pawns}
 use Rattle.egt_fill.proofs.turns.turns_of.Goals as goal
 use Rattle.egt_fill.proofs.turns.turns_of.Goals.{then-flips, else-flips, then-has_pawns, else-has_pawns}

@@ -1,4 +1,5 @@
-use Rattle.egt_graph.specs.Prelude.{◌≡◌, false, take, list_any, is_loss}
+use Rattle.std.specs.Prelude.{◌≡◌, false, take}
+use Rattle.egt_graph.specs.Prelude.{list_any, is_loss}
 use Rattle.egt_graph.proofs.begin.any_loss.Given as goal
 
 abbrev pub invariant-loop-exit : goal.invariant-loop-exit

@@ -1,4 +1,5 @@
-use Rattle.egt_graph.specs.Prelude.{ℕ, subst, arith, IsBegun}
+use Rattle.std.proofs.Common.{ℕ, subst, arith}
+use Rattle.egt_graph.specs.Prelude.{IsBegun}
 use Rattle.egt_graph.proofs.begin.begin.Goals as goal
 
 pub returns : goal.returns

@@ -1,4 +1,5 @@
-use Rattle.egt_graph.specs.Prelude.{◌≡◌, ◌≤◌, count_by, take, is_win_from}
+use Rattle.std.specs.Prelude.{◌≡◌, ◌≤◌, count_by, take}
+use Rattle.egt_graph.specs.Prelude.{is_win_from}
 use Rattle.egt_graph.proofs.begin.count_wins.Given as goal
 
 abbrev pub invariant-loop-exit : goal.invariant-loop-exit

@@ -1,4 +1,5 @@
-use Rattle.egt_graph.specs.Prelude.{◌+◌, length, count_by, ap, ap₂, ◌∙◌, list_any, is_loss, is_win_from}
+use Rattle.std.proofs.Common.{◌+◌, length, count_by, ap, ap₂, ◌∙◌}
+use Rattle.egt_graph.specs.Prelude.{list_any, is_loss, is_win_from}
 use Rattle.egt_graph.proofs.Beginning.{Begun_more}
 use Rattle.egt_graph.proofs.begin.push_node.Goals as goal
 

@@ -1,4 +1,5 @@
-use Rattle.egt_graph.specs.Prelude.{take, Adds, is_win_of, is_loss_of}
+use Rattle.std.specs.Prelude.{take}
+use Rattle.egt_graph.specs.Prelude.{Adds, is_win_of, is_loss_of}
 use Rattle.egt_graph.proofs.begin.schedule_exits.Given as goal
 
 abbrev pub invariant-loop-exit : goal.invariant-loop-exit

@@ -1,4 +1,5 @@
-use Rattle.egt_graph.specs.Prelude.{ℕ, ◌<◌, IsFalse, is_open_at}
+use Rattle.std.specs.Prelude.{ℕ, ◌<◌, IsFalse}
+use Rattle.egt_graph.specs.Prelude.{is_open_at}
 use Rattle.egt_graph.proofs.columns.any_open.Given as goal
 
 abbrev pub invariant-loop-i : goal.invariant-loop-i

@@ -1,4 +1,5 @@
-use Rattle.egt_graph.specs.Prelude.{◌≡◌, ◌+◌, ℕ, take, slice_index, count_of}
+use Rattle.std.specs.Prelude.{◌≡◌, ◌+◌, ℕ, take, slice_index}
+use Rattle.egt_graph.specs.Prelude.{count_of}
 use Rattle.egt_graph.proofs.columns.count_down.Given as goal
 
 abbrev pub invariant-loop-node : goal.invariant-loop-node

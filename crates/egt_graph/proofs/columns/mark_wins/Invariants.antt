@@ -1,4 +1,5 @@
-use Rattle.egt_graph.specs.Prelude.{take, Marks}
+use Rattle.std.specs.Prelude.{take}
+use Rattle.egt_graph.specs.Prelude.{Marks}
 use Rattle.egt_graph.proofs.columns.mark_wins.Given as goal
 
 abbrev pub invariant-loop-node : goal.invariant-loop-node

@@ -1,4 +1,5 @@
-use Rattle.egt_graph.specs.Prelude.{take, TakesBack}
+use Rattle.std.specs.Prelude.{take}
+use Rattle.egt_graph.specs.Prelude.{TakesBack}
 use Rattle.egt_graph.proofs.columns.take_back.Given as goal
 
 abbrev pub invariant-loop-node : goal.invariant-loop-node

@@ -1,4 +1,5 @@
-use Rattle.egt_graph.specs.Prelude.{subst, arith, IsNearing}
+use Rattle.std.proofs.Common.{subst, arith}
+use Rattle.egt_graph.specs.Prelude.{IsNearing}
 use Rattle.egt_graph.proofs.Nearby.{nears_told, nears_at_last, far_found}
 use Rattle.egt_graph.proofs.near_solver.nearest.Goals as goal
 

@@ -1,4 +1,5 @@
-use Rattle.egt_graph.specs.Prelude.{◌+◌, take, Finds, led_from}
+use Rattle.std.specs.Prelude.{◌+◌, take}
+use Rattle.egt_graph.specs.Prelude.{Finds, led_from}
 use Rattle.egt_graph.proofs.nearing.mark_sources.Given as goal
 
 abbrev pub invariant-loop-node : goal.invariant-loop-node

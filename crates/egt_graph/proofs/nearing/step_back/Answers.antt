@@ -1,5 +1,5 @@
-use Rattle.egt_graph.specs.Prelude.{◌+◌, ◌∙◌, length, ap, subst, sym, refl, arith, with_items_is, is_loss_of, is_win_of}
-use Rattle.egt_graph.specs.Prelude.{Finds}
+use Rattle.std.proofs.Common.{◌+◌, ◌∙◌, length, ap, subst, sym, refl, arith}
+use Rattle.egt_graph.specs.Prelude.{with_items_is, is_loss_of, is_win_of, Finds}
 use Rattle.egt_graph.proofs.Nearby.{found_nodes, due_within, round_done, found_at}
 use Rattle.egt_graph.proofs.nearing.step_back.Goals as goal
 

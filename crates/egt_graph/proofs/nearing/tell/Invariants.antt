@@ -1,4 +1,5 @@
-use Rattle.egt_graph.specs.Prelude.{◌≡◌, ℕ, ◌<◌, ◌≤◌, length, slice_index, near_of_entry}
+use Rattle.std.specs.Prelude.{◌≡◌, ℕ, ◌<◌, ◌≤◌, length, slice_index}
+use Rattle.egt_graph.specs.Prelude.{near_of_entry}
 use Rattle.egt_graph.proofs.nearing.tell.Given as goal
 
 abbrev pub invariant-loop-i : goal.invariant-loop-i

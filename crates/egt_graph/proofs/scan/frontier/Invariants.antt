@@ -1,4 +1,5 @@
-use Rattle.egt_graph.specs.Prelude.{◌≡◌, ◌-◌, ◌≤◌, length, frontier_below}
+use Rattle.std.specs.Prelude.{◌≡◌, ◌-◌, ◌≤◌, length}
+use Rattle.egt_graph.specs.Prelude.{frontier_below}
 use Rattle.egt_graph.proofs.scan.frontier.Given as goal
 
 abbrev pub invariant-loop-from : goal.invariant-loop-from

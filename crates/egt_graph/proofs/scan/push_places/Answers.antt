@@ -1,4 +1,5 @@
-use Rattle.egt_graph.specs.Prelude.{sym, ◌∙◌, slice_index, is_entry_of_round}
+use Rattle.std.proofs.Common.{sym, ◌∙◌, slice_index}
+use Rattle.egt_graph.specs.Prelude.{is_entry_of_round}
 use Rattle.egt_graph.proofs.Ranges.{filter_below_yes, filter_below_no}
 use Rattle.egt_graph.proofs.scan.push_places.Goals as goal
 use Rattle.egt_graph.proofs.scan.push_places.Goals.{then-is_of_round, else-is_of_round}

@@ -1,4 +1,5 @@
-use Rattle.egt_graph.specs.Prelude.{◌≡◌, frontier_below}
+use Rattle.std.specs.Prelude.{◌≡◌}
+use Rattle.egt_graph.specs.Prelude.{frontier_below}
 use Rattle.egt_graph.proofs.scan.push_places.Given as goal
 
 abbrev pub invariant-loop-place : goal.invariant-loop-place

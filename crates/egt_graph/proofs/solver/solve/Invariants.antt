@@ -1,4 +1,5 @@
-use Rattle.egt_graph.specs.Prelude.{◌≡◌, ◌-◌, ◌≤◌, Running}
+use Rattle.std.specs.Prelude.{◌≡◌, ◌-◌, ◌≤◌}
+use Rattle.egt_graph.specs.Prelude.{Running}
 use Rattle.egt_graph.proofs.solver.solve.Given as goal
 
 abbrev pub invariant-rounds : goal.invariant-rounds

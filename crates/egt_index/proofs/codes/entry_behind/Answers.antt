@@ -1,4 +1,5 @@
-use Rattle.egt_index.specs.Prelude.{Some, sym, subst, option_to_list, Tells, Entry, HasDigit, men_among}
+use Rattle.std.proofs.Common.{Some, sym, subst}
+use Rattle.egt_index.specs.Prelude.{option_to_list, Tells, Entry, HasDigit, men_among}
 use Rattle.egt_index.proofs.Splitting.{tells_one}
 use Rattle.egt_index.proofs.codes.entry_behind.Goals as goal
 

@@ -1,5 +1,6 @@
-use Rattle.egt_index.specs.Prelude.{sym, ap, arith, ◌++◌, ◌≢◌, map-append, option_to_list, king_of, side_number}
-use Rattle.egt_index.specs.Prelude.{kind_number, MayStand, White, Black, men_among}
+use Rattle.std.proofs.Common.{sym, ap, arith, ◌++◌, ◌≢◌}
+use Rattle.egt_index.specs.Prelude.{map-append, option_to_list, king_of, side_number, kind_number, MayStand, White}
+use Rattle.egt_index.specs.Prelude.{Black, men_among}
 use Rattle.egt_index.proofs.Splitting.{all_told}
 use Rattle.egt_index.proofs.codes.number_behind.Goals as goal
 

@@ -1,4 +1,5 @@
-use Rattle.egt_index.specs.Prelude.{false, IfNone, sym, subst, IsIndex, IsVoid}
+use Rattle.std.proofs.Common.{false, IfNone, sym, subst}
+use Rattle.egt_index.specs.Prelude.{IsIndex, IsVoid}
 use Rattle.egt_index.proofs.Classes.{spells_class}
 use Rattle.egt_index.proofs.Exists.{index_settled, index_spelled, one_index}
 use Rattle.egt_index.proofs.decoding.position.Goals as goal

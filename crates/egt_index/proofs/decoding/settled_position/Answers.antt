@@ -1,6 +1,6 @@
-use Rattle.egt_index.specs.Prelude.{◌∙◌, IfNone, arith, refl, sym, subst, false≢true, FitsBoard, PawnsFit, Placement}
-use Rattle.egt_index.specs.Prelude.{IsSettled, IsAdmissible, IsKingOn, Setup, White, Black, material_of, Spells}
-use Rattle.egt_index.specs.Prelude.{list_of}
+use Rattle.std.proofs.Common.{◌∙◌, IfNone, arith, refl, sym, subst}
+use Rattle.egt_index.specs.Prelude.{false≢true, FitsBoard, PawnsFit, Placement, IsSettled, IsAdmissible, IsKingOn}
+use Rattle.egt_index.specs.Prelude.{Setup, White, Black, material_of, Spells, list_of}
 use Rattle.egt_index.proofs.Decoded.{has_pawns_list, list_spelled, no_men, spelled_setup}
 use Rattle.egt_index.proofs.Halves.{of_targets}
 use Rattle.egt_index.proofs.OnePosition.{spells_once}

@@ -1,4 +1,5 @@
-use Rattle.egt_index.specs.Prelude.{◌≡◌, ◌≢◌, arith, refl, Kind, Q, R, B, N, P, K, kind_less}
+use Rattle.std.proofs.Common.{◌≡◌, ◌≢◌, arith, refl}
+use Rattle.egt_index.specs.Prelude.{Kind, Q, R, B, N, P, K, kind_less}
 use Rattle.egt_index.proofs.digits.digit.Goals as goal
 
 -- of no other man than a pawn the digit is less than the square

@@ -1,4 +1,5 @@
-use Rattle.egt_index.specs.Prelude.{◌≡◌, sym, subst, ℕ, IfSome, IfNone, ◌<◌, ◌≢◌, king_square, king_base}
+use Rattle.std.proofs.Common.{◌≡◌, sym, subst, ℕ, IfSome, IfNone, ◌<◌, ◌≢◌}
+use Rattle.egt_index.specs.Prelude.{king_square, king_base}
 use Rattle.egt_index.proofs.digits.king_digit.Goals as goal
 
 pub returns-then-not-pawns : goal.returns-then-not-pawns

@@ -1,4 +1,5 @@
-use Rattle.egt_index.specs.Prelude.{ℕ, ◌<◌, ◌≢◌, false, king_square}
+use Rattle.std.specs.Prelude.{ℕ, ◌<◌, ◌≢◌, false}
+use Rattle.egt_index.specs.Prelude.{king_square}
 use Rattle.egt_index.proofs.digits.place.Given as goal
 
 -- the squares so far are others

@@ -1,4 +1,5 @@
-use Rattle.egt_index.specs.Prelude.{refl, sym, subst, IsFrontOf, with_last}
+use Rattle.std.proofs.Common.{refl, sym, subst}
+use Rattle.egt_index.specs.Prelude.{IsFrontOf, with_last}
 use Rattle.egt_index.proofs.Exists.{index_settled, index_spelled}
 use Rattle.egt_index.proofs.RowMen.{list_in_row, stand_in_row}
 use Rattle.egt_index.proofs.front.front_of.Goals as goal

@@ -1,4 +1,5 @@
-use Rattle.egt_index.specs.Prelude.{◌∙◌, IfNone, arith, sym, ap, subst, false≢true, SpellsNothing, with_last}
+use Rattle.std.proofs.Common.{◌∙◌, IfNone, arith, sym, ap, subst}
+use Rattle.egt_index.specs.Prelude.{false≢true, SpellsNothing, with_last}
 use Rattle.std.specs.FinMap as map
 use Rattle.egt_index.proofs.Fronts.{apart_all, few_before}
 use Rattle.egt_index.proofs.RowMen.{apart_in_row, nothing_in_row}

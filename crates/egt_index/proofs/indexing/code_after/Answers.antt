@@ -1,7 +1,7 @@
-use Rattle.egt_index.specs.Prelude.{◌≢◌, ◌≡◌, ℕ, ◌/◌, ◌<◌, ◌==◌, ◌∷◌, [], Bool, Option, Some, None, cond, arith, ◌∙◌}
-use Rattle.egt_index.specs.Prelude.{sym, subst, ap, is_some, side_number, turned_side, material_of, king_square}
-use Rattle.egt_index.specs.Prelude.{target_digit, number_from, king_base, has_pawns, has_target, Tells, men_among}
-use Rattle.egt_index.specs.Prelude.{rest_of, CodeAfter}
+use Rattle.std.proofs.Common.{◌≢◌, ◌≡◌, ℕ, ◌/◌, ◌<◌, ◌==◌, ◌∷◌, [], Bool, Option, Some, None, cond, arith, ◌∙◌, sym}
+use Rattle.std.proofs.Common.{subst, ap}
+use Rattle.egt_index.specs.Prelude.{is_some, side_number, turned_side, material_of, king_square, target_digit}
+use Rattle.egt_index.specs.Prelude.{number_from, king_base, has_pawns, has_target, Tells, men_among, rest_of, CodeAfter}
 use Rattle.egt_index.proofs.After.{ImageStood, image_stood, digits_after, code_stood}
 use Rattle.egt_index.proofs.Best.{king_after, none_after}
 use Rattle.egt_index.proofs.LeastTurn.{king_is}

@@ -1,4 +1,5 @@
-use Rattle.egt_index.specs.Prelude.{subst, SettlesTo, Setup, HasStand, Best}
+use Rattle.std.proofs.Common.{subst}
+use Rattle.egt_index.specs.Prelude.{SettlesTo, Setup, HasStand, Best}
 use Rattle.egt_index.proofs.Best.{best_at_last, index_found}
 use Rattle.egt_index.proofs.Turned.{settled_stand}
 use Rattle.egt_index.proofs.indexing.index.Goals.{After-least_standing}

@@ -1,4 +1,5 @@
-use Rattle.egt_index.specs.Prelude.{subst, Best}
+use Rattle.std.proofs.Common.{subst}
+use Rattle.egt_index.specs.Prelude.{Best}
 use Rattle.egt_index.proofs.Best.{best_at_last, index_found}
 use Rattle.egt_index.proofs.ByMen.{no_target, settles_to_itself, found_beside, stand_of_men}
 use Rattle.egt_index.proofs.indexing.indexed_by_men.Goals as goal

@@ -1,5 +1,5 @@
-use Rattle.egt_index.specs.Prelude.{ℕ, ◌≡◌, Option, true, false, refl, ap, sym, ◌∙◌, inl, inr, false≢true, is_some}
-use Rattle.egt_index.specs.Prelude.{Bool, IsTrue, ◌↔◌, Setup, IsSettled, SettlesTo}
+use Rattle.std.proofs.Common.{ℕ, ◌≡◌, Option, true, false, refl, ap, sym, ◌∙◌, inl, inr, Bool, IsTrue, ◌↔◌}
+use Rattle.egt_index.specs.Prelude.{false≢true, is_some, Setup, IsSettled, SettlesTo}
 use Rattle.egt_index.proofs.indexing.keeps_target.Goals as goal
 
 abbrev target_in : Setup → Bool

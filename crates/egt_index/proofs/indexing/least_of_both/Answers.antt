@@ -1,4 +1,5 @@
-use Rattle.egt_index.specs.Prelude.{sym, subst, arith, Best}
+use Rattle.std.proofs.Common.{sym, subst, arith}
+use Rattle.egt_index.specs.Prelude.{Best}
 use Rattle.egt_index.proofs.Beating.{has_exchanged}
 use Rattle.egt_index.proofs.LeastTurn.{best_of_colours}
 use Rattle.egt_index.proofs.indexing.least_of_both.Goals as goal

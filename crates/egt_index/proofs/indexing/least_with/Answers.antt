@@ -1,4 +1,5 @@
-use Rattle.egt_index.specs.Prelude.{◌%◌, Some, None, sym, subst, material_of, AreHome, LeastWith, has_pawns, HasStand}
+use Rattle.std.proofs.Common.{◌%◌, Some, None, sym, subst}
+use Rattle.egt_index.specs.Prelude.{material_of, AreHome, LeastWith, has_pawns, HasStand}
 use Rattle.egt_index.proofs.LeastTurn.{keeps_play, least_of_one, least_of_two, none_away}
 use Rattle.egt_index.proofs.indexing.least_with.Goals as goal
 

@@ -1,5 +1,5 @@
-use Rattle.egt_index.specs.Prelude.{◌≡◌, ◌/◌, ◌%◌, ◌+◌, ◌*◌, ℕ, false, cond, eqb, arith, ap, sym, ◌∙◌, turned_square}
-use Rattle.egt_index.specs.Prelude.{HasKingsOn, Stand}
+use Rattle.std.proofs.Common.{◌≡◌, ◌/◌, ◌%◌, ◌+◌, ◌*◌, ℕ, false, cond, eqb, arith, ap, sym, ◌∙◌}
+use Rattle.egt_index.specs.Prelude.{turned_square, HasKingsOn, Stand}
 use Rattle.egt_index.proofs.Beating.{beaten_by_kings, kept_by_kings, same_by_kings, spelled_home}
 use Rattle.egt_index.proofs.FirstMan.{beaten_by, kept_by, plain_if}
 use Rattle.egt_index.proofs.least_code.leastness_after.Goals.{After-leastness_by_first}

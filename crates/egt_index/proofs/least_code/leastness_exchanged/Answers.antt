@@ -1,5 +1,6 @@
-use Rattle.egt_index.specs.Prelude.{Bool, ℕ, true, false, Some, None, arith, refl, sym, inl, inr, subst, Setup, Side}
-use Rattle.egt_index.specs.Prelude.{material_of, HasKingsOn, AreHome, has_pawns, HasStand, seen_across, Stand}
+use Rattle.std.proofs.Common.{Bool, ℕ, true, false, Some, None, arith, refl, sym, inl, inr, subst}
+use Rattle.egt_index.specs.Prelude.{Setup, Side, material_of, HasKingsOn, AreHome, has_pawns, HasStand, seen_across}
+use Rattle.egt_index.specs.Prelude.{Stand}
 use Rattle.egt_index.proofs.Beating.{keeps_with, has_exchanged, turn_beaten, turn_kept}
 use Rattle.egt_index.proofs.least_code.leastness_exchanged.Goals.{After-leastness_after-one}
 use Rattle.egt_index.proofs.least_code.leastness_exchanged.Goals as goal

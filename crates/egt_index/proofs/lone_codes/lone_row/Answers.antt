@@ -1,5 +1,5 @@
-use Rattle.egt_index.specs.Prelude.{◌≡◌, ◌+◌, ◌*◌, ◌<◌, ◌∙◌, arith, ap, sym, subst, king_square, IsLoneRow, kind_digits}
-use Rattle.egt_index.specs.Prelude.{king_base}
+use Rattle.std.proofs.Common.{◌≡◌, ◌+◌, ◌*◌, ◌<◌, ◌∙◌, arith, ap, sym, subst}
+use Rattle.egt_index.specs.Prelude.{king_square, IsLoneRow, kind_digits, king_base}
 use Rattle.egt_index.proofs.LoneCodes.{lone_told}
 use Rattle.egt_index.proofs.lone_codes.lone_row.Goals as goal
 

@@ -1,4 +1,5 @@
-use Rattle.egt_index.specs.Prelude.{ap, ◌∙◌, arith, has_equal_sides}
+use Rattle.std.proofs.Common.{ap, ◌∙◌, arith}
+use Rattle.egt_index.specs.Prelude.{has_equal_sides}
 use Rattle.egt_index.proofs.MenTable.{sides_are}
 use Rattle.egt_index.proofs.men.has_equal_sides.Goals as goal
 

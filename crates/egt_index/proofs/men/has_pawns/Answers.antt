@@ -1,4 +1,5 @@
-use Rattle.egt_index.specs.Prelude.{ap, ◌∙◌, arith, material_of, has_pawns}
+use Rattle.std.proofs.Common.{ap, ◌∙◌, arith}
+use Rattle.egt_index.specs.Prelude.{material_of, has_pawns}
 use Rattle.egt_index.proofs.MenTable.{pawns_are}
 use Rattle.egt_index.proofs.men.has_pawns.Goals as goal
 

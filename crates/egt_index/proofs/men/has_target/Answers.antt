@@ -1,4 +1,5 @@
-use Rattle.egt_index.specs.Prelude.{ap, ◌∙◌, material_of, has_target}
+use Rattle.std.proofs.Common.{ap, ◌∙◌}
+use Rattle.egt_index.specs.Prelude.{material_of, has_target}
 use Rattle.egt_index.proofs.MenTable.{targets_are}
 use Rattle.egt_index.proofs.men.has_target.Goals as goal
 

@@ -1,5 +1,5 @@
-use Rattle.egt_index.specs.Prelude.{◌≡◌, true, subst, ap, ◌∙◌, arith, slice_index_or, material_of, men_beside}
-use Rattle.egt_index.specs.Prelude.{tells_colours, NON_KINGS}
+use Rattle.std.proofs.Common.{◌≡◌, true, subst, ap, ◌∙◌, arith, slice_index_or}
+use Rattle.egt_index.specs.Prelude.{material_of, men_beside, tells_colours, NON_KINGS}
 use Rattle.egt_index.proofs.Flipped.{first_tells}
 use Rattle.egt_index.proofs.MenTable.{row_is, no_king, from_first}
 use Rattle.egt_index.proofs.men.non_kings.Goals as goal

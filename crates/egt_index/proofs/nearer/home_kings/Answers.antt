@@ -1,4 +1,5 @@
-use Rattle.egt_index.specs.Prelude.{arith, subst, material_of, AreHome, has_pawns}
+use Rattle.std.proofs.Common.{arith, subst}
+use Rattle.egt_index.specs.Prelude.{material_of, AreHome, has_pawns}
 use Rattle.egt_index.proofs.Nearing.{nearest_of_one, nearest_of_two}
 use Rattle.egt_index.proofs.nearer.home_kings.Goals as goal
 

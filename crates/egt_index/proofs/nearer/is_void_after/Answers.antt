@@ -1,4 +1,5 @@
-use Rattle.egt_index.specs.Prelude.{arith, sym, subst, ◌<◌, ◌∙◌, ltb-true}
+use Rattle.std.proofs.Common.{arith, sym, subst, ◌<◌, ◌∙◌}
+use Rattle.egt_index.specs.Prelude.{ltb-true}
 use Rattle.egt_index.proofs.Nearing.{void_across, void_near, void_within}
 use Rattle.egt_index.proofs.nearer.is_void_after.Goals as goal
 

@@ -1,5 +1,5 @@
-use Rattle.egt_index.specs.Prelude.{◌≡◌, ◌*◌, ◌/◌, ◌%◌, ◌∙◌, ℕ, arith, sym, subst, div-le_self, half_of, places}
-use Rattle.egt_index.specs.Prelude.{size_of}
+use Rattle.std.proofs.Common.{◌≡◌, ◌*◌, ◌/◌, ◌%◌, ◌∙◌, ℕ, arith, sym, subst}
+use Rattle.egt_index.specs.Prelude.{div-le_self, half_of, places, size_of}
 use Rattle.egt_index.proofs.Halves.{half_whole, half_within}
 use Rattle.egt_index.proofs.IndexTotal.{few}
 use Rattle.egt_index.proofs.numbers.fronts.Goals as goal

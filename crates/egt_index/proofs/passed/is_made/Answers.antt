@@ -1,6 +1,6 @@
-use Rattle.egt_index.specs.Prelude.{◌≡◌, IfSome, arith, ◌∙◌, ap, sym, refl, subst, false≢true, men_of, setup_of}
-use Rattle.egt_index.specs.Prelude.{PawnsFit, IsFree, Placement, IsAdmissible, IsKingOn, IsSettled, Black, White}
-use Rattle.egt_index.specs.Prelude.{list_of}
+use Rattle.std.proofs.Common.{◌≡◌, IfSome, arith, ◌∙◌, ap, sym, refl, subst}
+use Rattle.egt_index.specs.Prelude.{false≢true, men_of, setup_of, PawnsFit, IsFree, Placement, IsAdmissible, IsKingOn}
+use Rattle.egt_index.specs.Prelude.{IsSettled, Black, White, list_of}
 use Rattle.std.specs.FinMap as map
 use Rattle.egt_index.proofs.Fronts.{few_with}
 use Rattle.egt_index.proofs.Passing.{at_digit, board_made, kings_there, made_off, made_setup, off_free, pawns_fit, pawns_there, setup_made}

@@ -1,4 +1,5 @@
-use Rattle.egt_index.specs.Prelude.{true, material_of}
+use Rattle.std.specs.Prelude.{true}
+use Rattle.egt_index.specs.Prelude.{material_of}
 use Rattle.egt_index.proofs.Decoded.{no_men}
 use Rattle.egt_index.proofs.Passing.{passes_nothing}
 use Rattle.egt_index.proofs.passed.may_pass.Goals as goal

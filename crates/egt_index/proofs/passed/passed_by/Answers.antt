@@ -1,4 +1,5 @@
-use Rattle.egt_index.specs.Prelude.{◌-◌, arith, ◌∙◌, ap, sym, lt-ltb}
+use Rattle.std.proofs.Common.{◌-◌, arith, ◌∙◌, ap, sym}
+use Rattle.egt_index.specs.Prelude.{lt-ltb}
 use Rattle.egt_index.proofs.Passing.{both_made, none_made}
 use Rattle.egt_index.proofs.passed.passed_by.Goals as goal
 

@@ -1,4 +1,5 @@
-use Rattle.egt_index.specs.Prelude.{◌≡◌, ◌+◌, ◌*◌, ℕ, if◌then◌else◌, arith, ap, ◌∙◌, subst, bit_at, code_of, TellsIndex}
+use Rattle.std.proofs.Common.{◌≡◌, ◌+◌, ◌*◌, ℕ, if◌then◌else◌, arith, ap, ◌∙◌, subst}
+use Rattle.egt_index.specs.Prelude.{bit_at, code_of, TellsIndex}
 use Rattle.egt_index.proofs.IndexTotal.{few}
 use Rattle.egt_index.proofs.Numbered.{indexed_all, indexed_more, place_within}
 use Rattle.egt_index.proofs.places.asked.Goals as goal

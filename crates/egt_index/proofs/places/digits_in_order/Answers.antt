@@ -1,4 +1,5 @@
-use Rattle.egt_index.specs.Prelude.{◌+◌, arith, common_steps, kind_less}
+use Rattle.std.proofs.Common.{◌+◌, arith}
+use Rattle.egt_index.specs.Prelude.{common_steps, kind_less}
 use Rattle.egt_index.proofs.Placing.{free_bits, ordered_bits}
 use Rattle.egt_index.proofs.places.digits_in_order.Goals as goal
 

@@ -1,5 +1,5 @@
-use Rattle.egt_index.specs.Prelude.{◌≡◌, ◌↔◌, ◌+◌, ◌<◌, bit_and, ◌/◌, sym, subst, arith, bit_at, Kind, kind_digits}
-use Rattle.egt_index.specs.Prelude.{kind_less}
+use Rattle.std.proofs.Common.{◌≡◌, ◌↔◌, ◌+◌, ◌<◌, bit_and, ◌/◌, sym, subst, arith}
+use Rattle.egt_index.specs.Prelude.{bit_at, Kind, kind_digits, kind_less}
 use Rattle.egt_index.proofs.Placing.{man_bits, pawn_bits}
 use Rattle.egt_index.proofs.places.digits_on.Goals as goal
 

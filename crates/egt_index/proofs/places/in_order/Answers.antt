@@ -1,4 +1,5 @@
-use Rattle.egt_index.specs.Prelude.{◌+◌, Some, arith, kind_less, IsInOrder}
+use Rattle.std.proofs.Common.{◌+◌, Some, arith}
+use Rattle.egt_index.specs.Prelude.{kind_less, IsInOrder}
 use Rattle.egt_index.proofs.Placing.{bits_among}
 use Rattle.egt_index.proofs.places.in_order.Goals as goal
 

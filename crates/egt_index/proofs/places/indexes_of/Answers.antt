@@ -1,5 +1,6 @@
-use Rattle.egt_index.specs.Prelude.{arith, ◌≡◌, ◌<◌, ◌*◌, ◌≤◌, Option, None, Some, IfSome, IfNone, Bool, ℕ, refl, sym}
-use Rattle.egt_index.specs.Prelude.{subst, ◌∙◌, false≢true, IsSome, places, IsShelfBehind, IsWithin, size_of}
+use Rattle.std.proofs.Common.{arith, ◌≡◌, ◌<◌, ◌*◌, ◌≤◌, Option, None, Some, IfSome, IfNone, Bool, ℕ, refl, sym, subst}
+use Rattle.std.proofs.Common.{◌∙◌}
+use Rattle.egt_index.specs.Prelude.{false≢true, IsSome, places, IsShelfBehind, IsWithin, size_of}
 use Rattle.egt_index.proofs.Halves.{of_targets, places_some}
 use Rattle.egt_index.proofs.Numbered.{no_indexes}
 use Rattle.egt_index.proofs.places.indexes_of.Goals as goal

@@ -1,4 +1,5 @@
-use Rattle.egt_index.specs.Prelude.{◌≡◌, ◌↔◌, arith, sym, ◌∙◌, subst, bit_at, common_steps, Reaches, IsKeptFrom, Man}
+use Rattle.std.proofs.Common.{◌≡◌, ◌↔◌, arith, sym, ◌∙◌, subst}
+use Rattle.egt_index.specs.Prelude.{bit_at, common_steps, Reaches, IsKeptFrom, Man}
 use Rattle.egt_index.proofs.Facing.{kept_own}
 use Rattle.egt_index.proofs.places.kept_from.Goals.{After-without}
 use Rattle.egt_index.proofs.places.kept_from.Goals as goal

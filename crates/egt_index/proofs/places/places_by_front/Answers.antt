@@ -1,6 +1,6 @@
-use Rattle.egt_index.specs.Prelude.{◌≢◌, ℕ, Option, None, Some, IfSome, arith, subst, ◌∙◌, king_of, Man, White}
-use Rattle.egt_index.specs.Prelude.{material_of, IsFront, IsFrontOf, AreIndexes, IsShelfBehind, men_beside, Front}
-use Rattle.egt_index.specs.Prelude.{Places}
+use Rattle.std.proofs.Common.{◌≢◌, ℕ, Option, None, Some, IfSome, arith, subst, ◌∙◌}
+use Rattle.egt_index.specs.Prelude.{king_of, Man, White, material_of, IsFront, IsFrontOf, AreIndexes, IsShelfBehind}
+use Rattle.egt_index.specs.Prelude.{men_beside, Front, Places}
 use Rattle.egt_index.proofs.Fronts.{last_beside}
 use Rattle.egt_index.proofs.Numbered.{none_indexed}
 use Rattle.egt_index.proofs.places.places_by_front.Goals as goal

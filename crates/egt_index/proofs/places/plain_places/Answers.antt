@@ -1,4 +1,5 @@
-use Rattle.egt_index.specs.Prelude.{arith, White, Black}
+use Rattle.std.proofs.Common.{arith}
+use Rattle.egt_index.specs.Prelude.{White, Black}
 use Rattle.egt_index.proofs.Placing.{made_bits}
 use Rattle.egt_index.proofs.places.plain_places.Goals as goal
 

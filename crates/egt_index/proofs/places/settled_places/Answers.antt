@@ -1,4 +1,5 @@
-use Rattle.egt_index.specs.Prelude.{Bool, sym, subst, ◌∙◌, false≢true, AreMade}
+use Rattle.std.proofs.Common.{Bool, sym, subst, ◌∙◌}
+use Rattle.egt_index.specs.Prelude.{false≢true, AreMade}
 use Rattle.egt_index.proofs.Halves.{of_targets}
 use Rattle.egt_index.proofs.places.settled_places.Goals as goal
 

@@ -1,4 +1,5 @@
-use Rattle.egt_index.specs.Prelude.{arith, sym, ◌∙◌, material_of, men_beside}
+use Rattle.std.proofs.Common.{arith, sym, ◌∙◌}
+use Rattle.egt_index.specs.Prelude.{material_of, men_beside}
 use Rattle.egt_index.proofs.Fronts.{last_beside}
 use Rattle.egt_index.proofs.Halves.{places_of_last, places_of_none, whole_numbers}
 use Rattle.egt_index.proofs.shelf.last_digits.Goals as goal

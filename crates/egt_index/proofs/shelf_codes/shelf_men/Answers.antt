@@ -1,5 +1,5 @@
-use Rattle.egt_index.specs.Prelude.{◌≢◌, ◌∙◌, IfSome, IfNone, Option, arith, refl, sym, subst, king_of, Man, White}
-use Rattle.egt_index.specs.Prelude.{material_of, HasTwoBeside, IsWithin, men_beside}
+use Rattle.std.proofs.Common.{◌≢◌, ◌∙◌, IfSome, IfNone, Option, arith, refl, sym, subst}
+use Rattle.egt_index.specs.Prelude.{king_of, Man, White, material_of, HasTwoBeside, IsWithin, men_beside}
 use Rattle.egt_index.proofs.Fronts.{last_beside}
 use Rattle.egt_index.proofs.ShelfCodes.{first_beside, shelf_before}
 use Rattle.egt_index.proofs.ShelfFound.{none_within, one_before, some_before}

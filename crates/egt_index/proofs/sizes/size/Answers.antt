@@ -1,4 +1,5 @@
-use Rattle.egt_index.specs.Prelude.{ap, ◌∙◌, arith, size_of}
+use Rattle.std.proofs.Common.{ap, ◌∙◌, arith}
+use Rattle.egt_index.specs.Prelude.{size_of}
 use Rattle.egt_index.proofs.SizeTable.{sizes_are_right}
 use Rattle.egt_index.proofs.sizes.size.Goals as goal
 

@@ -1,5 +1,5 @@
-use Rattle.egt_index.specs.Prelude.{◌≡◌, ◌≢◌, ℕ, List, ◌∷◌, [], Some, sym, ap, ◌∙◌, arith, subst, refl, king_of, men_of}
-use Rattle.egt_index.specs.Prelude.{Placement, IsFree, Man, White, Black, with_entry, AllApart}
+use Rattle.std.proofs.Common.{◌≡◌, ◌≢◌, ℕ, List, ◌∷◌, [], Some, sym, ap, ◌∙◌, arith, subst, refl}
+use Rattle.egt_index.specs.Prelude.{king_of, men_of, Placement, IsFree, Man, White, Black, with_entry, AllApart}
 use Rattle.std.specs.FinMap as map
 use Rattle.egt_index.proofs.Boarding.{entry_free, entry_put}
 use Rattle.egt_index.proofs.spelling.kings_on.Goals.{After-with_entry-board}

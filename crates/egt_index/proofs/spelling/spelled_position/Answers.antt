@@ -1,6 +1,6 @@
-use Rattle.egt_index.specs.Prelude.{◌≡◌, ◌<◌, ◌∙◌, Bool, Option, ℕ, arith, sym, subst, FitsBoard, setup_of, Placement}
-use Rattle.egt_index.specs.Prelude.{Setup, IsAdmissible, IsKingOn, Side, White, Black, Spells, IsTold, TellsMen}
-use Rattle.egt_index.specs.Prelude.{list_of, Stand}
+use Rattle.std.proofs.Common.{◌≡◌, ◌<◌, ◌∙◌, Bool, Option, ℕ, arith, sym, subst}
+use Rattle.egt_index.specs.Prelude.{FitsBoard, setup_of, Placement, Setup, IsAdmissible, IsKingOn, Side, White, Black}
+use Rattle.egt_index.specs.Prelude.{Spells, IsTold, TellsMen, list_of, Stand}
 use Rattle.egt_index.proofs.Decoded.{spelled_setup}
 use Rattle.egt_index.proofs.Setups.{AreKings, fits_apart, kings_spelled, on_board_of}
 use Rattle.egt_index.proofs.spelling.spelled_position.Goals as goal

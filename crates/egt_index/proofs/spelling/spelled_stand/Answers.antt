@@ -1,5 +1,5 @@
-use Rattle.egt_index.specs.Prelude.{◌≡◌, Option, Some, None, IfNone, IfSome, subst, refl, sym, ◌∙◌, false≢true, IsSome}
-use Rattle.egt_index.specs.Prelude.{material_of, SpellsMen, SpellsNoMen, IsFilled, list_of, Stand}
+use Rattle.std.proofs.Common.{◌≡◌, Option, Some, None, IfNone, IfSome, subst, refl, sym, ◌∙◌}
+use Rattle.egt_index.specs.Prelude.{false≢true, IsSome, material_of, SpellsMen, SpellsNoMen, IsFilled, list_of, Stand}
 use Rattle.egt_index.proofs.AtIndex.{taken}
 use Rattle.egt_index.proofs.Decoded.{has_pawns_list, no_men}
 use Rattle.egt_index.proofs.Halves.{of_targets}

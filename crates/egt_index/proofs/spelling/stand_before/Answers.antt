@@ -1,5 +1,5 @@
-use Rattle.egt_index.specs.Prelude.{◌<◌, ◌≤◌, ap, sym, ◌∙◌, subst, IfNone, material_of, king_square, IsNoneBefore}
-use Rattle.egt_index.specs.Prelude.{king_base, has_pawns}
+use Rattle.std.proofs.Common.{◌<◌, ◌≤◌, ap, sym, ◌∙◌, subst, IfNone}
+use Rattle.egt_index.specs.Prelude.{material_of, king_square, IsNoneBefore, king_base, has_pawns}
 use Rattle.egt_index.proofs.Fronts.{is_before, none_before}
 use Rattle.egt_index.proofs.spelling.stand_before.Goals as goal
 

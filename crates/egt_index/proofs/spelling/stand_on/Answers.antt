@@ -1,4 +1,5 @@
-use Rattle.egt_index.specs.Prelude.{sym, subst, IfNone, material_of, SpellsMen, SpellsNoMen, IsFilled, list_of, Stand}
+use Rattle.std.proofs.Common.{sym, subst, IfNone}
+use Rattle.egt_index.specs.Prelude.{material_of, SpellsMen, SpellsNoMen, IsFilled, list_of, Stand}
 use Rattle.egt_index.proofs.spelling.stand_on.Goals as goal
 
 pub returns-in_err-before-clause-none : goal.returns-in_err-before-clause-none

@@ -1,4 +1,5 @@
-use Rattle.egt_index.specs.Prelude.{ap, sym, subst, ◌∷◌, [], option_to_list, Tells}
+use Rattle.std.proofs.Common.{ap, sym, subst, ◌∷◌, []}
+use Rattle.egt_index.specs.Prelude.{option_to_list, Tells}
 use Rattle.egt_index.proofs.Splitting.{tells_one}
 use Rattle.egt_index.proofs.spelling.take.Goals as goal
 

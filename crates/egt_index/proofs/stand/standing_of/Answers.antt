@@ -1,4 +1,5 @@
-use Rattle.egt_index.specs.Prelude.{subst, arith, option_to_list, HasBeside, in_any_order, Placement}
+use Rattle.std.proofs.Common.{subst, arith}
+use Rattle.egt_index.specs.Prelude.{option_to_list, HasBeside, in_any_order, Placement}
 use Rattle.egt_index.proofs.Flipped.{colours_told}
 use Rattle.egt_index.proofs.stand.standing_of.Goals as goal
 

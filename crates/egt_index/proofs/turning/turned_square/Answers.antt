@@ -1,4 +1,5 @@
-use Rattle.egt_index.specs.Prelude.{arith, ◌∙◌, ◌+◌, ◌*◌, slice_index, TURNED}
+use Rattle.std.proofs.Common.{arith, ◌∙◌, ◌+◌, ◌*◌, slice_index}
+use Rattle.egt_index.specs.Prelude.{TURNED}
 use Rattle.egt_index.proofs.TurnTable.{TurnEntry, entry_told}
 use Rattle.egt_index.proofs.turning.turned_square.Goals as goal
 

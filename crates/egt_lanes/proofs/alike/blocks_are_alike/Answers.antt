@@ -1,5 +1,5 @@
-use Rattle.egt_lanes.specs.Prelude.{◌≡◌, ◌∙◌, ℕ, ◌+◌, ◌-◌, ◌*◌, ◌<◌, inl, inr, arith, ap, subst, slice_index, cases_lt}
-use Rattle.egt_lanes.specs.Prelude.{AreVoidOrAlike}
+use Rattle.std.proofs.Common.{◌≡◌, ◌∙◌, ℕ, ◌+◌, ◌-◌, ◌*◌, ◌<◌, inl, inr, arith, ap, subst, slice_index}
+use Rattle.egt_lanes.specs.Prelude.{cases_lt, AreVoidOrAlike}
 use Rattle.egt_lanes.proofs.alike.blocks_are_alike.Goals as goal
 
 pub loop-block-preserved : goal.loop-block-preserved

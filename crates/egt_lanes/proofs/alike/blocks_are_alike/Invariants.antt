@@ -1,4 +1,5 @@
-use Rattle.egt_lanes.specs.Prelude.{ℕ, ◌*◌, ◌<◌, slice_index, AreVoidOrAlike}
+use Rattle.std.specs.Prelude.{ℕ, ◌*◌, ◌<◌, slice_index}
+use Rattle.egt_lanes.specs.Prelude.{AreVoidOrAlike}
 use Rattle.egt_lanes.proofs.alike.blocks_are_alike.Given as goal
 
 -- the blocks so far

@@ -1,4 +1,5 @@
-use Rattle.egt_lanes.specs.Prelude.{◌≡◌, get_or, arith, subst, AreVoidOrAlike}
+use Rattle.std.proofs.Common.{◌≡◌, get_or, arith, subst}
+use Rattle.egt_lanes.specs.Prelude.{AreVoidOrAlike}
 use Rattle.egt_lanes.proofs.Likeness.{alike_at, unlike}
 use Rattle.egt_lanes.proofs.alike.unlike.Goals as goal
 

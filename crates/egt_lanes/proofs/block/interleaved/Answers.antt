@@ -1,4 +1,5 @@
-use Rattle.egt_lanes.specs.Prelude.{ℕ, List, arith, length-set}
+use Rattle.std.proofs.Common.{ℕ, List, arith}
+use Rattle.egt_lanes.specs.Prelude.{length-set}
 use Rattle.egt_lanes.proofs.Weaving.{two_rows}
 use Rattle.egt_lanes.proofs.block.interleaved.Goals as goal
 

@@ -1,4 +1,5 @@
-use Rattle.egt_lanes.specs.Prelude.{◌≡◌, ℕ, ◌<◌, ◌+◌, ◌*◌, ◌/◌, ◌%◌, List, length, at}
+use Rattle.std.specs.Prelude.{◌≡◌, ℕ, ◌<◌, ◌+◌, ◌*◌, ◌/◌, ◌%◌, List, length}
+use Rattle.egt_lanes.specs.Prelude.{at}
 use Rattle.egt_lanes.proofs.block.interleaved.Given as goal
 
 -- two rows a time are written

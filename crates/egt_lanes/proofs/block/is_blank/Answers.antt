@@ -1,4 +1,5 @@
-use Rattle.egt_lanes.specs.Prelude.{◌≡◌, ◌∙◌, arith, inl, inr, subst, cases_eq, cases_lt, get_or-replicate, at}
+use Rattle.std.proofs.Common.{◌≡◌, ◌∙◌, arith, inl, inr, subst}
+use Rattle.egt_lanes.specs.Prelude.{cases_eq, cases_lt, get_or-replicate, at}
 use Rattle.egt_lanes.proofs.block.is_blank.Goals as goal
 
 pub loop-i-preserved : goal.loop-i-preserved

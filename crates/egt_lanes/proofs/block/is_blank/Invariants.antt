@@ -1,4 +1,5 @@
-use Rattle.egt_lanes.specs.Prelude.{◌≡◌, ℕ, ◌<◌, at}
+use Rattle.std.specs.Prelude.{◌≡◌, ℕ, ◌<◌}
+use Rattle.egt_lanes.specs.Prelude.{at}
 use Rattle.egt_lanes.proofs.block.is_blank.Given as goal
 
 -- the rows below i are

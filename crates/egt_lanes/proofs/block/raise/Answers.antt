@@ -1,4 +1,4 @@
-use Rattle.egt_lanes.specs.Prelude.{◌≡◌, ◌≢◌, ℕ, get_or, List, [], max, sym, ap, ◌∙◌, get_or-set_other, inl, inr, arith}
+use Rattle.std.proofs.Common.{◌≡◌, ◌≢◌, ℕ, get_or, List, [], max, sym, ap, ◌∙◌, get_or-set_other, inl, inr, arith}
 use Rattle.egt_lanes.specs.Prelude.{length-set, cases_lt, get_or-set_at, at}
 use Rattle.egt_lanes.proofs.block.raise.Goals as goal
 

@@ -1,4 +1,5 @@
-use Rattle.egt_lanes.specs.Prelude.{◌≡◌, ℕ, ◌<◌, ◌≤◌, List, length, max, at}
+use Rattle.std.specs.Prelude.{◌≡◌, ℕ, ◌<◌, ◌≤◌, List, length, max}
+use Rattle.egt_lanes.specs.Prelude.{at}
 use Rattle.egt_lanes.proofs.block.raise.Given as goal
 
 -- rows below i are raised, and the others are as they were

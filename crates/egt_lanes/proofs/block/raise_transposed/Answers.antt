@@ -1,4 +1,5 @@
-use Rattle.egt_lanes.specs.Prelude.{max, arith, ap, ◌∙◌, at}
+use Rattle.std.proofs.Common.{max, arith, ap, ◌∙◌}
+use Rattle.egt_lanes.specs.Prelude.{at}
 use Rattle.egt_lanes.proofs.Weaving.{exchanged}
 use Rattle.egt_lanes.proofs.block.raise_transposed.Goals as goal
 

@@ -1,4 +1,5 @@
-use Rattle.egt_lanes.specs.Prelude.{◌+◌, ◌*◌, ◌<◌, ◌∙◌, arith, side_number}
+use Rattle.std.proofs.Common.{◌+◌, ◌*◌, ◌<◌, ◌∙◌, arith}
+use Rattle.egt_lanes.specs.Prelude.{side_number}
 use Rattle.egt_lanes.proofs.Entries.{joined_at, side_number-small}
 use Rattle.egt_lanes.proofs.load.load.Goals as goal
 

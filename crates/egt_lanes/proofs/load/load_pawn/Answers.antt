@@ -1,4 +1,4 @@
-use Rattle.egt_lanes.specs.Prelude.{◌≡◌, ℕ, ◌+◌, ◌*◌, ◌-◌, ◌<◌, ◌∙◌, length, get_or, refl, ap, inl, inr, arith}
+use Rattle.std.proofs.Common.{◌≡◌, ℕ, ◌+◌, ◌*◌, ◌-◌, ◌<◌, ◌∙◌, length, get_or, refl, ap, inl, inr, arith}
 use Rattle.egt_lanes.specs.Prelude.{cases_lt, get_or_past, side_number, PAWN_SQUARES}
 use Rattle.egt_lanes.proofs.Picks.{picked_or_none}
 use Rattle.egt_lanes.proofs.Entries.{joined_at, side_number-small, pawn_place, pawn_place-low, pawn_place-high, pawn_place-edge}

@@ -1,6 +1,7 @@
-use Rattle.egt_lanes.specs.Prelude.{◌≡◌, ℕ, if◌then◌else◌, ◌+◌, ◌*◌, ◌-◌, ◌<◌, ◌∙◌, length, get_or, replicate, refl, ap}
-use Rattle.egt_lanes.specs.Prelude.{inl, inr, arith, cases_lt, get_or_past, get_or_append_left, get_or-append_right}
-use Rattle.egt_lanes.specs.Prelude.{side_number, TARGET_SQUARES}
+use Rattle.std.proofs.Common.{◌≡◌, ℕ, if◌then◌else◌, ◌+◌, ◌*◌, ◌-◌, ◌<◌, ◌∙◌, length, get_or, replicate, refl, ap, inl}
+use Rattle.std.proofs.Common.{inr, arith}
+use Rattle.egt_lanes.specs.Prelude.{cases_lt, get_or_past, get_or_append_left, get_or-append_right, side_number}
+use Rattle.egt_lanes.specs.Prelude.{TARGET_SQUARES}
 use Rattle.egt_lanes.proofs.Picks.{picked_or_none}
 use Rattle.egt_lanes.proofs.Entries.{joined_at, side_number-small, bit-small, target_place, target_place-middle, target_place-edge}
 use Rattle.egt_lanes.proofs.load.load_target.Goals as goal

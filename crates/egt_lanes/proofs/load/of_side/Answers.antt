@@ -1,4 +1,5 @@
-use Rattle.egt_lanes.specs.Prelude.{ℕ, ◌+◌, ◌*◌, ◌++◌, ◌∙◌, List, get_or, sym, ap, Side, side_number}
+use Rattle.std.proofs.Common.{ℕ, ◌+◌, ◌*◌, ◌++◌, ◌∙◌, List, get_or, sym, ap}
+use Rattle.egt_lanes.specs.Prelude.{Side, side_number}
 use Rattle.egt_lanes.proofs.load.of_side.Goals as goal
 use Rattle.egt_lanes.proofs.load.of_side.Goals.{in-White, in-Black}
 

@@ -1,4 +1,5 @@
-use Rattle.egt_lanes.specs.Prelude.{◌+◌, ◌*◌, if◌then◌else◌, map, refl, ap, range_with_len}
+use Rattle.std.proofs.Common.{◌+◌, ◌*◌, if◌then◌else◌, map, refl, ap}
+use Rattle.egt_lanes.specs.Prelude.{range_with_len}
 use Rattle.egt_lanes.proofs.Entries.{second_at}
 use Rattle.egt_lanes.proofs.load.parted.Goals as goal
 use Rattle.egt_lanes.proofs.load.parted.Goals.{then-second, else-second}

@@ -1,4 +1,5 @@
-use Rattle.egt_lanes.specs.Prelude.{◌≡◌, get_or, arith, subst, IsVoidOrNear}
+use Rattle.std.proofs.Common.{◌≡◌, get_or, arith, subst}
+use Rattle.egt_lanes.specs.Prelude.{IsVoidOrNear}
 use Rattle.egt_lanes.proofs.Nearness.{near_at, far}
 use Rattle.egt_lanes.proofs.near.far.Goals as goal
 

@@ -1,4 +1,5 @@
-use Rattle.egt_lanes.specs.Prelude.{ℕ, ◌≤◌, ◌<◌, slice_index, IsVoidOrNear}
+use Rattle.std.specs.Prelude.{ℕ, ◌≤◌, ◌<◌, slice_index}
+use Rattle.egt_lanes.specs.Prelude.{IsVoidOrNear}
 use Rattle.egt_lanes.proofs.near.rest_is_near.Given as goal
 
 -- the places so far

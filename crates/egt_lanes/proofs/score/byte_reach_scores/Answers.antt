@@ -1,4 +1,5 @@
-use Rattle.egt_lanes.specs.Prelude.{◌≡◌, get_or, subst, arith, reach_score}
+use Rattle.std.proofs.Common.{◌≡◌, get_or, subst, arith}
+use Rattle.egt_lanes.specs.Prelude.{reach_score}
 use Rattle.egt_lanes.proofs.Rows.{reach_scores, reach_scores_at}
 use Rattle.egt_lanes.proofs.score.byte_reach_scores.Goals as goal
 

@@ -1,4 +1,5 @@
-use Rattle.egt_lanes.specs.Prelude.{◌≡◌, get_or, subst, arith, byte_score}
+use Rattle.std.proofs.Common.{◌≡◌, get_or, subst, arith}
+use Rattle.egt_lanes.specs.Prelude.{byte_score}
 use Rattle.egt_lanes.proofs.Rows.{byte_scores, byte_scores_at}
 use Rattle.egt_lanes.proofs.score.byte_scores.Goals as goal
 

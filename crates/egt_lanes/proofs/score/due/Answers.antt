@@ -1,4 +1,5 @@
-use Rattle.egt_lanes.specs.Prelude.{◌≡◌, get_or, subst, arith, due_score}
+use Rattle.std.proofs.Common.{◌≡◌, get_or, subst, arith}
+use Rattle.egt_lanes.specs.Prelude.{due_score}
 use Rattle.egt_lanes.proofs.Rows.{due, due_at}
 use Rattle.egt_lanes.proofs.score.due.Goals as goal
 

@@ -1,4 +1,5 @@
-use Rattle.egt_lanes.specs.Prelude.{◌≡◌, get_or, subst, arith, reach_due_score}
+use Rattle.std.proofs.Common.{◌≡◌, get_or, subst, arith}
+use Rattle.egt_lanes.specs.Prelude.{reach_due_score}
 use Rattle.egt_lanes.proofs.Rows.{reach_due, reach_due_at}
 use Rattle.egt_lanes.proofs.score.reach_due.Goals as goal
 

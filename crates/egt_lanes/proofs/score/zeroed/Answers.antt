@@ -1,4 +1,5 @@
-use Rattle.egt_lanes.specs.Prelude.{◌≡◌, get_or, subst, arith, zeroing_score}
+use Rattle.std.proofs.Common.{◌≡◌, get_or, subst, arith}
+use Rattle.egt_lanes.specs.Prelude.{zeroing_score}
 use Rattle.egt_lanes.proofs.Rows.{zeroed, zeroed_at}
 use Rattle.egt_lanes.proofs.score.zeroed.Goals as goal
 

@@ -1,4 +1,4 @@
-use Rattle.egt_lanes.specs.Prelude.{◌≡◌, get_or, replicate, ◌%◌, ◌^◌, ◌/◌, length, bit_and, eqb, cond, ap, ◌∙◌, arith}
+use Rattle.std.proofs.Common.{◌≡◌, get_or, replicate, ◌%◌, ◌^◌, ◌/◌, length, bit_and, eqb, cond, ap, ◌∙◌, arith}
 use Rattle.egt_lanes.specs.Prelude.{bit_at, get_or-zip2, length-zip2, get_or-replicate, FILE_BITS}
 use lib.Lanes.{zip2}
 use Rattle.egt_lanes.proofs.Rows.{same_at}

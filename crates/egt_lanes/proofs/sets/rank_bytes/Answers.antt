@@ -1,4 +1,4 @@
-use Rattle.egt_lanes.specs.Prelude.{◌≡◌, get_or, replicate, ◌+◌, ◌*◌, ◌<◌, ◌^◌, ◌/◌, ◌∙◌, ap, refl, arith}
+use Rattle.std.proofs.Common.{◌≡◌, get_or, replicate, ◌+◌, ◌*◌, ◌<◌, ◌^◌, ◌/◌, ◌∙◌, ap, refl, arith}
 use Rattle.egt_lanes.specs.Prelude.{get_or_narrower, Each1-replicate, RANKS}
 use lib.Lanes.{digits_l, number_l}
 use Rattle.egt_lanes.proofs.Picks.{picked}

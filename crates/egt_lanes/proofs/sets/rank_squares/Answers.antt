@@ -1,4 +1,5 @@
-use Rattle.egt_lanes.specs.Prelude.{◌*◌, ◌/◌, ◌%◌, ◌^◌, ℕ, cond, eqb, bit_at}
+use Rattle.std.specs.Prelude.{◌*◌, ◌/◌, ◌%◌, ◌^◌, ℕ, cond, eqb}
+use Rattle.egt_lanes.specs.Prelude.{bit_at}
 use Rattle.egt_lanes.proofs.Tests.{equals, passed, passes_below}
 use Rattle.egt_lanes.proofs.sets.rank_squares.Goals as goal
 

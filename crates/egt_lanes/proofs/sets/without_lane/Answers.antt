@@ -1,4 +1,5 @@
-use Rattle.egt_lanes.specs.Prelude.{◌≡◌, get_or, replicate, eqb, cond, ap, ◌∙◌, arith, get_or-replicate, SQUARES}
+use Rattle.std.proofs.Common.{◌≡◌, get_or, replicate, eqb, cond, ap, ◌∙◌, arith}
+use Rattle.egt_lanes.specs.Prelude.{get_or-replicate, SQUARES}
 use Rattle.egt_lanes.proofs.Rows.{same_at}
 use Rattle.egt_lanes.proofs.Tests.{agreed}
 use Rattle.egt_lanes.proofs.sets.without_lane.Goals as goal

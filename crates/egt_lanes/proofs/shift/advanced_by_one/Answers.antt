@@ -1,4 +1,5 @@
-use Rattle.egt_lanes.specs.Prelude.{get_or, subst, Step}
+use Rattle.std.proofs.Common.{get_or, subst}
+use Rattle.egt_lanes.specs.Prelude.{Step}
 use Rattle.egt_lanes.proofs.Advancing.{by_one}
 use Rattle.egt_lanes.proofs.Riding.{IsShifted}
 use Rattle.egt_lanes.proofs.shift.advanced_by_one.Goals as goal

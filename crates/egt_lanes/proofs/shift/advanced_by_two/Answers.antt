@@ -1,4 +1,5 @@
-use Rattle.egt_lanes.specs.Prelude.{◌∙◌, ap, get_or, max, subst, Step}
+use Rattle.std.proofs.Common.{◌∙◌, ap, get_or, max, subst}
+use Rattle.egt_lanes.specs.Prelude.{Step}
 use Rattle.egt_lanes.proofs.Advancing.{by_two}
 use Rattle.egt_lanes.proofs.Riding.{IsShifted}
 use Rattle.egt_lanes.proofs.shift.advanced_by_two.Goals as goal

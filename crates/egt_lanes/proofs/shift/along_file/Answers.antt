@@ -1,4 +1,5 @@
-use Rattle.egt_lanes.specs.Prelude.{◌≡◌, refl, ap, ◌∙◌, arith, Up, Down, beyond}
+use Rattle.std.proofs.Common.{◌≡◌, refl, ap, ◌∙◌, arith}
+use Rattle.egt_lanes.specs.Prelude.{Up, Down, beyond}
 use Rattle.egt_lanes.specs.declared.shift.TheConstants as table
 use Rattle.egt_lanes.proofs.Moves.{moved_at, stays_at, beyond-zero}
 use Rattle.egt_lanes.proofs.shift.along_file.Goals as goal

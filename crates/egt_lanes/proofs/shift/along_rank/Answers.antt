@@ -1,4 +1,5 @@
-use Rattle.egt_lanes.specs.Prelude.{◌≡◌, refl, ap, ◌∙◌, arith, Up, Down, beside}
+use Rattle.std.proofs.Common.{◌≡◌, refl, ap, ◌∙◌, arith}
+use Rattle.egt_lanes.specs.Prelude.{Up, Down, beside}
 use Rattle.egt_lanes.specs.declared.shift.TheConstants as table
 use Rattle.egt_lanes.proofs.Moves.{moved_at, stays_at, beside-zero}
 use Rattle.egt_lanes.proofs.shift.along_rank.Goals as goal

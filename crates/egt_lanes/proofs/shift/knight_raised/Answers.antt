@@ -1,4 +1,5 @@
-use Rattle.egt_lanes.specs.Prelude.{ℕ, List, [], ◌∷◌, get_or, Step, Up, Down, Away, step}
+use Rattle.std.specs.Prelude.{ℕ, List, [], ◌∷◌, get_or}
+use Rattle.egt_lanes.specs.Prelude.{Step, Up, Down, Away, step}
 use Rattle.egt_lanes.proofs.Riding.{no_steps, one_more_step}
 use Rattle.egt_lanes.proofs.shift.knight_raised.Goals as goal
 

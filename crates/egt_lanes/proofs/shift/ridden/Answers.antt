@@ -1,4 +1,5 @@
-use Rattle.egt_lanes.specs.Prelude.{◌≡◌, get_or, subst, arith, Rides, IsRaised}
+use Rattle.std.proofs.Common.{◌≡◌, get_or, subst, arith}
+use Rattle.egt_lanes.specs.Prelude.{Rides, IsRaised}
 use Rattle.egt_lanes.proofs.Riding.{HasBit, ridden_first, ridden_more}
 use Rattle.egt_lanes.proofs.shift.ridden.Goals as goal
 

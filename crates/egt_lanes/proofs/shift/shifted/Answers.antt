@@ -1,4 +1,5 @@
-use Rattle.egt_lanes.specs.Prelude.{◌≡◌, length, inl, inr, ◌∙◌, arith, cases_lt, get_or_past, beside, beyond}
+use Rattle.std.proofs.Common.{◌≡◌, length, inl, inr, ◌∙◌, arith}
+use Rattle.egt_lanes.specs.Prelude.{cases_lt, get_or_past, beside, beyond}
 use Rattle.egt_lanes.proofs.Moves.{beside-leads, beyond-leads, away_by}
 use Rattle.egt_lanes.proofs.shift.shifted.Goals as goal
 

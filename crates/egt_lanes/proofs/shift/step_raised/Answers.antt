@@ -1,4 +1,5 @@
-use Rattle.egt_lanes.specs.Prelude.{get_or, Away}
+use Rattle.std.specs.Prelude.{get_or}
+use Rattle.egt_lanes.specs.Prelude.{Away}
 use Rattle.egt_lanes.proofs.Riding.{raised_over, step_end}
 use Rattle.egt_lanes.proofs.shift.step_raised.Goals as goal
 

@@ -1,4 +1,5 @@
-use Rattle.egt_lanes.specs.Prelude.{ℕ, List, [], ◌∷◌, get_or, Step, Up, Down, Still, step, Rides}
+use Rattle.std.specs.Prelude.{ℕ, List, [], ◌∷◌, get_or}
+use Rattle.egt_lanes.specs.Prelude.{Step, Up, Down, Still, step, Rides}
 use Rattle.egt_lanes.proofs.Riding.{HasBit, no_steps, one_more_step}
 use Rattle.egt_lanes.proofs.shift.straight_raised.Goals as goal
 

@@ -1,4 +1,5 @@
-use Rattle.egt_lanes.specs.Prelude.{refl, inl, inr, Files, Ranks, Diagonal, Colours}
+use Rattle.std.proofs.Common.{refl, inl, inr}
+use Rattle.egt_lanes.specs.Prelude.{Files, Ranks, Diagonal, Colours}
 use Rattle.egt_lanes.specs.declared.turn.TheConstants as table
 use Rattle.egt_lanes.proofs.Turns.{mirrored_at}
 use Rattle.egt_lanes.proofs.turn.mirrored.Goals as goal

@@ -1,4 +1,5 @@
-use Rattle.egt_lanes.specs.Prelude.{◌==◌, ◌%◌, ◌/◌, ◌∙◌, Files, Ranks, Diagonal, square_if}
+use Rattle.std.proofs.Common.{◌==◌, ◌%◌, ◌/◌, ◌∙◌}
+use Rattle.egt_lanes.specs.Prelude.{Files, Ranks, Diagonal, square_if}
 use Rattle.egt_lanes.proofs.turn.turned.Goals as goal
 use Rattle.egt_board.proofs.Images.{square_if-within}
 

@@ -1,4 +1,5 @@
-use Rattle.egt_lanes.specs.Prelude.{ℕ, List, get_or, arith, subst, take_all, Step, Up, OneOf, step, Away, at, IsRaised}
+use Rattle.std.proofs.Common.{ℕ, List, get_or, arith, subst}
+use Rattle.egt_lanes.specs.Prelude.{take_all, Step, Up, OneOf, step, Away, at, IsRaised}
 use Rattle.egt_lanes.proofs.Riding.{next_of_list}
 use Rattle.egt_lanes.proofs.walk.hopped_along.Goals as goal
 

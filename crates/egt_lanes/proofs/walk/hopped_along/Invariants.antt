@@ -1,4 +1,5 @@
-use Rattle.egt_lanes.specs.Prelude.{ℕ, ◌<◌, take, get_or, OneOf, Away, at, IsRaised}
+use Rattle.std.specs.Prelude.{ℕ, ◌<◌, take, get_or}
+use Rattle.egt_lanes.specs.Prelude.{OneOf, Away, at, IsRaised}
 use Rattle.egt_lanes.proofs.walk.hopped_along.Given as goal
 
 abbrev pub invariant-loop-step : goal.invariant-loop-step

@@ -1,4 +1,5 @@
-use Rattle.egt_lanes.specs.Prelude.{◌≡◌, ◌∙◌, subst, sym, arith, slice_index, Rides, at, IsOpen, IsRaised, IsAhead}
+use Rattle.std.proofs.Common.{◌≡◌, ◌∙◌, subst, sym, arith, slice_index}
+use Rattle.egt_lanes.specs.Prelude.{Rides, at, IsOpen, IsRaised, IsAhead}
 use Rattle.egt_lanes.proofs.Sweeping.{next_is_past, nth, nth_is, swept_more}
 use Rattle.egt_lanes.proofs.walk.raise_ray.Goals as goal
 

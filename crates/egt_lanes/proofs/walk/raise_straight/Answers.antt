@@ -1,4 +1,5 @@
-use Rattle.egt_lanes.specs.Prelude.{ℕ, List, [], ◌∷◌, Step, Up, Down, Still, step, Rides, at, IsOpen}
+use Rattle.std.specs.Prelude.{ℕ, List, [], ◌∷◌}
+use Rattle.egt_lanes.specs.Prelude.{Step, Up, Down, Still, step, Rides, at, IsOpen}
 use Rattle.egt_lanes.proofs.Riding.{no_steps, one_more_step}
 use Rattle.egt_lanes.proofs.walk.raise_straight.Goals as goal
 

@@ -1,4 +1,5 @@
-use Rattle.egt_moves.specs.Prelude.{subst, sym, IsInCheck, Setup, IsAdmissible}
+use Rattle.std.proofs.Common.{subst, sym}
+use Rattle.egt_moves.specs.Prelude.{IsInCheck, Setup, IsAdmissible}
 use Rattle.egt_moves.proofs.Admissible.{admissible_after}
 use Rattle.egt_moves.proofs.exchanging.moves_keep_admissibility.Goals as goal
 

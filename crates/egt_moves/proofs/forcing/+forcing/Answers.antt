@@ -1,4 +1,5 @@
-use Rattle.egt_moves.specs.Prelude.{◌-◌, subst, sym, arith, AvoidsMateFor, MatesWithin, chess}
+use Rattle.std.proofs.Common.{◌-◌, subst, sym, arith}
+use Rattle.egt_moves.specs.Prelude.{AvoidsMateFor, MatesWithin, chess}
 use Rattle.egt_moves.proofs.Trying.{tried_more, listed_is_legal, stalemate_is_no_mate, not_mated_now, tried_all, wins_by, cannot_win, escapes_by, loses}
 use Rattle.egt_moves.proofs.forcing.+forcing.Goals as goal
 

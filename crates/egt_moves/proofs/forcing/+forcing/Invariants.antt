@@ -1,4 +1,5 @@
-use Rattle.egt_moves.specs.Prelude.{◌<◌, ◌-◌, MatesWithin, AvoidsMateFor, chess}
+use Rattle.std.specs.Prelude.{◌<◌, ◌-◌}
+use Rattle.egt_moves.specs.Prelude.{MatesWithin, AvoidsMateFor, chess}
 use Rattle.egt_moves.proofs.Trying.{Tried}
 use Rattle.egt_moves.proofs.forcing.+forcing.Given as goal
 

@@ -1,4 +1,5 @@
-use Rattle.egt_moves.specs.Prelude.{sym, subst, refl, ◌∙◌, IsKingOn, plain}
+use Rattle.std.proofs.Common.{sym, subst, refl, ◌∙◌}
+use Rattle.egt_moves.specs.Prelude.{IsKingOn, plain}
 use Rattle.egt_moves.proofs.After.{king_moves, king_stays}
 use Rattle.egt_moves.proofs.going.king_after.Goals as goal
 

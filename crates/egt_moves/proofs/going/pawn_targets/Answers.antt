@@ -1,4 +1,5 @@
-use Rattle.egt_moves.specs.Prelude.{arith, inl, inr, bit_at, cases_eq, bit_at-lt}
+use Rattle.std.proofs.Common.{arith, inl, inr}
+use Rattle.egt_moves.specs.Prelude.{bit_at, cases_eq, bit_at-lt}
 use Rattle.egt_moves.proofs.going.pawn_targets.Goals as goal
 
 pub returns-clause-goes : goal.returns-clause-goes

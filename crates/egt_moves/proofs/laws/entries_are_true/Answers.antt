@@ -1,4 +1,5 @@
-use Rattle.egt_moves.specs.Prelude.{chess, IsTrue}
+use Rattle.std.specs.Prelude.{IsTrue}
+use Rattle.egt_moves.specs.Prelude.{chess}
 use Rattle.egt_moves.proofs.Fitting as fitting
 use Rattle.egt_moves.proofs.DistancesFit as distances
 use Rattle.egt_moves.proofs.laws.entries_are_true.Goals as goal

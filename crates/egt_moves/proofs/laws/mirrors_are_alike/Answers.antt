@@ -1,4 +1,5 @@
-use Rattle.egt_moves.specs.Prelude.{◌≡◌, refl, Setup, IsAdmissible, chess}
+use Rattle.std.specs.Prelude.{◌≡◌, refl}
+use Rattle.egt_moves.specs.Prelude.{Setup, IsAdmissible, chess}
 use Rattle.egt_moves.proofs.Likeness.{alike_backwards, alike_by_mirror}
 use Rattle.egt_moves.proofs.Worth.{alike_value, alike_zeroing}
 use Rattle.egt_moves.proofs.laws.mirrors_are_alike.Goals as goal

@@ -1,4 +1,5 @@
-use Rattle.egt_moves.specs.Prelude.{chess, Setup, ◌≡◌, ◌⊎◌}
+use Rattle.std.specs.Prelude.{◌≡◌, ◌⊎◌}
+use Rattle.egt_moves.specs.Prelude.{chess, Setup}
 use Rattle.egt_moves.proofs.Likeness.{alike_backwards}
 use Rattle.egt_moves.proofs.SettledMoves.{Untargets, settled_alike, settles}
 use Rattle.egt_moves.proofs.Worth.{alike_value, alike_zeroing}

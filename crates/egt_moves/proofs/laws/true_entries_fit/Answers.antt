@@ -1,4 +1,5 @@
-use Rattle.egt_moves.specs.Prelude.{IsTrue, chess}
+use Rattle.std.specs.Prelude.{IsTrue}
+use Rattle.egt_moves.specs.Prelude.{chess}
 use Rattle.egt_moves.proofs.DistancesFit as distances
 use Rattle.egt_moves.proofs.Ending.{chess_ends}
 use Rattle.egt_moves.proofs.Fitting as fitting

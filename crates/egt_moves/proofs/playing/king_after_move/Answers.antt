@@ -1,5 +1,5 @@
-use Rattle.egt_moves.specs.Prelude.{◌≡◌, ℕ, false, true, ◌&&◌, Option, Some, None, refl, sym, ap, ◌∙◌, subst}
-use Rattle.egt_moves.specs.Prelude.{false≢true, ◌==◌, rank_of, last_rank, the_type, Side, White, Black, Kind, K, Man}
+use Rattle.std.proofs.Common.{◌≡◌, ℕ, false, true, ◌&&◌, Option, Some, None, refl, sym, ap, ◌∙◌, subst, ◌==◌}
+use Rattle.egt_moves.specs.Prelude.{false≢true, rank_of, last_rank, the_type, Side, White, Black, Kind, K, Man}
 use Rattle.egt_moves.specs.Prelude.{other_side, IsKingOn, is_pawn, promotes, FitsPromotion, men_after}
 use denote.Enum.Bare.{sameb}
 use Rattle.egt_moves.proofs.After.{king_moves, king_stays, other_king_stays, may_become}

@@ -1,5 +1,6 @@
-use Rattle.egt_moves.specs.Prelude.{◌≡◌, ◌∙◌, sym, subst, rules, Stands, Setup, IsInCheck, Goes, FitsPromotion}
-use Rattle.egt_moves.specs.Prelude.{promotes, men_after, after, plain, false≢true}
+use Rattle.std.proofs.Common.{◌≡◌, ◌∙◌, sym, subst, rules}
+use Rattle.egt_moves.specs.Prelude.{Stands, Setup, IsInCheck, Goes, FitsPromotion, promotes, men_after, after, plain}
+use Rattle.egt_moves.specs.Prelude.{false≢true}
 use Rattle.egt_moves.proofs.Growing.{goes_of, fits_of, safe_of, same_safety}
 use Rattle.egt_moves.proofs.playing.play.Goals as goal
 

@@ -1,4 +1,5 @@
-use Rattle.egt_moves.specs.Prelude.{Option, refl, sym, ◌∙◌, subst, IsSome, Man}
+use Rattle.std.proofs.Common.{Option, refl, sym, ◌∙◌, subst}
+use Rattle.egt_moves.specs.Prelude.{IsSome, Man}
 use Rattle.egt_moves.proofs.playing.play_legal.Goals as goal
 
 pub unwrap-man-requires : goal.unwrap-man-requires

@@ -1,4 +1,5 @@
-use Rattle.egt_moves.specs.Prelude.{◌∙◌, sym, ap, subst, IsAdmissible, other_side, men_after, passed}
+use Rattle.std.proofs.Common.{◌∙◌, sym, ap, subst}
+use Rattle.egt_moves.specs.Prelude.{IsAdmissible, other_side, men_after, passed}
 use Rattle.egt_moves.proofs.Admissible.{admissible_after}
 use Rattle.egt_moves.proofs.playing.played.Goals as goal
 

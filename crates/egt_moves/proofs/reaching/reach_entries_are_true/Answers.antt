@@ -1,4 +1,5 @@
-use Rattle.egt_moves.specs.Prelude.{IsTrue, chess}
+use Rattle.std.specs.Prelude.{IsTrue}
+use Rattle.egt_moves.specs.Prelude.{chess}
 use Rattle.egt_moves.proofs.Nearest.{fitting_reach, true_reach_fits}
 use Rattle.egt_moves.proofs.reaching.reach_entries_are_true.Goals as goal
 

@@ -1,4 +1,5 @@
-use Rattle.egt_moves.specs.Prelude.{◌≡◌, ◌⊎◌, Setup, chess, Chain}
+use Rattle.std.specs.Prelude.{◌≡◌, ◌⊎◌}
+use Rattle.egt_moves.specs.Prelude.{Setup, chess, Chain}
 use Rattle.egt_moves.proofs.ImageMoves.{AreReflected, reflections_alike, chain_of}
 use Rattle.egt_moves.proofs.Likeness.{alike_backwards}
 use Rattle.egt_moves.proofs.Nearest.{alike_reach}

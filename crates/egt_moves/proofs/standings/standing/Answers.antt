@@ -1,4 +1,5 @@
-use Rattle.egt_moves.specs.Prelude.{sym, ◌∙◌, false≢true}
+use Rattle.std.proofs.Common.{sym, ◌∙◌}
+use Rattle.egt_moves.specs.Prelude.{false≢true}
 use Rattle.egt_moves.proofs.standings.standing.Goals as goal
 
 pub returns-then-is_in_check : goal.returns-then-is_in_check

@@ -1,4 +1,5 @@
-use Rattle.egt_moves.specs.Prelude.{◌≡◌, ◌≤◌, rules, sym, subst, ◌∙◌, Stands, one_man, size_of, Man, most_goals}
+use Rattle.std.proofs.Common.{◌≡◌, ◌≤◌, rules, sym, subst, ◌∙◌}
+use Rattle.egt_moves.specs.Prelude.{Stands, one_man, size_of, Man, most_goals}
 use Rattle.egt_moves.proofs.SafeGoals.{legal_target, none_few}
 use Rattle.egt_moves.proofs.targets.legal_targets.Goals as goal
 

@@ -1,4 +1,5 @@
-use Rattle.egt_moves.specs.Prelude.{rules, bit_at_ones}
+use Rattle.std.proofs.Common.{rules}
+use Rattle.egt_moves.specs.Prelude.{bit_at_ones}
 use Rattle.egt_moves.proofs.LoneKing.{lone_king_kept}
 use Rattle.egt_moves.proofs.targets.shelter.Goals as goal
 

@@ -1,4 +1,4 @@
-use Rattle.egt_probe.specs.Prelude.{◌<◌, List, [], ◌++◌, ℕ, length, take, refl, sym, ap, ◌∙◌, append-nil, arith}
+use Rattle.std.proofs.Common.{◌<◌, List, [], ◌++◌, ℕ, length, take, refl, sym, ap, ◌∙◌, append-nil, arith}
 use Rattle.egt_probe.specs.Prelude.{Consumes-nil, Consumes-kept, Consumes-trans, on_ok_weaker, IfErr-weaker}
 use Rattle.egt_probe.specs.Prelude.{err_from_is_err_and, Device, loaded_in}
 use Rattle.egt_probe.proofs.Answered.{advanced_none, advanced_more, stopped_more, stopped_reading, some_answered, all_answered, last_stopped, nothing_more}

@@ -1,4 +1,5 @@
-use Rattle.egt_probe.specs.Prelude.{◌≡◌, List, [], ℕ, Consumes, Advanced, loaded_in}
+use Rattle.std.specs.Prelude.{◌≡◌, List, [], ℕ}
+use Rattle.egt_probe.specs.Prelude.{Consumes, Advanced, loaded_in}
 use Rattle.egt_probe.proofs.answering.answer.Given as goal
 
 -- what was read so far was taken

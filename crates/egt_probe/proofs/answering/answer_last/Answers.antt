@@ -1,4 +1,4 @@
-use Rattle.egt_probe.specs.Prelude.{◌≡◌, ◌↔◌, Bool, true, false, IsTrue, List, [], ◌∷◌, ℕ, sym, ◌∙◌, subst}
+use Rattle.std.proofs.Common.{◌≡◌, ◌↔◌, Bool, true, false, IsTrue, List, [], ◌∷◌, ℕ, sym, ◌∙◌, subst}
 use Rattle.egt_probe.specs.Prelude.{on_ok_weaker, IfErr-weaker, Wrote, Stopped, with_front, loaded_in}
 use Rattle.egt_probe.proofs.Answered.{last_line}
 use Rattle.egt_probe.proofs.answering.answer_last.Goals as goal

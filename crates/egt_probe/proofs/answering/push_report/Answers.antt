@@ -1,4 +1,5 @@
-use Rattle.egt_probe.specs.Prelude.{◌∙◌, err_from_is_err_and, loaded_in}
+use Rattle.std.proofs.Common.{◌∙◌}
+use Rattle.egt_probe.specs.Prelude.{err_from_is_err_and, loaded_in}
 use Rattle.egt_probe.proofs.Answered.{wrote_one, stopped_within}
 use Rattle.egt_probe.proofs.answering.push_report.Goals as goal
 

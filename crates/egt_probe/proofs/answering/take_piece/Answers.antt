@@ -1,5 +1,6 @@
-use Rattle.egt_probe.specs.Prelude.{◌≡◌, ◌<◌, ℕ, ◌+◌, suc, List, [], ◌∷◌, ◌++◌, get_or, length, take, drop, refl, sym}
-use Rattle.egt_probe.specs.Prelude.{ap, ◌∙◌, drop-cons, take-append-drop, take_more, err_from_is_err_and, loaded_in}
+use Rattle.std.proofs.Common.{◌≡◌, ◌<◌, ℕ, ◌+◌, suc, List, [], ◌∷◌, ◌++◌, get_or, length, take, drop, refl, sym, ap}
+use Rattle.std.proofs.Common.{◌∙◌, drop-cons}
+use Rattle.egt_probe.specs.Prelude.{take-append-drop, take_more, err_from_is_err_and, loaded_in}
 use Rattle.egt_probe.proofs.Answered.{advanced_none, advanced_more, stopped_more}
 use Rattle.egt_probe.proofs.answering.take_piece.Goals as goal
 

@@ -1,4 +1,5 @@
-use Rattle.egt_probe.specs.Prelude.{◌≡◌, List, ℕ, take, Holds, Advanced, loaded_in}
+use Rattle.std.specs.Prelude.{◌≡◌, List, ℕ, take}
+use Rattle.egt_probe.specs.Prelude.{Holds, Advanced, loaded_in}
 use Rattle.egt_probe.proofs.answering.take_piece.Given as goal
 
 -- the bytes so far were taken

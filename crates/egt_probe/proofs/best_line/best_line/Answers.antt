@@ -1,4 +1,5 @@
-use Rattle.egt_probe.specs.Prelude.{◌-◌, sym, subst, arith, Side, HasValue, chess, mate_by}
+use Rattle.std.proofs.Common.{◌-◌, sym, subst, arith}
+use Rattle.egt_probe.specs.Prelude.{Side, HasValue, chess, mate_by}
 use Rattle.egt_probe.proofs.Best.{turned, line_step, line_end}
 use Rattle.egt_probe.proofs.best_line.best_line.Goals as goal
 

@@ -1,4 +1,5 @@
-use Rattle.egt_probe.specs.Prelude.{◌≤◌, List, ◌++◌, HasValue, chess, mate_by, Move, IsLine, IsLoaded, loaded_in}
+use Rattle.std.specs.Prelude.{◌≤◌, List, ◌++◌}
+use Rattle.egt_probe.specs.Prelude.{HasValue, chess, mate_by, Move, IsLine, IsLoaded, loaded_in}
 use Rattle.egt_probe.proofs.best_line.best_line.Given as goal
 
 -- whatever is the line from here, it is the rest of the line from the position

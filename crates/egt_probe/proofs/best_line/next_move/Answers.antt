@@ -1,5 +1,6 @@
-use Rattle.egt_probe.specs.Prelude.{◌≡◌, ℕ, ◌+◌, suc, Option, IfSome, ap, ◌∙◌, subst, arith, Side, other_side, Setup}
-use Rattle.egt_probe.specs.Prelude.{SomeMove, HasValue, chess, mate_by, Move, entry_of, Facts, IsFirstWith}
+use Rattle.std.proofs.Common.{◌≡◌, ℕ, ◌+◌, suc, Option, IfSome, ap, ◌∙◌, subst, arith}
+use Rattle.egt_probe.specs.Prelude.{Side, other_side, Setup, SomeMove, HasValue, chess, mate_by, Move, entry_of, Facts}
+use Rattle.egt_probe.specs.Prelude.{IsFirstWith}
 use Rattle.egt_probe.proofs.Best.{short, goes_on, some_found, first_to}
 use Rattle.egt_probe.proofs.best_line.next_move.Goals as goal
 

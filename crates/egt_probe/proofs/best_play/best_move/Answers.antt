@@ -1,4 +1,5 @@
-use Rattle.egt_probe.specs.Prelude.{◌-◌, refl, subst, arith, other_side, HasValue, chess, mate_by, Outcome, mate_value}
+use Rattle.std.proofs.Common.{◌-◌, refl, subst, arith}
+use Rattle.egt_probe.specs.Prelude.{other_side, HasValue, chess, mate_by, Outcome, mate_value}
 use Rattle.egt_probe.proofs.BestMoves.{best_of_hold, best_is}
 use Rattle.egt_probe.proofs.best_play.best_move.Goals as goal
 

@@ -1,4 +1,5 @@
-use Rattle.egt_probe.specs.Prelude.{ℕ, subst, ShowsValue}
+use Rattle.std.proofs.Common.{ℕ, subst}
+use Rattle.egt_probe.specs.Prelude.{ShowsValue}
 use Rattle.egt_probe.proofs.Ordered.{listed_is_legal, misses_more, misses_next, first_found, none_found}
 use Rattle.egt_probe.proofs.first_move.first_with.Goals as goal
 

@@ -1,4 +1,5 @@
-use Rattle.egt_probe.specs.Prelude.{refl, Draw}
+use Rattle.std.specs.Prelude.{refl}
+use Rattle.egt_probe.specs.Prelude.{Draw}
 use Rattle.egt_probe.proofs.Best.{first_to}
 use Rattle.egt_probe.proofs.Drawn.{stalemate}
 use Rattle.egt_probe.proofs.holding.drawing_move.Goals as goal

@@ -1,4 +1,4 @@
-use Rattle.egt_probe.specs.Prelude.{ap, Some}
+use Rattle.std.proofs.Common.{ap, Some}
 use Rattle.egt_probe.proofs.DeadOrNot.{shows_dead, shows_alive, stalemate_if_dead}
 use Rattle.egt_probe.proofs.looking.is_dead.Goals as goal
 

@@ -1,4 +1,5 @@
-use Rattle.egt_probe.specs.Prelude.{Option, IfSome, subst, IsShelved, table_at}
+use Rattle.std.proofs.Common.{Option, IfSome, subst}
+use Rattle.egt_probe.specs.Prelude.{IsShelved, table_at}
 use Rattle.egt_probe.proofs.Shelved.{index_there, shows_value}
 use Rattle.egt_probe.proofs.looking.mate_entry.Goals as goal
 

@@ -1,4 +1,4 @@
-use Rattle.egt_probe.specs.Prelude.{ℕ, ◌<◌, Option, Some, None, is_some, option_map, refl, IfSome, IsSome, subst}
+use Rattle.std.proofs.Common.{ℕ, ◌<◌, Option, Some, None, is_some, option_map, refl, IfSome, IsSome, subst}
 use Rattle.egt_probe.specs.Prelude.{IsShelved, table_at, TableValue, loaded_in}
 use Rattle.egt_probe.proofs.Shelved.{step_loaded}
 use Rattle.egt_probe.proofs.looking.moves_stay_loaded.Goals as goal

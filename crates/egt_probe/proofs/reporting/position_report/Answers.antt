@@ -1,5 +1,6 @@
-use Rattle.egt_probe.specs.Prelude.{List, sym, subst, IfOk-weaker, mate_by, Move, Outcome, IsLine, Unloaded, Decisive}
-use Rattle.egt_probe.specs.Prelude.{Dead, Drawn, verdict_of, loaded_in, IsVerdict}
+use Rattle.std.proofs.Common.{List, sym, subst}
+use Rattle.egt_probe.specs.Prelude.{IfOk-weaker, mate_by, Move, Outcome, IsLine, Unloaded, Decisive, Dead, Drawn}
+use Rattle.egt_probe.specs.Prelude.{verdict_of, loaded_in, IsVerdict}
 use Rattle.egt_probe.proofs.reporting.position_report.Goals as goal
 
 pub returns-in-Err : goal.returns-in-Err

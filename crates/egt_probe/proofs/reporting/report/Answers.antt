@@ -1,5 +1,5 @@
-use Rattle.egt_probe.specs.Prelude.{◌≡◌, ◌<◌, ◌≤◌, Bool, MatchBool, List, ℕ, length, ◌∙◌, subst, IfOk-weaker, Report}
-use Rattle.egt_probe.specs.Prelude.{most, loaded_in}
+use Rattle.std.proofs.Common.{◌≡◌, ◌<◌, ◌≤◌, Bool, MatchBool, List, ℕ, length, ◌∙◌, subst}
+use Rattle.egt_probe.specs.Prelude.{IfOk-weaker, Report, most, loaded_in}
 use Rattle.egt_probe.proofs.reporting.report.Goals as goal
 
 pub returns-else-kept : goal.returns-else-kept

@@ -1,4 +1,5 @@
-use Rattle.egt_probe.specs.Prelude.{◌≡◌, ◌∷◌, ◌++◌, take, flat_map, text_of}
+use Rattle.std.specs.Prelude.{◌≡◌, ◌∷◌, ◌++◌, take}
+use Rattle.egt_probe.specs.Prelude.{flat_map, text_of}
 use Rattle.egt_probe.proofs.wording.push_moves.Given as goal
 
 abbrev pub invariant-loop-chess_move : goal.invariant-loop-chess_move

@@ -1,5 +1,5 @@
-use Rattle.egt_probe.specs.Prelude.{◌≡◌, ◌++◌, take, drop, sym, ap, ◌∙◌, append_assoc, List, ℕ, Appends-trans}
-use Rattle.egt_probe.specs.Prelude.{take-append-drop, err_from_is_err_and}
+use Rattle.std.proofs.Common.{◌≡◌, ◌++◌, take, drop, sym, ap, ◌∙◌, append_assoc, List, ℕ}
+use Rattle.egt_probe.specs.Prelude.{Appends-trans, take-append-drop, err_from_is_err_and}
 use Rattle.egt_probe.proofs.Answered.{front_kept}
 use Rattle.egt_probe.proofs.writing.push_all.Goals as goal
 

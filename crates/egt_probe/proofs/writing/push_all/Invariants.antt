@@ -1,4 +1,5 @@
-use Rattle.egt_probe.specs.Prelude.{◌≡◌, ◌++◌, List, ℕ, length, Appends}
+use Rattle.std.specs.Prelude.{◌≡◌, ◌++◌, List, ℕ, length}
+use Rattle.egt_probe.specs.Prelude.{Appends}
 use Rattle.egt_probe.proofs.writing.push_all.Given as goal
 
 abbrev pub invariant-loop-rest : goal.invariant-loop-rest

@@ -1,4 +1,5 @@
-use Rattle.egt_steps.specs.Prelude.{refl, not, false, ⊎_elim, settled_form}
+use Rattle.std.proofs.Common.{refl, not, false, ⊎_elim}
+use Rattle.egt_steps.specs.Prelude.{settled_form}
 use Rattle.egt_steps.proofs.facts.facts.Goals as goal
 
 pub returns : goal.returns

@@ -1,6 +1,6 @@
-use Rattle.egt_sweep.specs.Prelude.{◌≡◌, ℕ, Result, Ok, Err, IfOk, IfErr, refl, sym, subst, inl, Tables, table_at}
-use Rattle.egt_sweep.specs.Prelude.{HasChildren, HasReachChildren, HasTrueChildren, TableValue, AllWithinLimit, IsBuilt}
-use Rattle.egt_sweep.specs.Prelude.{IsNotBuilt, SomeAboveLimit, BuildFault}
+use Rattle.std.proofs.Common.{◌≡◌, ℕ, Result, Ok, Err, IfOk, IfErr, refl, sym, subst, inl}
+use Rattle.egt_sweep.specs.Prelude.{Tables, table_at, HasChildren, HasReachChildren, HasTrueChildren, TableValue}
+use Rattle.egt_sweep.specs.Prelude.{AllWithinLimit, IsBuilt, IsNotBuilt, SomeAboveLimit, BuildFault}
 use Rattle.egt_sweep.specs.declared.build_fault.BuildFault.TheVariants as faults
 use Rattle.egt_sweep.proofs.FilledTables.{true_is_accepted}
 use Rattle.egt_sweep.proofs.TrueChildren.{true_children}

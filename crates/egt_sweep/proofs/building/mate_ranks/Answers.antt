@@ -1,5 +1,5 @@
-use Rattle.egt_sweep.specs.Prelude.{ℕ, ◌<◌, List, Option, Err, inl, refl, ap, ◌∙◌, subst, SomeAbove, TableValue, Mate}
-use Rattle.egt_sweep.specs.Prelude.{table_at, class_game, values_below}
+use Rattle.std.proofs.Common.{ℕ, ◌<◌, List, Option, Err, inl, refl, ap, ◌∙◌, subst}
+use Rattle.egt_sweep.specs.Prelude.{SomeAbove, TableValue, Mate, table_at, class_game, values_below}
 use Rattle.egt_sweep.proofs.TrueChildren.{true_children}
 use Rattle.egt_sweep.proofs.building.mate_ranks.Goals as goal
 

@@ -1,5 +1,5 @@
-use Rattle.egt_sweep.specs.Prelude.{ℕ, ◌<◌, List, Option, subst, SomeFar, TableValue, table_at, reach_game}
-use Rattle.egt_sweep.specs.Prelude.{reaches_below}
+use Rattle.std.proofs.Common.{ℕ, ◌<◌, List, Option, subst}
+use Rattle.egt_sweep.specs.Prelude.{SomeFar, TableValue, table_at, reach_game, reaches_below}
 use Rattle.egt_sweep.proofs.TrueChildren.{true_children}
 use Rattle.egt_sweep.proofs.building.reach_column.Goals as goal
 

@@ -1,6 +1,6 @@
-use Rattle.egt_sweep.specs.Prelude.{ℕ, ◌<◌, None, refl, sym, subst, rules, HasValue, chess, HasZeroing, TableValue}
-use Rattle.egt_sweep.specs.Prelude.{Mate, Zeroing, Tables, table_at, beside, IsBuilt, class_game, mate_table}
-use Rattle.egt_sweep.specs.Prelude.{reaches_below, values_below}
+use Rattle.std.proofs.Common.{ℕ, ◌<◌, None, refl, sym, subst, rules}
+use Rattle.egt_sweep.specs.Prelude.{HasValue, chess, HasZeroing, TableValue, Mate, Zeroing, Tables, table_at, beside}
+use Rattle.egt_sweep.specs.Prelude.{IsBuilt, class_game, mate_table, reaches_below, values_below}
 use Rattle.egt_sweep.proofs.BuiltTables.{RanksTell, built_is_table, built_is_true, mates_show_values, values_within}
 use Rattle.egt_sweep.proofs.JoinedTables.{NearsTell, joined_is_accepted, joined_is_true}
 use Rattle.egt_sweep.proofs.TrueChildren.{true_children}

@@ -1,5 +1,6 @@
-use Rattle.egt_sweep.specs.Prelude.{ℕ, ◌<◌, List, Option, Err, ap, ◌∙◌, subst, HasValue, chess, SomeAbove, TableValue}
-use Rattle.egt_sweep.specs.Prelude.{Mate, Zeroing, table_at, beside, class_game, mate_table, values_below}
+use Rattle.std.proofs.Common.{ℕ, ◌<◌, List, Option, Err, ap, ◌∙◌, subst}
+use Rattle.egt_sweep.specs.Prelude.{HasValue, chess, SomeAbove, TableValue, Mate, Zeroing, table_at, beside, class_game}
+use Rattle.egt_sweep.specs.Prelude.{mate_table, values_below}
 use Rattle.egt_sweep.proofs.BuiltTables.{RanksTell, mates_show_values, none_above}
 use Rattle.egt_sweep.proofs.TrueChildren.{true_children}
 use Rattle.egt_sweep.proofs.building.zeroing_ranks.Goals as goal

@@ -1,4 +1,5 @@
-use Rattle.egt_sweep.specs.Prelude.{subst, IsIndex}
+use Rattle.std.proofs.Common.{subst}
+use Rattle.egt_sweep.specs.Prelude.{IsIndex}
 use Rattle.egt_sweep.proofs.Collecting.{leads_on_once, leads_on_never, members_on, members_off, untrue}
 use Rattle.egt_sweep.proofs.edges.add_edge.Goals as goal
 

@@ -1,4 +1,5 @@
-use Rattle.egt_sweep.specs.Prelude.{arith, LeadsOn}
+use Rattle.std.proofs.Common.{arith}
+use Rattle.egt_sweep.specs.Prelude.{LeadsOn}
 use Rattle.egt_sweep.proofs.Collecting.{listed_is_legal, collected_start, collected_more, collected_all, edges_collected, members_then}
 use Rattle.egt_sweep.proofs.edges.edges.Goals as goal
 

@@ -1,4 +1,5 @@
-use Rattle.egt_sweep.specs.Prelude.{ℕ, ◌≤◌, ◌↔◌, Contains, IsStrictlyIncreasing, array_vec_len, LeadsOn}
+use Rattle.std.specs.Prelude.{ℕ, ◌≤◌, ◌↔◌}
+use Rattle.egt_sweep.specs.Prelude.{Contains, IsStrictlyIncreasing, array_vec_len, LeadsOn}
 use Rattle.egt_sweep.proofs.Collecting.{Collected}
 use Rattle.egt_sweep.proofs.edges.edges.Given as goal
 

@@ -1,4 +1,5 @@
-use Rattle.egt_sweep.specs.Prelude.{ℕ, ◌↔◌, ◌<◌, not, IsTrue, sym, subst, Metric, GoesOn}
+use Rattle.std.proofs.Common.{ℕ, ◌↔◌, ◌<◌, not, IsTrue, sym, subst}
+use Rattle.egt_sweep.specs.Prelude.{Metric, GoesOn}
 use Rattle.egt_sweep.proofs.Staying.{does_not_zero, quiet_stays, stays_in_class, tests_equal}
 use Rattle.egt_sweep.proofs.edges.goes_on.Goals as goal
 

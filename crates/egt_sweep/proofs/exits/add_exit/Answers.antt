@@ -1,5 +1,5 @@
-use Rattle.egt_sweep.specs.Prelude.{ℕ, ◌<◌, [], ◌∷◌, ◌++◌, sym, ap, ◌∙◌, subst, append-nil, option_to_list, table_at}
-use Rattle.egt_sweep.specs.Prelude.{Metric, GoesOn, metric_of, known}
+use Rattle.std.proofs.Common.{ℕ, ◌<◌, [], ◌∷◌, ◌++◌, sym, ap, ◌∙◌, subst}
+use Rattle.egt_sweep.specs.Prelude.{append-nil, option_to_list, table_at, Metric, GoesOn, metric_of, known}
 use Rattle.egt_sweep.proofs.Collecting.{untrue}
 use Rattle.egt_sweep.proofs.OutOfClass.{known_there, off_exit, on_no_exit, quiet_no_exit}
 use Rattle.egt_sweep.proofs.exits.add_exit.Goals as goal

@@ -1,4 +1,5 @@
-use Rattle.egt_sweep.specs.Prelude.{ℕ, ◌<◌, refl, sym, ap, ◌∙◌, subst, read, table_at, metric_of, known, exit_of}
+use Rattle.std.proofs.Common.{ℕ, ◌<◌, refl, sym, ap, ◌∙◌, subst}
+use Rattle.egt_sweep.specs.Prelude.{read, table_at, metric_of, known, exit_of}
 use Rattle.egt_sweep.proofs.OwnColumn.{shown_known}
 use Rattle.egt_sweep.proofs.exits.exit_at.Goals as goal
 

@@ -1,4 +1,4 @@
-use Rattle.egt_sweep.specs.Prelude.{◌≡◌, ℕ, ◌+◌, ◌<◌, ◌++◌, List, [], ◌∷◌, get_or, length, take, sym, ap, ◌∙◌, arith}
+use Rattle.std.proofs.Common.{◌≡◌, ℕ, ◌+◌, ◌<◌, ◌++◌, List, [], ◌∷◌, get_or, length, take, sym, ap, ◌∙◌, arith}
 use Rattle.egt_sweep.specs.Prelude.{flat_map, option_to_list, flat_map-append, append-nil, take_more, take_all, played}
 use Rattle.egt_sweep.specs.Prelude.{Move, Exit, table_at, exit_by, exits_by, metric_of, known}
 use Rattle.egt_sweep.proofs.Collecting.{listed_is_legal}

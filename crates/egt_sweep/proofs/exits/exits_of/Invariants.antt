@@ -1,4 +1,5 @@
-use Rattle.egt_sweep.specs.Prelude.{◌≡◌, ◌≤◌, take, array_vec_len, table_at, exits_by, metric_of, known}
+use Rattle.std.specs.Prelude.{◌≡◌, ◌≤◌, take}
+use Rattle.egt_sweep.specs.Prelude.{array_vec_len, table_at, exits_by, metric_of, known}
 use Rattle.egt_sweep.proofs.exits.exits_of.Given as goal
 
 -- the exits of the moves so far

@@ -1,5 +1,6 @@
-use Rattle.egt_sweep.specs.Prelude.{◌≡◌, ℕ, ◌<◌, Option, IfSome, sym, subst, ◌∙◌, false≢true, Mate, TableValue}
-use Rattle.egt_sweep.specs.Prelude.{table_at, entry_at, known, Knows, mate_table, Objective}
+use Rattle.std.proofs.Common.{◌≡◌, ℕ, ◌<◌, Option, IfSome, sym, subst, ◌∙◌}
+use Rattle.egt_sweep.specs.Prelude.{false≢true, Mate, TableValue, table_at, entry_at, known, Knows, mate_table}
+use Rattle.egt_sweep.specs.Prelude.{Objective}
 use Rattle.egt_sweep.proofs.OutOfClass.{beside_other}
 use Rattle.egt_sweep.proofs.OwnColumn.{own_bound, own_shows}
 use Rattle.egt_sweep.proofs.Staying.{tests_equal}

@@ -1,5 +1,5 @@
-use Rattle.egt_sweep.specs.Prelude.{◌≡◌, ℕ, ◌<◌, ◌*◌, ◌-◌, ◌∙◌, Option, Some, IfSome, IsSome, refl, ap, sym, subst}
-use Rattle.egt_sweep.specs.Prelude.{arith, Mate, TableValue, entries_or_none, IsIndex, size_of, IsShelved, near_entry}
+use Rattle.std.proofs.Common.{◌≡◌, ℕ, ◌<◌, ◌*◌, ◌-◌, ◌∙◌, Option, Some, IfSome, IsSome, refl, ap, sym, subst, arith}
+use Rattle.egt_sweep.specs.Prelude.{Mate, TableValue, entries_or_none, IsIndex, size_of, IsShelved, near_entry}
 use Rattle.egt_sweep.specs.Prelude.{ShowsReach, table_at, entry_at}
 use Rattle.egt_sweep.proofs.NearEntries.{near_found, near_has, near_shown, near_of_entry, shown_range, slice_near}
 use Rattle.egt_sweep.proofs.OutOfClass.{mapped_some, mapped_found}

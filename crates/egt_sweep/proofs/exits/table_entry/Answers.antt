@@ -1,5 +1,5 @@
-use Rattle.egt_sweep.specs.Prelude.{◌≡◌, ℕ, ◌<◌, Option, IfSome, sym, subst, Mate, TableValue, IsIndex, size_of, Shows}
-use Rattle.egt_sweep.specs.Prelude.{IsShelved, table_at, entry_at}
+use Rattle.std.proofs.Common.{◌≡◌, ℕ, ◌<◌, Option, IfSome, sym, subst}
+use Rattle.egt_sweep.specs.Prelude.{Mate, TableValue, IsIndex, size_of, Shows, IsShelved, table_at, entry_at}
 use Rattle.egt_sweep.proofs.OutOfClass.{mapped_some, mapped_found}
 use Rattle.egt_sweep.proofs.exits.table_entry.Goals as goal
 

@@ -1,4 +1,5 @@
-use Rattle.egt_sweep.specs.Prelude.{refl, settled_form}
+use Rattle.std.specs.Prelude.{refl}
+use Rattle.egt_sweep.specs.Prelude.{settled_form}
 use Rattle.egt_sweep.proofs.laws.laws.Goals as goal
 
 pub returns : goal.returns

@@ -1,4 +1,5 @@
-use Rattle.egt_sweep.specs.Prelude.{ℕ, ◌<◌, ◌≤◌, entry_at, Mate}
+use Rattle.std.specs.Prelude.{ℕ, ◌<◌, ◌≤◌}
+use Rattle.egt_sweep.specs.Prelude.{entry_at, Mate}
 use Rattle.egt_sweep.proofs.limit.first_above.Given as goal
 
 -- no mate entry so far is greater

@@ -1,4 +1,5 @@
-use Rattle.egt_sweep.specs.Prelude.{ℕ, ◌+◌, ◌*◌, ◌<◌, ◌≤◌, Option, IfSome, IfNone, subst, size_of, entry_at, Mate}
+use Rattle.std.proofs.Common.{ℕ, ◌+◌, ◌*◌, ◌<◌, ◌≤◌, Option, IfSome, IfNone, subst}
+use Rattle.egt_sweep.specs.Prelude.{size_of, entry_at, Mate}
 use Rattle.egt_sweep.proofs.WithinLimit.{all_within, some_above}
 use Rattle.egt_sweep.proofs.limit.within_limit.Goals as goal
 

@@ -1,5 +1,5 @@
-use Rattle.egt_sweep.specs.Prelude.{sym, subst, table_at, HasChildren, HasReachChildren, HasTrueChildren}
-use Rattle.egt_sweep.specs.Prelude.{HasNoFalseChild}
+use Rattle.std.proofs.Common.{sym, subst}
+use Rattle.egt_sweep.specs.Prelude.{table_at, HasChildren, HasReachChildren, HasTrueChildren, HasNoFalseChild}
 use Rattle.egt_sweep.proofs.FilledTables.{kept_is_true, true_is_accepted}
 use Rattle.egt_sweep.proofs.JoinedTables.{not_there}
 use Rattle.egt_sweep.proofs.TrueChildren.{true_children}

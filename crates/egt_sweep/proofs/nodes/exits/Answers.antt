@@ -1,4 +1,5 @@
-use Rattle.egt_sweep.specs.Prelude.{ap, sym, ◌∙◌, table_at, exits_at, exits_from, metric_of, known}
+use Rattle.std.proofs.Common.{ap, sym, ◌∙◌}
+use Rattle.egt_sweep.specs.Prelude.{table_at, exits_at, exits_from, metric_of, known}
 use Rattle.egt_sweep.proofs.Linked.{position_is}
 use Rattle.egt_sweep.proofs.nodes.exits.Goals as goal
 

@@ -1,4 +1,5 @@
-use Rattle.egt_sweep.specs.Prelude.{◌∙◌, sym, is_some, position_at}
+use Rattle.std.proofs.Common.{◌∙◌, sym}
+use Rattle.egt_sweep.specs.Prelude.{is_some, position_at}
 use Rattle.egt_sweep.proofs.Standing.{found_told, denied}
 use Rattle.egt_sweep.proofs.nodes.is_void.Goals as goal
 

@@ -1,4 +1,5 @@
-use Rattle.egt_sweep.specs.Prelude.{refl, beside}
+use Rattle.std.specs.Prelude.{refl}
+use Rattle.egt_sweep.specs.Prelude.{beside}
 use Rattle.egt_sweep.proofs.OutOfClass.{beside_own}
 use Rattle.egt_sweep.proofs.Shown.{beside_values}
 use Rattle.egt_sweep.proofs.ZeroRanks.{rank_is_distance, rank_in_time}

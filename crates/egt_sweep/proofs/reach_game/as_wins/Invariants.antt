@@ -1,4 +1,5 @@
-use Rattle.egt_sweep.specs.Prelude.{◌≡◌, map, take, as_win}
+use Rattle.std.specs.Prelude.{◌≡◌, map, take}
+use Rattle.egt_sweep.specs.Prelude.{as_win}
 use Rattle.egt_sweep.proofs.reach_game.as_wins.Given as goal
 
 -- the exits so far

@@ -1,4 +1,5 @@
-use Rattle.egt_sweep.specs.Prelude.{ℕ, ◌<◌, arith, subst, sym, Contains, Unmove, List, ComesFrom}
+use Rattle.std.proofs.Common.{ℕ, ◌<◌, arith, subst, sym, List}
+use Rattle.egt_sweep.specs.Prelude.{Contains, Unmove, ComesFrom}
 use Rattle.egt_sweep.proofs.Backward.{before_class, sources_are}
 use Rattle.egt_sweep.proofs.Collecting.{collected_start, collected_more, collected_all, members_then}
 use Rattle.egt_sweep.proofs.sources.sources.Goals as goal

@@ -1,4 +1,5 @@
-use Rattle.egt_sweep.specs.Prelude.{ℕ, ◌≤◌, ◌↔◌, Contains, IsStrictlyIncreasing, array_vec_len, ComesFrom}
+use Rattle.std.specs.Prelude.{ℕ, ◌≤◌, ◌↔◌}
+use Rattle.egt_sweep.specs.Prelude.{Contains, IsStrictlyIncreasing, array_vec_len, ComesFrom}
 use Rattle.egt_sweep.proofs.Collecting.{Collected}
 use Rattle.egt_sweep.proofs.sources.sources.Given as goal
 

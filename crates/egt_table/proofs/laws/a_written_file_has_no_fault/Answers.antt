@@ -1,4 +1,5 @@
-use Rattle.egt_table.specs.Prelude.{◌≡◌, ℕ, ◌<◌, ◌^◌, sym, subst, arith, None, size_of, bytes_of, file_fault}
+use Rattle.std.proofs.Common.{◌≡◌, ℕ, ◌<◌, ◌^◌, sym, subst, arith, None}
+use Rattle.egt_table.specs.Prelude.{size_of, bytes_of, file_fault}
 use Rattle.egt_table.proofs.Answers.{written_right}
 use Rattle.egt_table.proofs.laws.a_written_file_has_no_fault.Goals as goal
 

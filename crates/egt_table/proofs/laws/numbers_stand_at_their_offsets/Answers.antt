@@ -1,4 +1,5 @@
-use Rattle.egt_table.specs.Prelude.{ℕ, ◌<◌, ◌^◌, sym, subst, arith, size_of}
+use Rattle.std.proofs.Common.{ℕ, ◌<◌, ◌^◌, sym, subst, arith}
+use Rattle.egt_table.specs.Prelude.{size_of}
 use Rattle.egt_table.proofs.Offsets.{entries_in_place, header_in_place}
 use Rattle.egt_table.proofs.laws.numbers_stand_at_their_offsets.Goals as goal
 

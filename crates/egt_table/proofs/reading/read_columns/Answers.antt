@@ -1,4 +1,5 @@
-use Rattle.egt_table.specs.Prelude.{◌++◌, refl, arith, length-append, err_from_is_err_and, IfErr-weaker, entries_bytes}
+use Rattle.std.proofs.Common.{◌++◌, refl, arith, length-append}
+use Rattle.egt_table.specs.Prelude.{err_from_is_err_and, IfErr-weaker, entries_bytes}
 use Rattle.egt_table.proofs.Answers.{cut_more, misfit_more, misfit_of_cut}
 use Rattle.egt_table.proofs.Entries.{entries_length}
 use Rattle.egt_table.proofs.Known.{consumes_more}

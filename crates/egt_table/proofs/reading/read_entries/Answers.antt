@@ -1,5 +1,5 @@
-use Rattle.egt_table.specs.Prelude.{◌++◌, ℕ, List, take, ap, ◌∙◌, arith, length-append, length-drop, length-take}
-use Rattle.egt_table.specs.Prelude.{length-take-le, take_all, err_from_is_err_and, entries_bytes}
+use Rattle.std.proofs.Common.{◌++◌, ℕ, List, take, ap, ◌∙◌, arith, length-append, length-drop}
+use Rattle.egt_table.specs.Prelude.{length-take, length-take-le, take_all, err_from_is_err_and, entries_bytes}
 use Rattle.egt_table.proofs.Answers.{cut_more}
 use Rattle.egt_table.proofs.Entries.{entries_length, entries_more}
 use Rattle.egt_table.proofs.Known.{consumes_more, take_across}

@@ -1,4 +1,5 @@
-use Rattle.egt_table.specs.Prelude.{◌≡◌, ◌≤◌, ◌-◌, take, length, Consumes, entries_bytes}
+use Rattle.std.specs.Prelude.{◌≡◌, ◌≤◌, ◌-◌, take, length}
+use Rattle.egt_table.specs.Prelude.{Consumes, entries_bytes}
 use Rattle.egt_table.proofs.reading.read_entries.Given as goal
 
 abbrev pub invariant-loop-at : goal.invariant-loop-at

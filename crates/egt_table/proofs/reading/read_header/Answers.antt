@@ -1,5 +1,5 @@
-use Rattle.egt_table.specs.Prelude.{◌≤◌, ℕ, List, Option, length, take, subst, arith, Consumes, take_all}
-use Rattle.egt_table.specs.Prelude.{err_from_is_err_and}
+use Rattle.std.proofs.Common.{◌≤◌, ℕ, List, Option, length, take, subst, arith}
+use Rattle.egt_table.specs.Prelude.{Consumes, take_all, err_from_is_err_and}
 use Rattle.egt_table.proofs.Answers.{header_answer, header_is, header_is_right, not_counted, of_field}
 use Rattle.egt_table.proofs.reading.read_header.Goals as goal
 

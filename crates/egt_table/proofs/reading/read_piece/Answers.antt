@@ -1,4 +1,5 @@
-use Rattle.egt_table.specs.Prelude.{ℕ, List, subst, sym, ◌∙◌, arith, Consumes, take_all}
+use Rattle.std.proofs.Common.{ℕ, List, subst, sym, ◌∙◌, arith}
+use Rattle.egt_table.specs.Prelude.{Consumes, take_all}
 use Rattle.egt_table.proofs.Entries.{entries_read}
 use Rattle.egt_table.proofs.reading.read_piece.Goals as goal
 

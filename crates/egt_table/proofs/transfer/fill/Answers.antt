@@ -1,4 +1,5 @@
-use Rattle.egt_table.specs.Prelude.{◌∙◌, arith, length-append, ℕ, length-take-le}
+use Rattle.std.proofs.Common.{◌∙◌, arith, length-append, ℕ}
+use Rattle.egt_table.specs.Prelude.{length-take-le}
 use Rattle.egt_table.proofs.Known.{consumes_more, take_across}
 use Rattle.egt_table.proofs.transfer.fill.Goals as goal
 

@@ -1,4 +1,5 @@
-use Rattle.egt_table.specs.Prelude.{length, ℕ, ◌<◌, get_or, ◌-◌, ◌≡◌, ◌≤◌, take, Consumes}
+use Rattle.std.specs.Prelude.{length, ℕ, ◌<◌, get_or, ◌-◌, ◌≡◌, ◌≤◌, take}
+use Rattle.egt_table.specs.Prelude.{Consumes}
 use Rattle.egt_table.proofs.transfer.fill.Given as goal
 
 abbrev pub invariant-loop-got : goal.invariant-loop-got

@@ -1,5 +1,5 @@
-use Rattle.egt_table.specs.Prelude.{◌≡◌, ◌++◌, take, drop, sym, ap, ◌∙◌, append_assoc, refl, List, ℕ, take-append-drop}
-use Rattle.egt_table.specs.Prelude.{err_from_is_err_and}
+use Rattle.std.proofs.Common.{◌≡◌, ◌++◌, take, drop, sym, ap, ◌∙◌, append_assoc, refl, List, ℕ}
+use Rattle.egt_table.specs.Prelude.{take-append-drop, err_from_is_err_and}
 use Rattle.egt_table.proofs.Known.{appends_more, front_kept}
 use Rattle.egt_table.proofs.transfer.push_all.Goals as goal
 

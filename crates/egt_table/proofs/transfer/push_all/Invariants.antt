@@ -1,4 +1,5 @@
-use Rattle.egt_table.specs.Prelude.{◌≡◌, ◌++◌, List, ℕ, length, Appends}
+use Rattle.std.specs.Prelude.{◌≡◌, ◌++◌, List, ℕ, length}
+use Rattle.egt_table.specs.Prelude.{Appends}
 use Rattle.egt_table.proofs.transfer.push_all.Given as goal
 
 abbrev pub invariant-loop-rest : goal.invariant-loop-rest

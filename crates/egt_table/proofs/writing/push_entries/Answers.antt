@@ -1,4 +1,5 @@
-use Rattle.egt_table.specs.Prelude.{◌++◌, sym, ap, ◌∙◌, append_assoc, List, ℕ, err_from_is_err_and, entries_bytes}
+use Rattle.std.proofs.Common.{◌++◌, sym, ap, ◌∙◌, append_assoc, List, ℕ}
+use Rattle.egt_table.specs.Prelude.{err_from_is_err_and, entries_bytes}
 use Rattle.egt_table.proofs.Known.{appends_more, front_more}
 use Rattle.egt_table.proofs.Entries.{entries_more, entries_split}
 use Rattle.egt_table.proofs.writing.push_entries.Goals as goal

@@ -1,4 +1,5 @@
-use Rattle.egt_table.specs.Prelude.{◌≡◌, ◌++◌, List, ℕ, length, Appends, entries_bytes}
+use Rattle.std.specs.Prelude.{◌≡◌, ◌++◌, List, ℕ, length}
+use Rattle.egt_table.specs.Prelude.{Appends, entries_bytes}
 use Rattle.egt_table.proofs.writing.push_entries.Given as goal
 
 abbrev pub invariant-loop-rest : goal.invariant-loop-rest

@@ -1,5 +1,6 @@
-use Rattle.egt_unmoves.specs.Prelude.{◌≡◌, refl, subst, settled_form, AreImages, Setup, IsAdmissible, SettlesTo}
-use Rattle.egt_unmoves.specs.Prelude.{KeepsPlay, IsTurnedBy, IsSetBy, turned_by, turned_move, ComesBy}
+use Rattle.std.proofs.Common.{◌≡◌, refl, subst}
+use Rattle.egt_unmoves.specs.Prelude.{settled_form, AreImages, Setup, IsAdmissible, SettlesTo, KeepsPlay, IsTurnedBy}
+use Rattle.egt_unmoves.specs.Prelude.{IsSetBy, turned_by, turned_move, ComesBy}
 use Rattle.egt_unmoves.proofs.UnmoveImages.{keeps_before, pawn_turned, comes_turned}
 use Rattle.egt_unmoves.proofs.laws.images_have_like_unmoves.Goals as goal
 

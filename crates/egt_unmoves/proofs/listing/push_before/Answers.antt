@@ -1,4 +1,5 @@
-use Rattle.egt_unmoves.specs.Prelude.{arith, ap, Setup}
+use Rattle.std.proofs.Common.{arith, ap}
+use Rattle.egt_unmoves.specs.Prelude.{Setup}
 use Rattle.egt_unmoves.proofs.Pushing.{pushed}
 use Rattle.egt_unmoves.proofs.listing.push_before.Goals as goal
 

@@ -1,5 +1,6 @@
-use Rattle.egt_unmoves.specs.Prelude.{◌≡◌, Some, None, arith, ap, sym, ◌∙◌, refl, inl, inr, subst, false≢true}
-use Rattle.egt_unmoves.specs.Prelude.{other_side, ahead, HasPawnBeside, Placement, IsTarget, men_before, ListsBelow}
+use Rattle.std.proofs.Common.{◌≡◌, Some, None, arith, ap, sym, ◌∙◌, refl, inl, inr, subst}
+use Rattle.egt_unmoves.specs.Prelude.{false≢true, other_side, ahead, HasPawnBeside, Placement, IsTarget, men_before}
+use Rattle.egt_unmoves.specs.Prelude.{ListsBelow}
 use Rattle.std.specs.FinMap as map
 use Rattle.egt_unmoves.proofs.Pushing.{this_one, none_of, no_target, not_pushed, not_ready}
 use Rattle.egt_unmoves.proofs.Quiet.{free_left}

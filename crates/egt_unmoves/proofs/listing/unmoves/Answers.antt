@@ -1,4 +1,5 @@
-use Rattle.egt_unmoves.specs.Prelude.{◌↔◌, arith, sym, ◌∙◌, subst, ap, other_side, IsHeld, Has}
+use Rattle.std.proofs.Common.{◌↔◌, arith, sym, ◌∙◌, subst, ap}
+use Rattle.egt_unmoves.specs.Prelude.{other_side, IsHeld, Has}
 use Rattle.egt_unmoves.proofs.Men.{ListsMen-none, ListsMen-room, ListsMen-before, ListsMen-more, ListsMen-all}
 use Rattle.egt_unmoves.proofs.InOrder.{ListsBelow-all}
 use Rattle.egt_unmoves.proofs.listing.unmoves.Goals as goal

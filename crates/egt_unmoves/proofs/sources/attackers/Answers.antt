@@ -1,4 +1,5 @@
-use Rattle.egt_unmoves.specs.Prelude.{arith, subst, IsFree, Reaches, attacks_back}
+use Rattle.std.proofs.Common.{arith, subst}
+use Rattle.egt_unmoves.specs.Prelude.{IsFree, Reaches, attacks_back}
 use Rattle.egt_unmoves.proofs.sources.attackers.Goals as goal
 
 pub returns-clause-attackers : goal.returns-clause-attackers

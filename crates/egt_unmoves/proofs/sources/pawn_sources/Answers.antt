@@ -1,4 +1,5 @@
-use Rattle.egt_unmoves.specs.Prelude.{◌≡◌, ℕ, ◌<◌, max, arith, inl, inr, subst, sym, bit_at-lt, IsFree, Advances, ahead}
+use Rattle.std.proofs.Common.{◌≡◌, ℕ, ◌<◌, max, arith, inl, inr, subst, sym}
+use Rattle.egt_unmoves.specs.Prelude.{bit_at-lt, IsFree, Advances, ahead}
 use Rattle.std.specs.FinMap as map
 use Rattle.egt_unmoves.proofs.Ways.{Advances-back}
 use Rattle.egt_unmoves.proofs.sources.pawn_sources.Goals as goal

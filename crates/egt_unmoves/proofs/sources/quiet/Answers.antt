@@ -1,5 +1,5 @@
-use Rattle.egt_unmoves.specs.Prelude.{◌≡◌, ◌≢◌, ℕ, ◌-◌, ◌<◌, ◌↔◌, min, arith, ◌∙◌, subst, bit_at-lt, king_of, IsKingOn}
-use Rattle.egt_unmoves.specs.Prelude.{sides_differ}
+use Rattle.std.proofs.Common.{◌≡◌, ◌≢◌, ℕ, ◌-◌, ◌<◌, ◌↔◌, min, arith, ◌∙◌, subst}
+use Rattle.egt_unmoves.specs.Prelude.{bit_at-lt, king_of, IsKingOn, sides_differ}
 use Rattle.egt_unmoves.proofs.Quiet.{quiet_at}
 use Rattle.egt_unmoves.proofs.sources.quiet.Goals as goal
 

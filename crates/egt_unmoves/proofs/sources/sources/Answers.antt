@@ -1,6 +1,6 @@
-use Rattle.egt_unmoves.specs.Prelude.{◌≡◌, ℕ, ◌-◌, ◌<◌, min, arith, sym, ◌∙◌, ap, inl, inr, subst, bit_at, false≢true}
-use Rattle.egt_unmoves.specs.Prelude.{bit_at-lt, SquareSet, IsInCheck, Reaches, Advances, Placement, IsFree, Went}
-use Rattle.egt_unmoves.specs.Prelude.{men_before}
+use Rattle.std.proofs.Common.{◌≡◌, ℕ, ◌-◌, ◌<◌, min, arith, sym, ◌∙◌, ap, inl, inr, subst}
+use Rattle.egt_unmoves.specs.Prelude.{bit_at, false≢true, bit_at-lt, SquareSet, IsInCheck, Reaches, Advances, Placement}
+use Rattle.egt_unmoves.specs.Prelude.{IsFree, Went, men_before}
 use Rattle.std.specs.FinMap as map
 use Rattle.egt_unmoves.proofs.Quiet.{king_left, free_left}
 use Rattle.egt_unmoves.proofs.sources.sources.Goals as goal

@@ -1,4 +1,5 @@
-use Rattle.egt_unmoves.specs.Prelude.{sym, ◌∙◌, false≢true, IsFree}
+use Rattle.std.proofs.Common.{sym, ◌∙◌}
+use Rattle.egt_unmoves.specs.Prelude.{false≢true, IsFree}
 use Rattle.egt_unmoves.proofs.Went.{advances_anyhow, same_target}
 use Rattle.egt_unmoves.proofs.taking_back.advanced.Goals as goal
 

@@ -1,4 +1,5 @@
-use Rattle.egt_unmoves.specs.Prelude.{◌≡◌, Some, rules, sym, ◌∙◌, subst, false≢true, HasPawnBeside, passed}
+use Rattle.std.proofs.Common.{◌≡◌, Some, rules, sym, ◌∙◌, subst}
+use Rattle.egt_unmoves.specs.Prelude.{false≢true, HasPawnBeside, passed}
 use Rattle.egt_unmoves.proofs.Went.{target_stays, target_goes}
 use Rattle.egt_unmoves.proofs.taking_back.target_left.Goals as goal
 

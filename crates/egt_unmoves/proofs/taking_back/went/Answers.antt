@@ -1,4 +1,5 @@
-use Rattle.egt_unmoves.specs.Prelude.{arith, sym, inl, inr, subst, Advances, Placement, IsFree, Went}
+use Rattle.std.proofs.Common.{arith, sym, inl, inr, subst}
+use Rattle.egt_unmoves.specs.Prelude.{Advances, Placement, IsFree, Went}
 use Rattle.egt_unmoves.proofs.taking_back.went.Goals as goal
 
 pub returns-then-is_pawn : goal.returns-then-is_pawn

@@ -1,5 +1,5 @@
-use Rattle.egt_unmoves.specs.Prelude.{◌≡◌, ◌⊎◌, Some, None, sym, ap, ◌∙◌, inl, subst, bit_at, other_side, pawn_of}
-use Rattle.egt_unmoves.specs.Prelude.{ahead, Stands}
+use Rattle.std.proofs.Common.{◌≡◌, ◌⊎◌, Some, None, sym, ap, ◌∙◌, inl, subst}
+use Rattle.egt_unmoves.specs.Prelude.{bit_at, other_side, pawn_of, ahead, Stands}
 use Rattle.egt_unmoves.proofs.FiveMen.{target_found, no_target_before}
 use Rattle.egt_unmoves.proofs.targets.target_before.Goals as goal
 use Rattle.egt_board.proofs.Bits.{not_both}

@@ -1,4 +1,5 @@
-use Rattle.egt_unmoves.specs.Prelude.{◌≡◌, ℕ, pawn_of, Stands, rank_of, Has, advanced_rank}
+use Rattle.std.specs.Prelude.{◌≡◌, ℕ}
+use Rattle.egt_unmoves.specs.Prelude.{pawn_of, Stands, rank_of, Has, advanced_rank}
 use Rattle.egt_unmoves.proofs.targets.target_before.Given as goal
 
 abbrev pub invariant-loop-square : goal.invariant-loop-square

@@ -1,4 +1,5 @@
-use Rattle.egt_board.specs.Prelude.{◌≡◌, arith, bit_at, bit_at-lt, Rides-free}
+use Rattle.std.proofs.Common.{◌≡◌, arith}
+use Rattle.egt_board.specs.Prelude.{bit_at, bit_at-lt, Rides-free}
 use Rattle.egt_board.proofs.Bits.{bit_at-within}
 use Rattle.egt_board.proofs.Sizes.{advances_few}
 use Rattle.egt_board.proofs.board.Board.advances.Goals as goal

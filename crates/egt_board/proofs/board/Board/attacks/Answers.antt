@@ -1,4 +1,5 @@
-use Rattle.egt_board.specs.Prelude.{refl, sym, ◌∙◌, inl, inr, false≢true}
+use Rattle.std.proofs.Common.{refl, sym, ◌∙◌, inl, inr}
+use Rattle.egt_board.specs.Prelude.{false≢true}
 use Rattle.egt_board.proofs.Attacks.{attacked_by}
 use Rattle.egt_board.proofs.board.Board.attacks.Goals as goal
 

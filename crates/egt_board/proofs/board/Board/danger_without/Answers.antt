@@ -1,4 +1,5 @@
-use Rattle.egt_board.specs.Prelude.{◌≡◌, ℕ, refl, bit_at, bit_at-lt, AttacksFrom}
+use Rattle.std.specs.Prelude.{◌≡◌, ℕ, refl}
+use Rattle.egt_board.specs.Prelude.{bit_at, bit_at-lt, AttacksFrom}
 use Rattle.egt_board.proofs.Attacks.{attacked_as, seen_without}
 use Rattle.egt_board.proofs.Sheltering.{any_of_four}
 use Rattle.egt_board.proofs.board.Board.danger_without.Goals as goal

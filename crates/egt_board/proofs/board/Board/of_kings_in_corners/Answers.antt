@@ -1,4 +1,5 @@
-use Rattle.egt_board.specs.Prelude.{◌≡◌, [], ◌∷◌, Some, None, ◌∙◌, subst, sym, White, Black, king_of, Slot, corners}
+use Rattle.std.proofs.Common.{◌≡◌, [], ◌∷◌, Some, None, ◌∙◌, subst, sym}
+use Rattle.egt_board.specs.Prelude.{White, Black, king_of, Slot, corners}
 use Rattle.egt_board.proofs.Slots.{AreShown, shown_corners, placed_of, kept_of}
 use Rattle.egt_board.proofs.board.Board.of_kings_in_corners.Goals as goal
 

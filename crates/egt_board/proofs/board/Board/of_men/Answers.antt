@@ -1,4 +1,5 @@
-use Rattle.egt_board.specs.Prelude.{arith, sym, ◌∙◌, false≢true}
+use Rattle.std.proofs.Common.{arith, sym, ◌∙◌}
+use Rattle.egt_board.specs.Prelude.{false≢true}
 use Rattle.egt_board.proofs.Lists.{Laid-none, Laid-more, Laid-twice, Laid-room}
 use Rattle.egt_board.proofs.Positions.{some_of, none_of}
 use Rattle.egt_board.proofs.board.Board.of_men.Goals as goal

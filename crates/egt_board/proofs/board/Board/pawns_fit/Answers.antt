@@ -1,4 +1,5 @@
-use Rattle.egt_board.specs.Prelude.{◌≡◌, rules, sym, ◌∙◌, inl, inr, refl, Some, subst, arith, bit_at-lt, Man, MayStand}
+use Rattle.std.proofs.Common.{◌≡◌, rules, sym, ◌∙◌, inl, inr, refl, Some, subst, arith}
+use Rattle.egt_board.specs.Prelude.{bit_at-lt, Man, MayStand}
 use Rattle.egt_board.proofs.Pawns.{FitSoFar-init, FitSoFar-less}
 use Rattle.egt_board.proofs.board.Board.pawns_fit.Goals as goal
 

@@ -1,4 +1,4 @@
-use Rattle.egt_board.specs.Prelude.{◌≡◌, ℕ, ◌-◌, ◌≤◌, Bool, true, false, cond, arith, refl, sym, ap, ◌∙◌, inl, inr}
+use Rattle.std.proofs.Common.{◌≡◌, ℕ, ◌-◌, ◌≤◌, Bool, true, false, cond, arith, refl, sym, ap, ◌∙◌, inl, inr}
 use Rattle.egt_board.specs.Prelude.{nat_cmp_total, cases_eq, Man, Placement, same_men, get-insert_same}
 use Rattle.egt_board.specs.Prelude.{get-insert_other, get-remove_same, get-remove_other}
 use Rattle.std.specs.FinMap as map

@@ -1,4 +1,5 @@
-use Rattle.egt_board.specs.Prelude.{arith, Reaches-on_board, Reaches-free}
+use Rattle.std.proofs.Common.{arith}
+use Rattle.egt_board.specs.Prelude.{Reaches-on_board, Reaches-free}
 use Rattle.egt_board.proofs.Bits.{bit_at-within}
 use Rattle.egt_board.proofs.board.Board.reach_past.Goals as goal
 

@@ -1,4 +1,5 @@
-use Rattle.egt_board.specs.Prelude.{refl, bit_at-lt, StopsSlot}
+use Rattle.std.specs.Prelude.{refl}
+use Rattle.egt_board.specs.Prelude.{bit_at-lt, StopsSlot}
 use Rattle.egt_board.proofs.Sheltering.{all_of_four, kept_as}
 use Rattle.egt_board.proofs.board.Board.shelter_among.Goals as goal
 

@@ -1,6 +1,7 @@
-use Rattle.egt_board.specs.Prelude.{◌≡◌, ℕ, ◌<◌, ◌/◌, ◌%◌, Bool, true, false, Option, Some, None, refl, ap, ◌∙◌, subst}
-use Rattle.egt_board.specs.Prelude.{inl, inr, arith, ◌==◌, option_map, Mirror, Files, Ranks, Diagonal, Setup}
-use Rattle.egt_board.specs.Prelude.{square_by-within, IsCarried, IsTurned, square_if, square_of, eqb-true}
+use Rattle.std.proofs.Common.{◌≡◌, ℕ, ◌<◌, ◌/◌, ◌%◌, Bool, true, false, Option, Some, None, refl, ap, ◌∙◌, subst, inl}
+use Rattle.std.proofs.Common.{inr, arith, ◌==◌}
+use Rattle.egt_board.specs.Prelude.{option_map, Mirror, Files, Ranks, Diagonal, Setup, square_by-within, IsCarried}
+use Rattle.egt_board.specs.Prelude.{IsTurned, square_if, square_of, eqb-true}
 use Rattle.egt_board.proofs.position.Position.image.Goals as goal
 
 pub turned-by_ranks-requires-clause-allowed : goal.turned-by_ranks-requires-clause-allowed

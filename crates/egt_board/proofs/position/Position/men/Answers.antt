@@ -1,4 +1,5 @@
-use Rattle.egt_board.specs.Prelude.{rules, sym, ap, ◌∙◌, map, lit<, bit_at-lt, Setup, man_entry}
+use Rattle.std.proofs.Common.{rules, sym, ap, ◌∙◌, map, lit<}
+use Rattle.egt_board.specs.Prelude.{bit_at-lt, Setup, man_entry}
 use Rattle.std.specs.FinMap as placement
 use Rattle.egt_board.proofs.Gather.{Gathered-none, Gathered-more, Gathered-all, next_stands, next_room}
 use Rattle.egt_board.proofs.position.Position.men.Goals as goal

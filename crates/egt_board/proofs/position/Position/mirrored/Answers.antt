@@ -1,4 +1,5 @@
-use Rattle.egt_board.specs.Prelude.{ap, ◌∙◌, option_map, square_by}
+use Rattle.std.proofs.Common.{ap, ◌∙◌}
+use Rattle.egt_board.specs.Prelude.{option_map, square_by}
 use Rattle.egt_board.proofs.Turning.{admissible_by}
 use Rattle.egt_board.proofs.position.Position.mirrored.Goals as goal
 

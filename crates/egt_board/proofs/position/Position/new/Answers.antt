@@ -1,5 +1,6 @@
-use Rattle.egt_board.specs.Prelude.{◌≡◌, ◌≤◌, arith, rules, sym, ap, ◌∙◌, inl, inr, subst, refl, ℕ, List, false≢true}
-use Rattle.egt_board.specs.Prelude.{White, Black, Man, other_side, Placement, IsAdmissible, IsKingOn, men_of, FitsBoard}
+use Rattle.std.proofs.Common.{◌≡◌, ◌≤◌, arith, rules, sym, ap, ◌∙◌, inl, inr, subst, refl, ℕ, List}
+use Rattle.egt_board.specs.Prelude.{false≢true, White, Black, Man, other_side, Placement, IsAdmissible, IsKingOn}
+use Rattle.egt_board.specs.Prelude.{men_of, FitsBoard}
 use Rattle.std.specs.FinMap as map
 use Rattle.egt_board.proofs.Lists.{len-men_of}
 use Rattle.egt_board.proofs.Positions.{waiting_king, fits_some, fits_none}

@@ -1,4 +1,5 @@
-use Rattle.egt_board.specs.Prelude.{inr, sym, ◌∙◌, false≢true}
+use Rattle.std.proofs.Common.{inr, sym, ◌∙◌}
+use Rattle.egt_board.specs.Prelude.{false≢true}
 use Rattle.egt_board.proofs.position.Position.settle.Goals as goal
 
 pub returns-else-is_settled : goal.returns-else-is_settled

@@ -1,4 +1,5 @@
-use Rattle.egt_board.specs.Prelude.{arith, bit_at_and}
+use Rattle.std.proofs.Common.{arith}
+use Rattle.egt_board.specs.Prelude.{bit_at_and}
 use Rattle.egt_board.proofs.Sizes.{size_of-le}
 use Rattle.egt_board.proofs.square_set.SquareSet.common.Goals as goal
 

@@ -1,4 +1,5 @@
-use Rattle.egt_board.specs.Prelude.{ap, ◌∙◌, sym, bit_at, eqb-true, eq-eqb, bit_at-zero, same_from_bits}
+use Rattle.std.proofs.Common.{ap, ◌∙◌, sym}
+use Rattle.egt_board.specs.Prelude.{bit_at, eqb-true, eq-eqb, bit_at-zero, same_from_bits}
 use Rattle.egt_board.proofs.square_set.SquareSet.is_empty.Goals as goal
 
 pub returns : goal.returns

@@ -1,4 +1,5 @@
-use Rattle.egt_board.specs.Prelude.{arith, w64, bit_at_clear_same}
+use Rattle.std.proofs.Common.{arith, w64}
+use Rattle.egt_board.specs.Prelude.{bit_at_clear_same}
 use Rattle.egt_board.proofs.Bits.{clear-lt, bit_at_cleared_other}
 use Rattle.egt_board.proofs.square_set.SquareSet.less.Goals as goal
 

@@ -1,4 +1,5 @@
-use Rattle.egt_board.specs.Prelude.{arith, w64, bit_at_set_same, bit_at_set_other}
+use Rattle.std.proofs.Common.{arith, w64}
+use Rattle.egt_board.specs.Prelude.{bit_at_set_same, bit_at_set_other}
 use Rattle.egt_board.proofs.square_set.SquareSet.with.Goals as goal
 
 pub returns-clause-same : goal.returns-clause-same

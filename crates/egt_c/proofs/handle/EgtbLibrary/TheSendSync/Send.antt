@@ -1,5 +1,6 @@
 -- A handle may go to another thread, as the library that it owns may.
-use Rattle.egt_c.specs.Prelude.{Bool, true, false, Shared, shared_row}
+use Rattle.std.specs.Prelude.{Bool, true, false}
+use Rattle.egt_c.specs.Prelude.{Shared, shared_row}
 use Rattle.egt_c.specs.contracts.handle.EgtbLibrary.{the_row, the_type}
 use mir.Raw.{raw}
 use base.Shift.{Keyless}

@@ -1,5 +1,6 @@
 -- `closed` makes a handle that owns nothing.
-use Rattle.egt_c.specs.Prelude.{◌≡◌, [], ◌∷◌, refl, None, owned, Shared}
+use Rattle.std.specs.Prelude.{◌≡◌, [], ◌∷◌, refl, None}
+use Rattle.egt_c.specs.Prelude.{owned, Shared}
 use Rattle.std.proofs.raw_atomic.Walks.{proved_at, leaves}
 use mathlib.Core.Bool.{false}
 use mir.Val.{Val, vbool}

@@ -1,13 +1,12 @@
 -- `into_loose` gives the pointer and what it owns, where the handle is open.
-use Rattle.egt_c.specs.Prelude.{◌≡◌, List, [], ◌∷◌, ◌++◌, refl, sym, ap, subst, lit<, ◌∙◌}
+use Rattle.std.proofs.Common.{◌≡◌, List, [], ◌∷◌, ◌++◌, refl, sym, ap, subst, lit<, ◌∙◌, Option, Some, None, option_map}
+use Rattle.egt_c.specs.Prelude.{arc_value, Places, if_open}
 use Rattle.std.proofs.alloc.Calls.{Goes-blank, handle_tells}
-use Rattle.egt_c.specs.Prelude.{Option, Some, None}
 use Rattle.std.proofs.alloc.Shapes.{after}
 use Rattle.std.proofs.cell.Inside.{Good}
 use Rattle.std.proofs.option.Made.{Some-of, none_of}
 use Rattle.std.proofs.ResultValues.{and_tt}
 use Rattle.std.proofs.raw_atomic.Walks.{proved_at, leaves}
-use Rattle.egt_c.specs.Prelude.{option_map, arc_value, Places, if_open}
 use Rattle.std.specs.contracts.impls.GlobalAllocator.TheImpl.{ghosts}
 use mathlib.Core.Bool.{Bool, true, false}
 use mir.Val.{Val, vptr, vbool, vcons, vnil}

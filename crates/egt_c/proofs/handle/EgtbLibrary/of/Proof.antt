@@ -1,9 +1,9 @@
 -- `of` keeps the pointer and what it owns.
-use Rattle.egt_c.specs.Prelude.{◌≡◌, List, [], ◌∷◌, ◌++◌, refl, sym, subst, Some}
+use Rattle.std.proofs.Common.{◌≡◌, List, [], ◌∷◌, ◌++◌, refl, sym, subst, Some}
+use Rattle.egt_c.specs.Prelude.{arc_value, owned}
 use Rattle.std.proofs.alloc.Calls.{Goes-blank}
 use Rattle.std.proofs.raw_atomic.Walks.{proved_at, leaves}
 use Rattle.std.specs.contracts.impls.GlobalAllocator.TheImpl.{ghosts}
-use Rattle.egt_c.specs.Prelude.{arc_value, owned}
 use mathlib.Core.Bool.{true}
 use mir.Val.{Val, vptr, vbool}
 use base.Logic.{SProp, ent, emp, id⊢}

@@ -1,10 +1,9 @@
 -- `owner` lends the owner of an open handle, and leaves a closed one as it is. Assumes `Logic`.
-use Rattle.egt_c.specs.Prelude.{◌≡◌, List, [], ◌∷◌, ◌++◌, refl, sym, ap, subst, lit<}
+use Rattle.std.proofs.Common.{◌≡◌, List, [], ◌∷◌, ◌++◌, refl, sym, ap, subst, lit<, Option, Some, None, option_map}
+use Rattle.egt_c.specs.Prelude.{arc_value, Places, if_open, with_library, owned}
 use Rattle.std.proofs.alloc.Shapes.{after}
 use Rattle.std.proofs.option.Made.{Some-of, none_of}
-use Rattle.egt_c.specs.Prelude.{Option, Some, None, option_map, arc_value, Places, if_open}
 use Rattle.std.proofs.raw_atomic.Walks.{proved_at, leaves}
-use Rattle.egt_c.specs.Prelude.{with_library, owned}
 use mathlib.Core.Bool.{Bool, false}
 use mir.Val.{Val, vptr, vbool, vcons, vnil}
 use base.Fraction.{full_share}

@@ -1,5 +1,5 @@
 -- `into_box` makes the box again.
-use Rattle.egt_c.specs.Prelude.{◌≡◌, List, [], ◌∷◌, ◌++◌, refl, sym, ap, subst}
+use Rattle.std.proofs.Common.{◌≡◌, List, [], ◌∷◌, ◌++◌, refl, sym, ap, subst}
 use Rattle.std.proofs.alloc.Calls.{Goes-blank}
 use Rattle.std.proofs.alloc.Shapes.{after}
 use Rattle.std.proofs.cell.Inside.{Good}

@@ -1,5 +1,6 @@
 -- `of` takes the box apart.
-use Rattle.egt_c.specs.Prelude.{◌≡◌, List, [], ◌∷◌, ◌++◌, refl, sym, ap, ◌∙◌, subst, box_owns}
+use Rattle.std.proofs.Common.{◌≡◌, List, [], ◌∷◌, ◌++◌, refl, sym, ap, ◌∙◌, subst}
+use Rattle.egt_c.specs.Prelude.{box_owns}
 use Rattle.std.proofs.alloc.Calls.{Goes-blank, handle_tells}
 use Rattle.std.proofs.BoxSteps.Steps.{box_out, box_in}
 use Rattle.std.proofs.raw_atomic.Walks.{proved_at, leaves}

@@ -1,4 +1,5 @@
-use Rattle.egt_c.specs.Prelude.{ℕ, ◌+◌, ap, ◌∙◌, length-set, written}
+use Rattle.std.proofs.Common.{ℕ, ◌+◌, ap, ◌∙◌, length-set}
+use Rattle.egt_c.specs.Prelude.{written}
 use Rattle.egt_c.proofs.Listed.{one_more}
 use Rattle.egt_c.proofs.moves.EgtbMoves.of.Goals as goal
 

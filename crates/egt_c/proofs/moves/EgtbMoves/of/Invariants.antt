@@ -1,4 +1,5 @@
-use Rattle.egt_c.specs.Prelude.{◌≡◌, length, map, take, written}
+use Rattle.std.specs.Prelude.{◌≡◌, length, map, take}
+use Rattle.egt_c.specs.Prelude.{written}
 use Rattle.egt_c.proofs.moves.EgtbMoves.of.Given as goal
 
 abbrev pub invariant-loop-chess_move : goal.invariant-loop-chess_move

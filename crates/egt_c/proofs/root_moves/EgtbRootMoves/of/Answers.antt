@@ -1,4 +1,5 @@
-use Rattle.egt_c.specs.Prelude.{ℕ, ◌+◌, ap, ◌∙◌, length-set, shown_root}
+use Rattle.std.proofs.Common.{ℕ, ◌+◌, ap, ◌∙◌, length-set}
+use Rattle.egt_c.specs.Prelude.{shown_root}
 use Rattle.egt_c.proofs.Listed.{one_more}
 use Rattle.egt_c.proofs.root_moves.EgtbRootMoves.of.Goals as goal
 

@@ -1,4 +1,5 @@
-use Rattle.egt_c.specs.Prelude.{◌≡◌, length, map, take, shown_root}
+use Rattle.std.specs.Prelude.{◌≡◌, length, map, take}
+use Rattle.egt_c.specs.Prelude.{shown_root}
 use Rattle.egt_c.proofs.root_moves.EgtbRootMoves.of.Given as goal
 
 abbrev pub invariant-loop-root_move : goal.invariant-loop-root_move

@@ -1,4 +1,5 @@
-use Rattle.egt_check.specs.Prelude.{◌≡◌, ◌∙◌, None, Some, ap, sym, subst, TableValue, AreFound, table_told, CodeScores}
+use Rattle.std.proofs.Common.{◌≡◌, ◌∙◌, None, Some, ap, sym, subst}
+use Rattle.egt_check.specs.Prelude.{TableValue, AreFound, table_told, CodeScores}
 use Rattle.egt_table.specs.declared.column.Column.TheVariants as columns
 use Rattle.egt_check.proofs.FoundTold.{same_value, some_told}
 use Rattle.egt_check.proofs.found.Found.into_table.Goals.{in-Some, in-None}

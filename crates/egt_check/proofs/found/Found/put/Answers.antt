@@ -1,4 +1,5 @@
-use Rattle.egt_check.specs.Prelude.{true, AreFound, table_told, IsPut, Inside}
+use Rattle.std.specs.Prelude.{true}
+use Rattle.egt_check.specs.Prelude.{AreFound, table_told, IsPut, Inside}
 use Rattle.egt_check.proofs.FoundPut.{IsRowPut, near_put, values_put}
 use Rattle.egt_check.proofs.found.Found.put.Goals.{in-Values-Some, in-Reach-None}
 use Rattle.egt_check.proofs.found.Found.put.Goals as goal

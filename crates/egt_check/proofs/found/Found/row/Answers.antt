@@ -1,6 +1,6 @@
-use Rattle.egt_check.specs.Prelude.{◌≡◌, ◌∙◌, ◌<◌, ℕ, List, None, Some, ap, sym, subst, slice_index, IsShelfOf}
-use Rattle.egt_check.specs.Prelude.{stand_with, TellsMen, IsRaised, TableValue, Column, column_score, AreFound}
-use Rattle.egt_check.specs.Prelude.{table_told, CodeScores}
+use Rattle.std.proofs.Common.{◌≡◌, ◌∙◌, ◌<◌, ℕ, List, None, Some, ap, sym, subst, slice_index}
+use Rattle.egt_check.specs.Prelude.{IsShelfOf, stand_with, TellsMen, IsRaised, TableValue, Column, column_score}
+use Rattle.egt_check.specs.Prelude.{AreFound, table_told, CodeScores}
 use Rattle.egt_table.specs.declared.column.Column.TheVariants as columns
 use Rattle.egt_check.proofs.FoundTold.{mate_score, near_score, rows_read, zeroing_score}
 use Rattle.egt_check.proofs.found.Found.row.Goals.{in-Some, in-Mate, in-Zeroing, in-Reach, in-None, in-Mate-column, in-Zeroing-column, in-Reach-column}

@@ -1,5 +1,5 @@
-use Rattle.egt_check.specs.Prelude.{rules, ◌≡◌, ℕ, Some, None, refl, sym, subst, ◌∙◌, set, IsLibrary, IsAccepted}
-use Rattle.egt_check.specs.Prelude.{table_at, beside}
+use Rattle.std.proofs.Common.{rules, ◌≡◌, ℕ, Some, None, refl, sym, subst, ◌∙◌, set}
+use Rattle.egt_check.specs.Prelude.{IsLibrary, IsAccepted, table_at, beside}
 use Rattle.egt_check.proofs.Finding.{beside_own}
 use Rattle.egt_check.proofs.Shelving.{down_beside, true_children, one_more, turned_away}
 use Rattle.egt_check.proofs.library.Library.admit.Goals as goal

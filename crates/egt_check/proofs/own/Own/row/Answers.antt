@@ -1,4 +1,5 @@
-use Rattle.egt_check.specs.Prelude.{◌∙◌, ap, sym, subst, IsShelfOf, TableValue, entries_seen}
+use Rattle.std.proofs.Common.{◌∙◌, ap, sym, subst}
+use Rattle.egt_check.specs.Prelude.{IsShelfOf, TableValue, entries_seen}
 use Rattle.egt_check.proofs.own.Own.row.Goals as goal
 
 pub row_of-requires-clause-shelf : goal.row_of-requires-clause-shelf

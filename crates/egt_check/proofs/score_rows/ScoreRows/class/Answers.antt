@@ -1,4 +1,5 @@
-use Rattle.egt_check.specs.Prelude.{◌≡◌, length, subst, kind_less, size_of, CodeScores}
+use Rattle.std.proofs.Common.{◌≡◌, length, subst}
+use Rattle.egt_check.specs.Prelude.{kind_less, size_of, CodeScores}
 use Rattle.egt_check.proofs.ScoreRowsRead.{scores_long}
 use Rattle.egt_check.proofs.score_rows.ScoreRows.class.Goals as goal
 

@@ -1,4 +1,4 @@
-use Rattle.egt_check.specs.Prelude.{◌≡◌, ◌<◌, ◌∙◌, ◌+◌, ◌*◌, ℕ, ap, arith, refl, sym, subst, slice_index}
+use Rattle.std.proofs.Common.{◌≡◌, ◌<◌, ◌∙◌, ◌+◌, ◌*◌, ℕ, ap, arith, refl, sym, subst, slice_index}
 use Rattle.egt_check.specs.Prelude.{White, Black, IsVoid, code_of, places, AreIndexed, IsShelf, number_in, CodeScores}
 use Rattle.egt_check.proofs.ScoresDrawn.{IsDrawnFrom, both_drawn, by_side, drawn_from, drawn_side, still_128, still_few, still_void}
 use Rattle.egt_check.proofs.score_rows.ScoreRows.draw_shelf.Goals as goal

@@ -1,5 +1,5 @@
-use Rattle.egt_check.specs.Prelude.{◌≡◌, ◌∙◌, ◌<◌, ◌*◌, ◌/◌, ℕ, arith, below_more, subst, Side, IsVoid}
-use Rattle.egt_check.specs.Prelude.{code_of, places, number_in, CodeScores, IsDrawnIndex}
+use Rattle.std.proofs.Common.{◌≡◌, ◌∙◌, ◌<◌, ◌*◌, ◌/◌, ℕ, arith, below_more, subst}
+use Rattle.egt_check.specs.Prelude.{Side, IsVoid, code_of, places, number_in, CodeScores, IsDrawnIndex}
 use Rattle.egt_check.proofs.ScoreRowsRead.{whole_class}
 use Rattle.egt_check.proofs.ScoresDrawn.{of_code}
 use Rattle.egt_check.proofs.score_rows.ScoreRows.drawn.Goals as goal

@@ -1,5 +1,5 @@
-use Rattle.egt_check.specs.Prelude.{◌≡◌, ℕ, ◌<◌, Side, code_of, places, number_in, AreDrawnOrNone, HasNoVoidScore}
-use Rattle.egt_check.specs.Prelude.{IsDrawnIndex}
+use Rattle.std.specs.Prelude.{◌≡◌, ℕ, ◌<◌}
+use Rattle.egt_check.specs.Prelude.{Side, code_of, places, number_in, AreDrawnOrNone, HasNoVoidScore, IsDrawnIndex}
 use Rattle.egt_check.proofs.score_rows.ScoreRows.drawn.Given as goal
 
 -- the indexes of the shelves so far are drawn

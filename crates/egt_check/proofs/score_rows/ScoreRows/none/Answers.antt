@@ -1,5 +1,5 @@
-use Rattle.egt_check.specs.Prelude.{◌∙◌, ◌<◌, ◌*◌, ◌/◌, List, ℕ, [], ap, subst, arith}
-use Rattle.egt_check.specs.Prelude.{slice_index, slice_index_or, div-le_self, kind_less, scores_in}
+use Rattle.std.proofs.Common.{◌∙◌, ◌<◌, ◌*◌, ◌/◌, List, ℕ, [], ap, subst, arith, slice_index, slice_index_or}
+use Rattle.egt_check.specs.Prelude.{div-le_self, kind_less, scores_in}
 use Rattle.egt_check.proofs.ScoreRowsRead.{no_score, no_scores, one_last, whole_class}
 use Rattle.egt_check.proofs.score_rows.ScoreRows.none.Goals as goal
 

@@ -1,6 +1,7 @@
-use Rattle.egt_check.specs.Prelude.{◌≡◌, ◌⊎◌, ◌∙◌, ◌*◌, ◌+◌, ◌<◌, [], ap, arith, length, sym, subst}
-use Rattle.egt_check.specs.Prelude.{slice_index, slice_set, slice_index_or, get_or_default, side_number, code_of}
-use Rattle.egt_check.specs.Prelude.{kind_less, IsShelf, IsWithin, number_in, size_of, CodeScores, IsLaneIn, scores_in}
+use Rattle.std.proofs.Common.{◌≡◌, ◌⊎◌, ◌∙◌, ◌*◌, ◌+◌, ◌<◌, [], ap, arith, length, sym, subst, slice_index, slice_set}
+use Rattle.std.proofs.Common.{slice_index_or}
+use Rattle.egt_check.specs.Prelude.{get_or_default, side_number, code_of, kind_less, IsShelf, IsWithin, number_in}
+use Rattle.egt_check.specs.Prelude.{size_of, CodeScores, IsLaneIn, scores_in}
 use Rattle.egt_check.proofs.ScoreRowsRead.{put_lanes, put_others, scores_long}
 use Rattle.egt_check.proofs.score_rows.ScoreRows.put.Goals as goal
 

@@ -1,6 +1,7 @@
-use Rattle.egt_check.specs.Prelude.{◌≡◌, ◌<◌, ◌∙◌, ◌*◌, ◌+◌, [], List, ℕ, ap, arith, length, sym, subst, slice_index}
-use Rattle.egt_check.specs.Prelude.{slice_index_or, get_or_default, side_number, kind_less, IsShelf, IsWithin}
-use Rattle.egt_check.specs.Prelude.{IsShelfRow, CodeScores, scores_in}
+use Rattle.std.proofs.Common.{◌≡◌, ◌<◌, ◌∙◌, ◌*◌, ◌+◌, [], List, ℕ, ap, arith, length, sym, subst, slice_index}
+use Rattle.std.proofs.Common.{slice_index_or}
+use Rattle.egt_check.specs.Prelude.{get_or_default, side_number, kind_less, IsShelf, IsWithin, IsShelfRow, CodeScores}
+use Rattle.egt_check.specs.Prelude.{scores_in}
 use Rattle.egt_check.proofs.ScoreRowsRead.{shelf_read}
 use Rattle.egt_check.proofs.score_rows.ScoreRows.row.Goals as goal
 

@@ -1,4 +1,5 @@
-use Rattle.egt_commands.specs.Prelude.{sym, ap, ◌∙◌, size_of, Mate}
+use Rattle.std.proofs.Common.{sym, ap, ◌∙◌}
+use Rattle.egt_commands.specs.Prelude.{size_of, Mate}
 use Rattle.egt_commands.proofs.statistics.Statistics.of.Goals as goal
 
 pub returns : goal.returns

@@ -1,4 +1,5 @@
-use Rattle.egt_graph.specs.Prelude.{◌≡◌, ◌++◌, ◌∷◌, [], length, ◌∙◌, arith, rules, common_steps}
+use Rattle.std.proofs.Common.{◌≡◌, ◌++◌, ◌∷◌, [], length, ◌∙◌, arith, rules}
+use Rattle.egt_graph.specs.Prelude.{common_steps}
 use Rattle.egt_graph.proofs.Growing.{Targets_more}
 use Rattle.egt_graph.proofs.batch.Batch.new.Goals as goal
 

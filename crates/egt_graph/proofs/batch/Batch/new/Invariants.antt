@@ -1,4 +1,5 @@
-use Rattle.egt_graph.specs.Prelude.{◌≡◌, ◌+◌, length, slice_index, IsTargets}
+use Rattle.std.specs.Prelude.{◌≡◌, ◌+◌, length, slice_index}
+use Rattle.egt_graph.specs.Prelude.{IsTargets}
 use Rattle.egt_graph.proofs.batch.Batch.new.Given as goal
 
 abbrev pub invariant-loop-node : goal.invariant-loop-node

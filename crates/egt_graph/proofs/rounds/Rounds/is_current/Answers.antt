@@ -1,4 +1,5 @@
-use Rattle.egt_graph.specs.Prelude.{◌≡◌, sym, ap₂, ◌∙◌, rules, entry_front, front, Running}
+use Rattle.std.proofs.Common.{◌≡◌, sym, ap₂, ◌∙◌, rules}
+use Rattle.egt_graph.specs.Prelude.{entry_front, front, Running}
 use Rattle.egt_graph.proofs.Running.{running_front}
 use Rattle.egt_graph.proofs.rounds.Rounds.is_current.Goals as goal
 

@@ -1,4 +1,5 @@
-use Rattle.egt_graph.specs.Prelude.{ap, ◌∙◌, IfOk-weaker, entry_front, front-ascends}
+use Rattle.std.proofs.Common.{ap, ◌∙◌}
+use Rattle.egt_graph.specs.Prelude.{IfOk-weaker, entry_front, front-ascends}
 use Rattle.egt_graph.proofs.Blocks.{front_nodes}
 use Rattle.egt_graph.proofs.Running.{running_front, running_listed}
 use Rattle.egt_graph.proofs.rounds.Rounds.listed_nodes.Goals as goal

@@ -1,4 +1,5 @@
-use Rattle.egt_graph.specs.Prelude.{◌≡◌, ◌<◌, ◌^◌, false, replicate, arith, common_steps, blocks_of}
+use Rattle.std.proofs.Common.{◌≡◌, ◌<◌, ◌^◌, false, replicate, arith}
+use Rattle.egt_graph.specs.Prelude.{common_steps, blocks_of}
 use Rattle.egt_graph.proofs.Beginning.{begun_run}
 use Rattle.egt_graph.proofs.rounds.Rounds.new.Goals as goal
 

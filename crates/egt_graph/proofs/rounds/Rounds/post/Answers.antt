@@ -1,4 +1,5 @@
-use Rattle.egt_graph.specs.Prelude.{◌≡◌, length, set, true, ap, ◌∙◌, rules, Running}
+use Rattle.std.proofs.Common.{◌≡◌, length, set, true, ap, ◌∙◌, rules}
+use Rattle.egt_graph.specs.Prelude.{Running}
 use Rattle.egt_graph.proofs.Running.{written, amid_of, posted_run}
 use Rattle.egt_graph.proofs.rounds.Rounds.post.Goals as goal
 

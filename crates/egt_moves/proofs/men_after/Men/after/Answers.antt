@@ -1,4 +1,5 @@
-use Rattle.egt_moves.specs.Prelude.{sym, ap, ◌∙◌, other_side, Setup}
+use Rattle.std.proofs.Common.{sym, ap, ◌∙◌}
+use Rattle.egt_moves.specs.Prelude.{other_side, Setup}
 use Rattle.egt_moves.proofs.MenTold.{men_told}
 use Rattle.egt_moves.proofs.men_after.Men.after.Goals as goal
 

@@ -1,4 +1,5 @@
-use Rattle.egt_table.specs.Prelude.{arith, err_from_is_err_and}
+use Rattle.std.proofs.Common.{arith}
+use Rattle.egt_table.specs.Prelude.{err_from_is_err_and}
 use Rattle.egt_table.proofs.Answers.{columns_answer, header_of_length}
 use Rattle.egt_table.proofs.Versions.{length_of_file}
 use Rattle.egt_table.proofs.table.Table.read.Goals as goal

@@ -1,6 +1,7 @@
-use Rattle.egt_table.specs.Prelude.{◌≡◌, ◌++◌, List, ℕ, ◌<◌, suc, take, drop, length, get_or, refl, sym, ap, ◌∙◌}
-use Rattle.egt_table.specs.Prelude.{append_assoc, arith, flat_map, err_from_is_err_and, header_of, column_bytes}
-use Rattle.egt_table.specs.Prelude.{entries_bytes, version_of, columns_of, Column, Mate}
+use Rattle.std.proofs.Common.{◌≡◌, ◌++◌, List, ℕ, ◌<◌, suc, take, drop, length, get_or, refl, sym, ap, ◌∙◌}
+use Rattle.std.proofs.Common.{append_assoc, arith}
+use Rattle.egt_table.specs.Prelude.{flat_map, err_from_is_err_and, header_of, column_bytes, entries_bytes, version_of}
+use Rattle.egt_table.specs.Prelude.{columns_of, Column, Mate}
 use Rattle.egt_table.proofs.Columns.{pieces_split}
 use Rattle.egt_table.proofs.Known.{appends_more, front_longer, front_more}
 use Rattle.egt_table.proofs.table.Table.write.Goals as goal

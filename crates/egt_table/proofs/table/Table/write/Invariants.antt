@@ -1,4 +1,5 @@
-use Rattle.egt_table.specs.Prelude.{◌≡◌, take, flat_map, Appends, column_bytes, columns_of}
+use Rattle.std.specs.Prelude.{◌≡◌, take}
+use Rattle.egt_table.specs.Prelude.{flat_map, Appends, column_bytes, columns_of}
 use Rattle.egt_table.proofs.table.Table.write.Given as goal
 
 abbrev pub invariant-loop-column : goal.invariant-loop-column

@@ -1,4 +1,5 @@
-use Rattle.egt_unmoves.specs.Prelude.{sym, subst, corners, IsKingOn, White, Black}
+use Rattle.std.proofs.Common.{sym, subst}
+use Rattle.egt_unmoves.specs.Prelude.{corners, IsKingOn, White, Black}
 use Rattle.egt_unmoves.proofs.TwoKings.{corners-admissible, white_there, black_there}
 use Rattle.egt_unmoves.proofs.unmove.UnmoveDefault.default.Goals as goal
 
