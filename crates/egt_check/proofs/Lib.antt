@@ -27,6 +27,7 @@ pub mod RowJudged
 pub mod LaneRight
 pub mod BlankKept
 pub mod PairsJudged
+pub mod RunsKept
 pub mod PartGiven
 pub mod PawnGiven
 pub mod PawnsGiven

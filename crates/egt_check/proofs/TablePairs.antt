@@ -1,9 +1,9 @@
 -- Whole tables of classes with two men beside the kings: what holds at all codes, shelf by shelf, and the tables that moves lead to.
 use Rattle.std.proofs.Common.{◌≡◌, ◌≢◌, ℕ, ◌+◌, ◌-◌, ◌*◌, ◌/◌, ◌%◌, ◌<◌, ◌≤◌, ◌⊎◌, Bool, inl, inr, Some, None, sym, ap}
 use Rattle.std.proofs.Common.{◌∙◌, subst, arith}
-use Rattle.egt_check.specs.Prelude.{ne_eqb, cases_lt, mul-le-mul_right, Setup, turned_man, side_number, Kind, Man, Side}
-use Rattle.egt_check.specs.Prelude.{White, Black, IsOf, AreNonKings, IsLoneMan, code_of, number_of, places, kind_digits}
-use Rattle.egt_check.specs.Prelude.{number_in, size_of, HasColumn, TableValue, Part, column_of, table_in, tables_in}
+use Rattle.egt_check.specs.Prelude.{ne_eqb, cases_lt, Setup, turned_man, side_number, Kind, Man, Side}
+use Rattle.egt_check.specs.Prelude.{White, Black, IsOf, AreNonKings, IsLoneMan, code_of, places, kind_digits}
+use Rattle.egt_check.specs.Prelude.{number_in, HasColumn, TableValue, Part, column_of, table_in, tables_in}
 use Rattle.egt_check.specs.Prelude.{IsShelved, Tables, beside, IsTableOf, HasBytes}
 use Rattle.egt_check.proofs.Finding.{beside_other}
 use Rattle.egt_check.proofs.NearReading.{found_in, is_table_in}
@@ -39,34 +39,13 @@ lane_at kind first many i = elim (digits_are kind) [
   | inr narrow ↦ subst (λ w. first * (2 * w) ≤ i → i < (first + many) * (2 * w) → IsLane w first many i) (sym narrow) (lane_of_48 first many i)
 ]
 
--- what holds at the codes of all numbers from start on and below n
-abbrev pub NumbersKeep : (Right : ℕ → Type 0) (c start n : ℕ) → Type 0
-NumbersKeep Right c start n = (k : ℕ) → start ≤ k → k < n → Right (code_of c k)
-
-pub keeps_pair : (Right : ℕ → Type 0) (c : ℕ) (kind : Kind) (start first many : ℕ) → places c ≡ kind_digits kind → NumbersKeep Right c start (first * (2 * kind_digits kind))
-    → ((x y : ℕ) (side : Side) → x < many → y < kind_digits kind → Right (code_of c (number_in c (first + x) side y))) → NumbersKeep Right c start ((first + many) * (2 * kind_digits kind))
-keeps_pair Right c kind start first many wide kept judged = λ k from k_in. elim (cases_lt k (first * (2 * kind_digits kind))) [
-  | inl before ↦ kept k from before
-  | inr past ↦
-      let lane = lane_at kind first many k past k_in in
-      let is : number_in c (first + lane.x) lane.side lane.y ≡ k = ap (λ w. (first + lane.x) * (2 * w) + side_number lane.side + 2 * lane.y) wide ∙ lane.is in
-      subst (λ n. Right (code_of c n)) is (judged lane.x lane.y lane.side lane.x_in lane.y_in)
-]
-
--- those of the first shelves, and of as many that begin no later than where these end, are one range
-pub keeps_halves : (Right : ℕ → Type 0) (c wide half first : ℕ) → half ≤ first → NumbersKeep Right c 0 (first * wide) → NumbersKeep Right c (half * wide) ((first + half) * wide) → NumbersKeep Right c 0 ((first + half) * wide)
-keeps_halves Right c wide half first meet lower upper = λ k from below. elim (cases_lt k (first * wide)) [
-  | inl before ↦ lower k from before
-  | inr past ↦
-      let met = mul-le-mul_right wide meet in
-      upper k (omega (arith, met, past)) below
-]
-
--- each code is that of its number
-pub keeps_codes : (Right : ℕ → Type 0) (c n : ℕ) → ((i : ℕ) → i < size_of c → code_of c (number_of c i) ≡ i) → ((i : ℕ) → i < size_of c → number_of c i < size_of c) → size_of c ≤ n → NumbersKeep Right c 0 n → (i : ℕ) → i < size_of c → Right i
-keeps_codes Right c n code within all kept i below =
-    let few = within i below in
-    subst Right (code i below) (kept (number_of c i) (omega arith) (omega (arith, few, all)))
+-- what holds at the codes of all digits of these shelves holds at that of each of their numbers
+pub shelves_keep : (Right : ℕ → Type 0) (c : ℕ) (kind : Kind) (first many n i : ℕ) → places c ≡ kind_digits kind → ((x y : ℕ) (side : Side) → x < many → y < kind_digits kind → Right (code_of c (number_in c (first + x) side y)))
+    → first * (2 * kind_digits kind) ≤ n → n < (first + many) * (2 * kind_digits kind) → code_of c n ≡ i → Right i
+shelves_keep Right c kind first many n i wide judged from under is =
+    let lane = lane_at kind first many n from under in
+    let there : number_in c (first + lane.x) lane.side lane.y ≡ n = ap (λ w. (first + lane.x) * (2 * w) + side_number lane.side + 2 * lane.y) wide ∙ lane.is in
+    subst Right is (subst (λ m. Right (code_of c m)) there (judged lane.x lane.y lane.side lane.x_in lane.y_in))
 
 -- the table of a class that a move leads to, beside that of another class
 pub found_beside : (part : Part) (tables : Tables) (t u : TableValue) → u.class ≢ t.class → tables u.class ≡ Some u → HasColumn (column_of part) u → tables_in part (beside tables t) u.class ≡ Some (table_in part u)

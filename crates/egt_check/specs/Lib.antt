@@ -10,6 +10,7 @@ pub mod RightBlock
 pub mod Blank
 pub mod PairOrder
 pub mod Pairs
+pub mod Runs
 pub mod PawnScores
 pub mod Place
 pub mod Parts

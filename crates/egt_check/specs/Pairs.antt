@@ -1,9 +1,10 @@
 -- The shelves of a class with two men beside the kings, by the pairs of squares that the kings stand on.
-use Rattle.std.specs.Prelude.{◌≡◌, ℕ, ◌+◌, ◌*◌, ◌<◌, ◌≤◌}
+use Rattle.std.specs.Prelude.{◌≡◌, ℕ, ◌+◌, ◌*◌, ◌<◌, ◌≤◌, true}
 use Rattle.egt_board.specs.declared.man.Side.{Side}
+use Rattle.egt_class.specs.Material.{material_of}
 use Rattle.egt_index.specs.Numbers.{places}
-use Rattle.egt_index.specs.Scales.{kind_digits}
-use Rattle.egt_index.specs.Size.{size_of}
+use Rattle.egt_index.specs.Scales.{ends_of, kind_digits}
+use Rattle.egt_index.specs.Size.{has_target, size_of}
 use Rattle.egt_index.specs.declared.shelf_codes.ShelfMen.{ShelfMen}
 use Rattle.egt_table.specs.Table.{TableValue}
 use Rattle.egt_entries.specs.Tables.{Tables}
@@ -11,13 +12,15 @@ use Rattle.egt_check.specs.RightBlock.{AreJudged}
 use Rattle.egt_check.specs.declared.pairs.Pairs.{Pairs}
 use Rattle.egt_check.specs.declared.part.Part.{Part}
 
--- each pair has a shelf for each digit of the first man; these shelves, and those `half` further on, hold all codes of the class
+-- each pair has a shelf for each digit of the first man, and as many `half` further on where there are targets; its codes follow one another, and the pairs
+-- have all codes of the class
 pub record ArePairs (c : ℕ) (men : ShelfMen) (pairs : Pairs) : Type 0 where
   pub wide : places c ≡ kind_digits men.last.kind
   pub step : pairs.step ≡ kind_digits men.one.kind
-  pub meet : pairs.half ≤ 64 * pairs.kings * pairs.step
-  pub all : size_of c ≤ (64 * pairs.kings * pairs.step + pairs.half) * (2 * kind_digits men.last.kind)
-  pub few : 64 * pairs.kings < 4294967296
+  pub half : has_target (material_of c) ≡ true → pairs.half ≡ 64 * pairs.kings * pairs.step
+  pub codes : pairs.codes ≡ ends_of (material_of c) * places c * pairs.step
+  pub all : 64 * pairs.kings * pairs.codes ≡ size_of c
+  pub few : pairs.kings ≤ 32
   pub room : 64 * pairs.kings * pairs.step + pairs.half + 64 < 4294967296
 
 -- the part's entries of this pair's shelves, and of those `half` further on, keep the rules with that side to move

@@ -54,6 +54,7 @@ pub use Rattle.egt_check.specs.ReachScores.{AreAllReachScores, AreAllScoresOf, A
 pub use Rattle.egt_check.specs.Reading.{in_range, read, read_shown, shown_once, shown_range}
 pub use Rattle.egt_check.specs.RightBlock.{AreJudged, IsRightLane, KeepsPart}
 pub use Rattle.egt_check.specs.RightRow.{IsRightAt, IsRightAtOf, IsRightEnd, IsRightEndOf, IsRightReachEnd, due_in}
+pub use Rattle.egt_check.specs.Runs.{AreRuns, IsMarked}
 pub use Rattle.egt_check.specs.ScoreRows.{AreDrawnOrNone, CodeScores, HasNoVoidScore, IsDrawnIndex, IsLaneIn, IsMaskOf}
 unfoldable pub use Rattle.egt_check.specs.ScoreRows.{scores_in}
 pub use Rattle.egt_check.specs.Taken.{IsTableAfter, IsTableOf}
@@ -67,6 +68,7 @@ pub use Rattle.egt_check.specs.declared.part.Part.{Part}
 pub use Rattle.egt_check.specs.declared.part.Part.TheVariants.{Reach, Values}
 pub use Rattle.egt_check.specs.declared.pawn_scores.Promotion.{Promotion}
 pub use Rattle.egt_check.specs.declared.pawn_scores.Promotions.{Promotions}
+pub use Rattle.egt_check.specs.declared.runs.Runs.{Runs}
 pub use Rattle.egt_check.specs.declared.successors.Place.{Place}
 unfoldable pub use Rattle.egt_class.specs.Children.{children_of}
 unfoldable pub use Rattle.egt_class.specs.Material.{has_equal_sides, material_of}
@@ -92,8 +94,8 @@ pub use Rattle.egt_entries.specs.Raised.{AreRaised}
 pub use Rattle.egt_entries.specs.Reach.{FitsReachBeside, HasReachEntry, IsReachDue, ShowsReach, ShowsReachOf}
 pub use Rattle.egt_entries.specs.Reach.{reach_entry_of}
 pub use Rattle.egt_entries.specs.ReachJudged.{FindsReach}
-pub use Rattle.egt_entries.specs.Rules.{FitsReach, IsJudged, IsJudgedBy, KeepsBelow, KeepsReach, KeepsReachBelow}
-pub use Rattle.egt_entries.specs.Rules.{KeepsRules}
+pub use Rattle.egt_entries.specs.Rules.{FitsReach, IsJudged, IsJudgedBy, Keeps, KeepsBelow, KeepsReach}
+pub use Rattle.egt_entries.specs.Rules.{KeepsReachBelow, KeepsRules}
 pub use Rattle.egt_entries.specs.Score.{IsAtEnd, IsBest, IsCounted, IsDue, IsDueDraw, IsSaid, IsShownBy, Scores}
 pub use Rattle.egt_entries.specs.Score.{entry_before, greater, number_at, score_of, value_of, zeroing_said}
 pub use Rattle.egt_entries.specs.Steps.{IsInClass, shown_by}
@@ -108,12 +110,12 @@ pub use Rattle.egt_entries.specs.declared.outcome.Outcome.{Outcome}
 pub use Rattle.egt_entries.specs.declared.reject.Reject.{Reject}
 pub use Rattle.egt_entries.specs.declared.reject.Reject.TheVariants.{AlreadyThere, Missing, NoReach, Rejected}
 pub use Rattle.egt_entries.specs.declared.rule.Rule.{Rule}
-pub use Rattle.egt_index.proofs.Halves.{code_plain}
+pub use Rattle.egt_index.proofs.Halves.{code_high, code_low, code_plain, half_twice, of_targets}
 pub use Rattle.egt_index.specs.Code.{Spells}
 pub use Rattle.egt_index.specs.Index.{IsIndex, IsVoid, SettleAlike}
 pub use Rattle.egt_index.specs.LoneCodes.{IsLoneMan, IsLoneRow, lone_stand}
-unfoldable pub use Rattle.egt_index.specs.Numbers.{code_of, number_of, places}
-pub use Rattle.egt_index.specs.Scales.{kind_digits, kind_less}
+unfoldable pub use Rattle.egt_index.specs.Numbers.{code_of, half_of, number_of, places}
+pub use Rattle.egt_index.specs.Scales.{ends_of, kind_digits, kind_less}
 pub use Rattle.egt_index.specs.ShelfCodes.{AreIndexed, AreIndexes, AreMenOf, HasTwoBeside, IsShelf, IsShelfOf, IsWithin}
 pub use Rattle.egt_index.specs.ShelfCodes.{number_in, stand_with}
 pub use Rattle.egt_index.specs.Size.{has_target, men_in_order}

@@ -3,14 +3,15 @@ ghost use Rattle.std.specs.Prelude.{◌≡◌, ◌↔◌, ◌≤◌, IsOk, IfOk,
 ghost use Rattle.egt_check.specs.Prelude.{size_of, Metric, Mate, table_at, beside, HasChildren, HasReachChildren};
 ghost use Rattle.egt_check.specs.Prelude.{IsAccepted, IsRefused, IsFirstBreak, IsFirstLacking, IsFirstMissing};
 ghost use Rattle.egt_check.specs.Prelude.{LacksReach, ReachesDown, KeepsBelow, KeepsReachBelow, earlier, IsFirstBad};
-ghost use Rattle.egt_check.specs.Prelude.{IsFirstBadReach};
+ghost use Rattle.egt_check.specs.Prelude.{IsFirstBadReach, AreRuns, Reach};
 ghost use Rattle.egt_table.specs.declared.column.Column.TheVariants as columns;
 
 use crate::judging::judge;
 use crate::library::Library;
-use crate::reach_blocks::reach_is_right_by_blocks;
+use crate::reach_blocks::reach_runs_by_blocks;
 use crate::reach_judging::judge_reach;
-use crate::table_judging::is_right_by_blocks;
+use crate::runs::{Runs, is_right, runs_or_one};
+use crate::table_judging::runs_by_blocks;
 use egt_class::laws::children_have_smaller_numbers;
 use egt_class::{Class, children};
 use egt_entries::reject::Reject;
@@ -71,25 +72,29 @@ fn earlier(known: Option<(u32, Rule)>, index: u32, rule: Option<Rule>) -> Option
     }
 }
 
-/// Judges the entries from the index `first` on, where all before it keep the rules, of the zeroing column up to the first bad one if there is one.
+/// Judges the entries of the indexes from `first` on and below `end`, where the mate entries before them keep the rules and the first bad zeroing entry there
+/// is known: of the zeroing column up to the first bad one if there is one.
 ///
 /// # Errors
 ///
 /// The first bad entry of the mate column there, and the first rule that it breaks.
-fn judge_from(
+fn judge_run(
     table: &Table,
     library: &Library,
     first: u32,
+    end: u32,
+    known: Option<(u32, Rule)>,
 ) -> Result<Option<(u32, Rule)>, (u32, Rule)>
     requires children { HasChildren (table_at library.now) table.now.class }
-    requires within { first ≤ size_of table.now.class }
-    requires before { (metric : Metric) → KeepsBelow (beside (table_at library.now) table.now) table.now metric first }
-    ensures kept { IfOk result (λ bad. KeepsBelow (beside (table_at library.now) table.now) table.now Mate (size_of table.now.class)) }
-    ensures zeroing { IfOk result (IsFirstBad (beside (table_at library.now) table.now) table.now (size_of table.now.class)) }
+    requires within { (first ≤ end) × (end ≤ size_of table.now.class) }
+    requires mate { KeepsBelow (beside (table_at library.now) table.now) table.now Mate first }
+    requires zeroing { IsFirstBad (beside (table_at library.now) table.now) table.now first known }
+    ensures kept { IfOk result (λ bad. KeepsBelow (beside (table_at library.now) table.now) table.now Mate end) }
+    ensures zeroing { IfOk result (IsFirstBad (beside (table_at library.now) table.now) table.now end) }
     ensures broken { IfErr result (λ bad. IsFirstBreak (beside (table_at library.now) table.now) table.now columns.Mate bad.0 bad.1) }
 {
-    let mut bad = None;
-    for index in first..size(table.class()) {
+    let mut bad = known;
+    for index in first..end {
         let (mate, zeroing) = judge(table, library, index);
         if let Some(rule) = mate {
             return Err((index, rule));
@@ -99,17 +104,24 @@ fn judge_from(
     Ok(bad)
 }
 
-/// Judges all entries: by blocks where that tells that all are right, else one by one.
+/// Judges all entries of these columns, those of each run that blocks do not tell to be right one by one.
 fn judge_table(table: &Table, library: &Library) -> Result<Option<(u32, Rule)>, (u32, Rule)>
     requires { HasChildren (table_at library.now) table.now.class }
     ensures kept { IfOk result (λ bad. KeepsBelow (beside (table_at library.now) table.now) table.now Mate (size_of table.now.class)) }
     ensures zeroing { IfOk result (IsFirstBad (beside (table_at library.now) table.now) table.now (size_of table.now.class)) }
     ensures broken { IfErr result (λ bad. IsFirstBreak (beside (table_at library.now) table.now) table.now columns.Mate bad.0 bad.1) }
 {
-    if is_right_by_blocks(table, library) {
-        return Ok(None);
+    let _size = size(table.class());
+    let runs = runs_or_one(runs_by_blocks(table, library), table.class());
+    let mut bad = None;
+    for run in 0..runs.count {
+        if is_right(&runs, run) {
+            continue;
+        }
+        let first = run * runs.len;
+        bad = judge_run(table, library, first, first + runs.len, bad)?;
     }
-    judge_from(table, library, 0)
+    Ok(bad)
 }
 
 /// Judges every entry of the mate column and of the zeroing column of a table whose class's children have their tables: the mate column to its first
@@ -135,15 +147,18 @@ fn judge_values(table: &Table, library: &Library) -> Result<(), Reject>
     }
 }
 
-/// The first bad entry of the column of the nearest mates and the first rule that it breaks, if there is one.
-fn first_bad_reach(table: &Table, library: &Library) -> Option<(u32, Rule)>
+/// The first bad entry of the column of the nearest mates of the indexes from `first` on and below `end`, where those before
+/// them keep the rules, and the first rule that it breaks, if there is one.
+fn first_bad_reach_in(table: &Table, library: &Library, first: u32, end: u32) -> Option<(u32, Rule)>
     requires there { IsSome table.now.reach }
     requires children { HasChildren (table_at library.now) table.now.class }
     requires reach_children { HasReachChildren (table_at library.now) table.now.class }
+    requires within { (first ≤ end) × (end ≤ size_of table.now.class) }
+    requires before { KeepsReachBelow (beside (table_at library.now) table.now) table.now first }
     ensures some { IfSome result (λ bad. IsFirstBadReach (beside (table_at library.now) table.now) table.now bad.0 bad.1) }
-    ensures none { IfNone result (KeepsReachBelow (beside (table_at library.now) table.now) table.now (size_of table.now.class)) }
+    ensures none { IfNone result (KeepsReachBelow (beside (table_at library.now) table.now) table.now end) }
 {
-    for index in 0..size(table.class()) {
+    for index in first..end {
         if let Some(rule) = judge_reach(table, library, index) {
             return Some((index, rule));
         }
@@ -151,8 +166,29 @@ fn first_bad_reach(table: &Table, library: &Library) -> Option<(u32, Rule)>
     None
 }
 
-/// Judges every entry of the column of the nearest mates, where all others keep the rules: by blocks where that tells that all are right, else one by
-/// one.
+/// The first bad entry of the column of the nearest mates and the first rule that it breaks, if there is one.
+fn first_bad_reach(table: &Table, library: &Library, runs: &Runs) -> Option<(u32, Rule)>
+    requires there { IsSome table.now.reach }
+    requires children { HasChildren (table_at library.now) table.now.class }
+    requires reach_children { HasReachChildren (table_at library.now) table.now.class }
+    requires runs { AreRuns Reach (beside (table_at library.now) table.now) table.now runs.now }
+    ensures some { IfSome result (λ bad. IsFirstBadReach (beside (table_at library.now) table.now) table.now bad.0 bad.1) }
+    ensures none { IfNone result (KeepsReachBelow (beside (table_at library.now) table.now) table.now (size_of table.now.class)) }
+{
+    let _size = size(table.class());
+    for run in 0..runs.count {
+        if is_right(runs, run) {
+            continue;
+        }
+        let first = run * runs.len;
+        if let Some(bad) = first_bad_reach_in(table, library, first, first + runs.len) {
+            return Some(bad);
+        }
+    }
+    None
+}
+
+/// Judges every entry of the column of the nearest mates, where all others keep the rules: those of each run that blocks do not tell to be right one by one.
 fn judge_reaches(table: &Table, library: &Library) -> Result<(), Reject>
     requires there { IsSome table.now.reach }
     requires children { HasChildren (table_at library.now) table.now.class }
@@ -161,10 +197,8 @@ fn judge_reaches(table: &Table, library: &Library) -> Result<(), Reject>
     ensures exact { IsOk result ↔ KeepsReachBelow (beside (table_at library.now) table.now) table.now (size_of table.now.class) }
     ensures reason { IfErr result (IsRefused (table_at library.now) table.now) }
 {
-    if reach_is_right_by_blocks(table, library) {
-        return Ok(());
-    }
-    match first_bad_reach(table, library) {
+    let runs = runs_or_one(reach_runs_by_blocks(table, library), table.class());
+    match first_bad_reach(table, library, &runs) {
         Some((index, rule)) => Err(Reject::Rejected {
             column: Column::Reach,
             index,

@@ -27,6 +27,7 @@ pub mod reach_laws;
 pub mod reach_scores;
 pub mod row_judging;
 pub mod rows;
+pub mod runs;
 pub mod score_rows;
 pub mod successors;
 pub mod table_judging;

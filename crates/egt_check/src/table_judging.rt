@@ -1,21 +1,22 @@
 //! The judgement of a whole table of a class with two men beside the kings, block by block.
-ghost use Rattle.std.specs.Prelude.{◌≡◌, ◌≢◌, ◌+◌, ◌*◌, ◌<◌, ℕ, false, true, Some, None, IfSome};
+ghost use Rattle.std.specs.Prelude.{◌≡◌, ◌≢◌, ◌+◌, ◌*◌, ◌<◌, ◌≤◌, ℕ, false, true, Some, None, IfSome, get_or};
 ghost use Rattle.egt_check.specs.Prelude.{other_side, turned_man, Setup, K, Side, IsOf, AreNonKings, IsLoneMan};
-ghost use Rattle.egt_check.specs.Prelude.{AreMenOf, size_of, ShelfMen, IsOfficer, HasColumn, TableValue, Metric};
+ghost use Rattle.egt_check.specs.Prelude.{AreMenOf, ShelfMen, IsOfficer, HasColumn, TableValue};
 ghost use Rattle.egt_check.specs.Prelude.{with_kings, AreKept, AreChildren, AreFourMen, AreTablesOf, IsOwnTable};
 ghost use Rattle.egt_check.specs.Prelude.{column_of, four_in, promotion_in, promotions_in, table_in, tables_in};
-ghost use Rattle.egt_check.specs.Prelude.{AreJudgedPairs, AreNamed, ArePromotionsOf, HasPromotion, HasPromotions};
-ghost use Rattle.egt_check.specs.Prelude.{IsPromotionOf, AreJudged, KeepsPart, FourMen, KeepsBelow, men_swapped};
-ghost use Rattle.egt_check.specs.Prelude.{Tables, beside, table_at, IsTrueTable, HasBytes, column_score};
+ghost use Rattle.egt_check.specs.Prelude.{AreNamed, ArePromotionsOf, HasPromotion, HasPromotions, AreRuns, IsJudgedPair};
+ghost use Rattle.egt_check.specs.Prelude.{IsPromotionOf, AreJudged, FourMen, men_swapped};
+ghost use Rattle.egt_check.specs.Prelude.{Tables, beside, table_at, IsTrueTable, HasBytes, column_score, Values};
 
 use crate::block_judging::block_is_right;
 use crate::bytes::{tells_bytes, true_table_tells};
 use crate::library::Library;
 use crate::move_scores::{Children, FourMen, beside_own};
 use crate::pair_order::nth_pair;
-use crate::pairs::{Pairs, judged_pairs_hold_all_codes, pairs_of};
+use crate::pairs::{MOST_PAIRS, Pairs, judged_pairs_hold_all_codes, pairs_of};
 use crate::part::{Part, column_of};
 use crate::pawn_scores::{Promotion, Promotions};
+use crate::runs::Runs;
 use egt_blocks::blocks::nothing;
 use egt_blocks::kept_blocks::{BlockKey, NEAR_PLACES, no_keys};
 use egt_blocks::men::{are_equal, men_swapped};
@@ -67,23 +68,25 @@ fn pair_is_right(
     block_is_right(four, &there, part, first, half, side, keys, blocks)
 }
 
-/// Whether all entries of the part with that side to move keep the rules, of all pairs of kings' squares.
-fn side_pairs_are_right(
+/// The pairs of kings' squares of which all entries of the part with that side to move were found to keep the rules.
+fn right_pairs(
     four: &FourMen,
     men: &ShelfMen,
     part: Part,
     pairs: &Pairs,
     side: Side,
-) -> bool
+) -> [bool; MOST_PAIRS]
     requires men { AreFourMen (column_of part) four.now men.now }
-    requires few { 64 * pairs.now.kings < 4294967296 }
+    requires few { pairs.now.kings ≤ 32 }
     requires room { 64 * pairs.now.kings * pairs.now.step + pairs.now.half + 64 < 4294967296 }
-    ensures { result ≡ true → (tables : Tables) → AreTablesOf (tables_in part tables) (four_in part four.now) men.now → AreJudgedPairs part tables four.now.own men.now pairs.now side }
+    ensures { (tables : Tables) → AreTablesOf (tables_in part tables) (four_in part four.now) men.now → (pair : ℕ) → get_or result pair false ≡ true → IsJudgedPair part tables four.now.own men.now pairs.now side pair }
 {
+    let mut right = [false; MOST_PAIRS];
     let mut keys = no_keys();
     let mut blocks = [nothing(); NEAR_PLACES];
     for n in 0..64 * pairs.kings {
-        let first = nth_pair(side, n, pairs.kings) * pairs.step;
+        let pair = nth_pair(side, n, pairs.kings);
+        let first = pair * pairs.step;
         if !pair_is_right(
             four,
             men,
@@ -94,23 +97,29 @@ fn side_pairs_are_right(
             &mut keys,
             &mut blocks,
         ) {
-            return false;
+            // What is kept after a pair that is not right is not known to hold.
+            keys = no_keys();
+            continue;
         }
+        right[pair as usize] = true;
     }
-    true
+    right
 }
 
-/// Whether all entries of the part keep the rules, at all codes of the class.
-pub fn pairs_are_right(four: &FourMen, men: &ShelfMen, part: Part) -> bool
+/// The codes of the class by pairs of kings' squares, and which of these were found right. `None` where its shelves do not
+/// go by them.
+pub(crate) fn right_runs(four: &FourMen, men: &ShelfMen, part: Part) -> Option<Runs>
     requires men { AreFourMen (column_of part) four.now men.now }
-    ensures { result ≡ true → (tables : Tables) → AreTablesOf (tables_in part tables) (four_in part four.now) men.now → (i : ℕ) → i < size_of four.now.own.class → KeepsPart part tables four.now.own i }
+    ensures { (tables : Tables) → AreTablesOf (tables_in part tables) (four_in part four.now) men.now → IfSome result (AreRuns part tables four.now.own) }
 {
     judged_pairs_hold_all_codes();
-    let Some(pairs) = pairs_of(four.own.class(), men) else {
-        return false;
-    };
-    side_pairs_are_right(four, men, part, &pairs, Side::White)
-        && side_pairs_are_right(four, men, part, &pairs, Side::Black)
+    let pairs = pairs_of(four.own.class(), men)?;
+    Some(Runs {
+        len: pairs.codes,
+        count: 64 * pairs.kings,
+        white: right_pairs(four, men, part, &pairs, Side::White),
+        black: right_pairs(four, men, part, &pairs, Side::Black),
+    })
 }
 
 /// Whether this is the table of the class in which the man is left alone beside the kings, in colours exchanged where
@@ -308,19 +317,16 @@ pub(crate) fn four_men<'t>(
     Some(beside_own(table, &children))
 }
 
-/// Whether all entries of the mate column and of the zeroing column keep the rules beside those of the successors, of a
-/// class with two men beside the kings. False of any other, and where a table does not tell it by bytes.
-pub(crate) fn is_right_by_blocks(table: &Table, library: &Library) -> bool
-    ensures { result ≡ true → (metric : Metric) → KeepsBelow (beside (table_at library.now) table.now) table.now metric (size_of table.now.class) }
+/// The codes of a class with two men beside the kings, and of which the entries of the mate column and of the zeroing
+/// column keep the rules beside those of the successors. `None` of any other class, and where a table does not tell it by
+/// bytes.
+pub(crate) fn runs_by_blocks(table: &Table, library: &Library) -> Option<Runs>
+    ensures { IfSome result (AreRuns Values (beside (table_at library.now) table.now) table.now) }
 {
-    let Some(men) = shelf_men(table.class(), 0) else {
-        return false;
-    };
+    let men = shelf_men(table.class(), 0)?;
     if !tells_bytes(table) {
-        return false;
+        return None;
     }
-    let Some(four) = four_men(table, library, &men, Part::Values) else {
-        return false;
-    };
-    pairs_are_right(&four, &men, Part::Values)
+    let four = four_men(table, library, &men, Part::Values)?;
+    right_runs(&four, &men, Part::Values)
 }

@@ -1,9 +1,6 @@
-use Rattle.std.specs.Prelude.{◌≤◌}
-use Rattle.egt_check.specs.Prelude.{size_of, KeepsReachBelow, table_at, beside}
+use Rattle.std.specs.Prelude.{◌*◌}
+use Rattle.egt_check.specs.Prelude.{KeepsReachBelow, table_at, beside}
 use Rattle.egt_check.proofs.checking.first_bad_reach.Given as goal
 
-abbrev pub invariant-loop-index : goal.invariant-loop-index
-invariant-loop-index l = record {
-  within : l.index ≤ size_of l.table.class;
-  reach : KeepsReachBelow (beside (table_at l.library) l.table) l.table l.index;
-}
+abbrev pub invariant-loop-run : goal.invariant-loop-run
+invariant-loop-run l = KeepsReachBelow (beside (table_at l.library) l.table) l.table (l.run * l.runs.len)

@@ -25,7 +25,7 @@ returns c = λ _.
     let pairs = c.in-Some.pairs in
     let own = c.requires.own in
     let past = c.loop-pair-test.false in
-    c.judged_pairs_hold_all_codes.ensures f.part tables t f.men pairs own.is_table.class_in (subst (λ k. ArePairs k f.men pairs) (sym own.class_is) c.in-Some.ensures)
+    c.judged_pairs_hold_all_codes.ensures.all f.part tables t f.men pairs (subst (λ k. ArePairs k f.men pairs) (sym own.class_is) c.in-Some.ensures)
     (λ side pair below.
     subst (λ half. AreJudged f.part tables t f.men (pair * pairs.step) side × AreJudged f.part tables t f.men (pair * pairs.step + half) side) (sym c.if-pairs-filling.false)
     (c.loop-pair.invariant pair side (omega (arith, past, below))))

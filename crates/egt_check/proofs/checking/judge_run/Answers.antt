@@ -1,10 +1,7 @@
-use Rattle.std.proofs.Common.{◌≡◌, ◌+◌, ap, subst, sym, ◌∙◌, arith}
-use Rattle.egt_check.specs.Prelude.{size_of, Mate, Zeroing, IsFirstBad, IsJudged, KeepsBelow, table_at, beside}
-use Rattle.egt_check.specs.Prelude.{keeps_more, first_bad_more}
-use Rattle.egt_check.proofs.checking.judge_from.Goals as goal
-
-pub loop-index-init : goal.loop-index-init
-loop-index-init c = record { within = c.requires.within; mate = c.requires.before Mate; zeroing = c.requires.before Zeroing }
+use Rattle.std.proofs.Common.{◌≡◌, ◌+◌, subst, sym, arith}
+use Rattle.egt_check.specs.Prelude.{Mate, IsFirstBad, IsJudged, KeepsBelow, table_at, beside, keeps_more}
+use Rattle.egt_check.specs.Prelude.{first_bad_more}
+use Rattle.egt_check.proofs.checking.judge_run.Goals as goal
 
 pub loop-index-preserved : goal.loop-index-preserved
 loop-index-preserved c =
@@ -12,10 +9,9 @@ loop-index-preserved c =
     let tables = beside (table_at c.args.library.now) t in
     let n = c.loop-index.index in
     let kept = subst (IsJudged tables t Mate n) c.in_default.is c.judge-mate.ensures.mate in
-    let size_is : c.size-index-end.result ≡ size_of t.class = c.size-index-end.ensures ∙ ap (λ k. size_of k) c.class.ensures.class in
     let below = c.loop-index-test.true in
     record {
-      within = omega (arith, below, size_is);
+      within = omega (arith, below);
       mate = keeps_more tables t Mate n c.loop-index.invariant.mate kept;
       zeroing = subst (IsFirstBad tables t (n + 1)) (sym c.earlier-bad.ensures) (first_bad_more tables t n c.loop-index.bad _ c.loop-index.invariant.zeroing c.judge-mate.ensures.zeroing);
     }
@@ -24,10 +20,9 @@ pub returns : goal.returns
 returns c =
     let t = c.args.table.now in
     let tables = beside (table_at c.args.library.now) t in
-    let size_is : c.size-index-end.result ≡ size_of t.class = c.size-index-end.ensures ∙ ap (λ k. size_of k) c.class.ensures.class in
     let within = c.loop-index.invariant.within in
     let past = c.loop-index-test.false in
-    let end : c.loop-index.index ≡ size_of t.class = omega (arith, size_is, within, past) in record {
+    let end : c.loop-index.index ≡ c.args.end = omega (arith, within, past) in record {
       kept = subst (KeepsBelow tables t Mate) end c.loop-index.invariant.mate;
       zeroing = subst (λ n. IsFirstBad tables t n c.loop-index.bad) end c.loop-index.invariant.zeroing;
       broken = tt;
