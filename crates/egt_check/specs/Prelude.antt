@@ -167,8 +167,7 @@ pub use Rattle.egt_table.specs.Table.{HasColumn, IsTable, TableValue, entries_of
 pub use Rattle.egt_table.specs.declared.column.Column.{Column}
 pub use Rattle.std.proofs.Math.ListN.{get_or-eq_default, get_or-map}
 pub use Rattle.std.proofs.Math.Logic.{⊎_elim, ⊎_map}
-pub use Rattle.std.proofs.Math.Nat.{div-eq_of_lt, div-le_self, mod-eq_of_lt, mul-add-div_right, mul-add-mod_self_right}
-pub use Rattle.std.proofs.Math.Nat.{mul-le-mul_right}
+pub use Rattle.std.proofs.Math.Nat.{div-le_self, mul-le-mul_right}
 pub use Rattle.std.proofs.lemmas.Bool.{and_parts, cases_eq, cases_lt, cond_above, cond_below, eq-eqb, eqb-true}
 pub use Rattle.std.proofs.lemmas.Bool.{false≢true, ne_eqb}
 pub use Rattle.std.proofs.lemmas.Bool.Decides.{eqb_tells, nat_tests}
