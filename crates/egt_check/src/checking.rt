@@ -72,8 +72,8 @@ fn earlier(known: Option<(u32, Rule)>, index: u32, rule: Option<Rule>) -> Option
     }
 }
 
-/// Judges the entries of the indexes from `first` on and below `end`, where the mate entries before them keep the rules and the first bad zeroing entry there
-/// is known: of the zeroing column up to the first bad one if there is one.
+/// Judges the entries of the indexes from `first` on and below `end`, where the mate entries before them keep the rules and
+/// the first bad zeroing entry there is known: of the zeroing column up to the first bad one if there is one.
 ///
 /// # Errors
 ///
@@ -188,7 +188,8 @@ fn first_bad_reach(table: &Table, library: &Library, runs: &Runs) -> Option<(u32
     None
 }
 
-/// Judges every entry of the column of the nearest mates, where all others keep the rules: those of each run that blocks do not tell to be right one by one.
+/// Judges every entry of the column of the nearest mates, where all others keep the rules: those of each run that blocks do
+/// not tell to be right one by one.
 fn judge_reaches(table: &Table, library: &Library) -> Result<(), Reject>
     requires there { IsSome table.now.reach }
     requires children { HasChildren (table_at library.now) table.now.class }

@@ -52,8 +52,8 @@ pub fn pairs_of(class: Class, men: &ShelfMen) -> Option<Pairs>
     })
 }
 
-/// Where the entries with the kings on a pair of squares keep the rules, with either side to move, those at its codes do; and where all pairs' do, those at
-/// all codes. This function does nothing: a caller calls it to know what it ensures.
+/// Where the entries with the kings on a pair of squares keep the rules, with either side to move, those at its codes do;
+/// and where all pairs' do, those at all codes. This function does nothing: a caller calls it to know what it ensures.
 pub fn judged_pairs_hold_all_codes()
     ensures pair { (part : Part) (tables : Tables) (t : TableValue) (men : ShelfMen) (pairs : Pairs) (pair i : ℕ) → ArePairs t.class men pairs →
         ((side : Side) → IsJudgedPair part tables t men pairs side pair) → i < size_of t.class → pair * pairs.codes ≤ i → i < (pair + 1) * pairs.codes → KeepsPart part tables t i }

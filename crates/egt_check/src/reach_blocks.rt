@@ -10,8 +10,8 @@ use crate::table_judging::{four_men, right_runs};
 use egt_index::shelf_men;
 use egt_table::Table;
 
-/// The codes of a class with two men beside the kings, and of which the entries of that column keep the rules beside those of the successors. `None` of any
-/// other class, and where a table does not tell it by bytes.
+/// The codes of a class with two men beside the kings, and of which the entries of that column keep the rules beside those
+/// of the successors. `None` of any other class, and where a table does not tell it by bytes.
 pub(crate) fn reach_runs_by_blocks(table: &Table, library: &Library) -> Option<Runs>
     requires there { IsSome table.now.reach }
     requires values { (metric : Metric) → KeepsBelow (beside (table_at library.now) table.now) table.now metric (size_of table.now.class) }
