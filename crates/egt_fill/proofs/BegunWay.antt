@@ -1,10 +1,11 @@
 -- Before the first look.
 use Rattle.std.proofs.Common.{◌≡◌, ℕ, zero, suc, List, length, replicate, slice_index, refl, arith}
-use Rattle.egt_fill.specs.Prelude.{All, TableValue, AreNumbered, IsItem, IsUnderWay, Filling, Item}
+use Rattle.egt_fill.specs.Prelude.{All, TableValue, AreNumbered, IsItem, IsUnderWay, Filling, Item, Marks}
 
-pub begun_under_way : (f : Filling) (t : TableValue) (items : List Item) (places stamps : List ℕ) → All (IsItem f t) items → All (λ (item : Item). item.looked ≡ 0) items → AreNumbered items places → length stamps ≡ 8192 → ((i : ℕ) → slice_index stamps i ≡ 0)
-    → IsUnderWay f t items places stamps 1
-begun_under_way f t items places stamps are unseen numbered long none = record {
+pub begun_under_way : (f : Filling) (t : TableValue) (items : List Item) (places : List ℕ) (marks : Marks) → All (IsItem f t) items → All (λ (item : Item). item.looked ≡ 0) items → AreNumbered items places → length marks.stamps.items ≡ 8192 → ((i : ℕ) → slice_index marks.stamps.items i ≡ 0)
+    → IsUnderWay f t items marks
+begun_under_way f t items places marks are unseen numbered long none = record {
+  places = places;
   items_are = are;
   looked = λ k d k_in. let e = unseen k d k_in in omega (arith, e);
   long = long;

@@ -4,7 +4,8 @@ use Rattle.std.proofs.Common.{None, IfSome, arith, ap, refl, sym, subst, inl, in
 use Rattle.egt_fill.specs.Prelude.{false≢true, other_side, turned_square, Side, White, Black, has_equal_sides}
 use Rattle.egt_fill.specs.Prelude.{material_of, IsTurnWith, symmetries, has_pawns, ShelfMen, turn_number, eight}
 use Rattle.egt_fill.specs.Prelude.{undoing, undoing_in, undone, TableValue, Column, AreKept, IsKept, IsPlaced}
-use Rattle.egt_fill.specs.Prelude.{wide_place, BlockKey, column_score, Part, AreFewer, AreForgotten, IsMended, TurnsTo}
+use Rattle.egt_fill.specs.Prelude.{wide_place, BlockKey, column_score, Part, AreAllKept, AreFewer, AreForgotten}
+use Rattle.egt_fill.specs.Prelude.{Filling, IsMended, Near, TurnsTo, with_items, with_items_is}
 use Rattle.egt_fill.proofs.KeptThrough.{all_kept}
 
 other_apart : (side : Side) → side ≢ other_side side
@@ -72,8 +73,13 @@ none_forgotten c white black side keys unlike = forgotten c white black side (ot
   | inr across ↦ absurd (false≢true (sym unlike ∙ across.0))
 ])
 
+-- by other names of the squares and keys
+pub forgotten_at : (c : ℕ) (side s : Side) (new : List (Option BlockKey)) → {w b x y : ℕ} → {old keys : List (Option BlockKey)} → w ≡ x → b ≡ y → old ≡ keys → AreForgotten c w b side s old new → AreForgotten c x y side s keys new
+forgotten_at c side s new {w} {b} {x} {y} {old} {keys} ew eb eo gone =
+    subst (λ (l : List (Option BlockKey)). AreForgotten c x y side s l new) eo (subst (λ v. AreForgotten c x v side s old new) eb (subst (λ v. AreForgotten c v b side s old new) ew gone))
+
 -- what is left holds of the new table
-pub kept_after : (part : Part) (c white black : ℕ) (side s : Side) (old new : TableValue) (men : ShelfMen) (keys after : List (Option BlockKey)) (blocks : List (List (List ℕ))) → old.class ≡ c → IsMended part white black side old new
+kept_after : (part : Part) (c white black : ℕ) (side s : Side) (old new : TableValue) (men : ShelfMen) (keys after : List (Option BlockKey)) (blocks : List (List (List ℕ))) → old.class ≡ c → IsMended part white black side old new
     → AreForgotten c white black side s keys after → length after ≡ length keys → 12 < length keys → AreKept c (column_score old) men s keys blocks → AreKept c (column_score new) men s after blocks
 kept_after part c white black side s old new men keys after blocks class mended gone long wide kept =
     subst (λ d. AreKept d (column_score new) men s after blocks) class
@@ -99,4 +105,13 @@ kept_after part c white black side s old new men keys after blocks class mended 
       as_many = kept.as_many ∙ sym long;
       each = λ i i_in. key_kept i (omega (arith, i_in, long));
       placed = λ _ i i_in. subst (λ n. IsPlaced n (slice_index_or after i None) i) (sym long) (key_placed i (omega (arith, i_in, long)));
+    }
+
+pub near_after : (f : Filling) (white black : ℕ) (side s : Side) (old new : TableValue) (near : Near) (after : List (Option BlockKey)) → old.class ≡ f.class → IsMended f.part white black side old new
+    → AreForgotten f.class white black side s near.keys.items after → length after ≡ length near.keys.items → AreAllKept f old s near → AreAllKept f new s (record { keys = with_items near.keys after; blocks = near.blocks })
+near_after f white black side s old new near after class mended gone long all =
+    let same = with_items_is near.keys after (long ∙ sym near.keys.ok.0) in
+    record {
+      kept = subst (λ (keys : List (Option BlockKey)). AreKept f.class (column_score new) f.men s keys near.blocks.items) (sym same) (kept_after f.part f.class white black side s old new f.men near.keys.items after near.blocks.items class mended gone long all.wide all.kept);
+      wide = subst (λ (keys : List (Option BlockKey)). 12 < length keys) (sym same) (let wide = all.wide in omega (arith, wide, long));
     }

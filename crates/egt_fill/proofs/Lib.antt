@@ -16,6 +16,6 @@ pub mod DrawnBytes
 pub mod DrawnEntries
 pub mod FilledTables
 pub mod StillUnderWay
-pub mod PassKept
+pub mod RoundKept
 pub mod BegunItems
 pub mod BegunWay

@@ -4,8 +4,8 @@ use Rattle.std.proofs.Common.{slice_set, inl, inr, refl, ap, sym, subst, arith, 
 use Rattle.egt_fill.specs.Prelude.{cases_eq, get_or-set_other, get_or-set_same, length-set, Side, code_of, kind_digits}
 use Rattle.egt_fill.specs.Prelude.{kind_less, number_in, ShelfMen, TableValue, AreShelvesOf, Children, Part, IsDueItem}
 use Rattle.egt_fill.specs.Prelude.{AreSeen, IsItem, men_of, passed_shelves_of, shelves_of, IsMended, IsOfKings}
-use Rattle.egt_fill.specs.Prelude.{ReadsKings, AreDue, IsFresh, IsLookedAt, IsStamped, IsUnderWay, place_of, Filling}
-use Rattle.egt_fill.specs.Prelude.{Item, Shelf}
+use Rattle.egt_fill.specs.Prelude.{ReadsKings, AreDue, IsFresh, IsFreshItem, IsLookedAt, IsStamped, IsUnderWay, place_of, Filling}
+use Rattle.egt_fill.specs.Prelude.{Item, Marks, Shelf}
 use Rattle.egt_fill.proofs.DueThrough.{all_due_stay, scores_in_stay}
 use Rattle.egt_fill.proofs.ItemMended.{codes_in_kings}
 use Rattle.egt_fill.proofs.RowsMended.{all_ended_stay}
@@ -28,39 +28,39 @@ seen_due part white black s old new mended passed children men first side apart 
     let lane = seen x y x_in y_in in
     (lane.0, lane.1, lane.2, scores_in_stay part white black s old new mended passed children men side apart (x + kind_less men.one.kind) (y + kind_less men.last.kind) lane.0 lane.1 lane.3)
 
-module _ (f : Filling) (old new : TableValue) (items : List Item) (places stamps after : List ℕ) (tick later i : ℕ) (next : Item) (below : f.class < 36) (class : old.class ≡ f.class)
-    (under : IsUnderWay f old items places stamps tick) (i_in : i < length items) where
+module _ (f : Filling) (old new : TableValue) (items : List Item) (marks later : Marks) (i : ℕ) (next : Item) (below : f.class < 36) (class : old.class ≡ f.class)
+    (under : IsUnderWay f old items marks) (i_in : i < length items) where
   before : Item
   before = slice_index_or items i next
 
-  module _ (look : IsLookedAt f old new (slice_index_or items i next) next tick) (stamped : IsStamped (slice_index_or items i next) old new stamps after tick later) where
+  module _ (look : IsLookedAt f old new (slice_index_or items i next) next marks.tick) (stamped : IsStamped (slice_index_or items i next) old new marks later) where
     -- stamps only rise
-    rise : (j : ℕ) → slice_index stamps j ≤ slice_index after j
+    rise : (j : ℕ) → slice_index marks.stamps.items j ≤ slice_index later.stamps.items j
     rise j = elim stamped [
-      | inl same ↦ let e = ap (λ (l : List ℕ). slice_index l j) same.1 in omega (arith, e)
+      | inl same ↦ let e = ap (λ (m : Marks). slice_index m.stamps.items j) same.1 in omega (arith, e)
       | inr new_stamp ↦ elim (cases_eq j (place_of (slice_index_or items i next))) [
-        | inl here ↦ let low = under.stamped j in let at = ap (slice_index after) here ∙ new_stamp.2 in let is = new_stamp.0 in omega (arith, low, at, is)
+        | inl here ↦ let low = under.stamped j in let at = ap (slice_index later.stamps.items) here ∙ new_stamp.2 in let is = new_stamp.0 in omega (arith, low, at, is)
         | inr other ↦ let e = new_stamp.3 j other in omega (arith, e)
       ]
     ]
 
-    later_on : tick ≤ later
-    later_on = elim stamped [ inl same ↦ let e = same.2 in omega (arith, e) | inr new_stamp ↦ let e = new_stamp.0 in omega (arith, e) ]
+    later_on : marks.tick ≤ later.tick
+    later_on = elim stamped [ inl same ↦ let e = ap (λ (m : Marks). m.tick) same.1 in omega (arith, e) | inr new_stamp ↦ let e = new_stamp.0 in omega (arith, e) ]
 
-    low : (j : ℕ) → slice_index after j ≤ later
+    low : (j : ℕ) → slice_index later.stamps.items j ≤ later.tick
     low j = elim stamped [
-      | inl same ↦ let e = ap (λ (l : List ℕ). slice_index l j) same.1 in let t = same.2 in let s = under.stamped j in omega (arith, e, t, s)
+      | inl same ↦ let e = ap (λ (m : Marks). slice_index m.stamps.items j) same.1 in let t = ap (λ (m : Marks). m.tick) same.1 in let s = under.stamped j in omega (arith, e, t, s)
       | inr new_stamp ↦ elim (cases_eq j (place_of (slice_index_or items i next))) [
-        | inl here ↦ let at = ap (slice_index after) here ∙ new_stamp.2 in omega (arith, at)
+        | inl here ↦ let at = ap (slice_index later.stamps.items) here ∙ new_stamp.2 in omega (arith, at)
         | inr other ↦ let e = new_stamp.3 j other in let s = under.stamped j in let t = later_on in omega (arith, e, s, t)
       ]
     ]
 
-    long_after : length after ≡ 8192
-    long_after = elim stamped [ inl same ↦ ap length same.1 ∙ under.long | inr new_stamp ↦ new_stamp.1 ∙ under.long ]
+    long_after : length later.stamps.items ≡ 8192
+    long_after = elim stamped [ inl same ↦ ap (λ (m : Marks). length m.stamps.items) same.1 ∙ under.long | inr new_stamp ↦ new_stamp.1 ∙ under.long ]
 
     -- where something was put, nothing that reads it is fresh
-    not_read : (men : ShelfMen) (side : Side) (looked : ℕ) → looked ≤ tick → slice_index after (place_of (slice_index_or items i next)) ≡ tick + 1 → IsFresh f.class men side after looked
+    not_read : (men : ShelfMen) (side : Side) (looked : ℕ) → looked ≤ marks.tick → slice_index later.stamps.items (place_of (slice_index_or items i next)) ≡ marks.tick + 1 → IsFresh f.class men side later.stamps.items looked
         → ¬ ReadsKings old.class men side (slice_index_or items i next).white (slice_index_or items i next).black (slice_index_or items i next).side
     not_read men side looked within at fresh reads =
         let it = slice_index_or items i next in
@@ -76,7 +76,7 @@ module _ (f : Filling) (old new : TableValue) (items : List Item) (places stamps
           let two = slice_index_or items i next in
           let place : place_of one ≡ place_of two = ap (λ (s : Side). place_of (record { first = one.first; white = one.white; black = one.black; side = s; looked = one.looked; ended = one.ended; passed_ended = one.passed_ended; leaving = one.leaving })) same.2
           ∙ (let white = same.0 in let black = same.1 in omega (arith, white, black)) in
-          other (sym (under.placed k d k_in) ∙ ap (slice_index places) place ∙ under.placed i next i_in)
+          other (sym (under.placed k d k_in) ∙ ap (slice_index under.places) place ∙ under.placed i next i_in)
 
       stays_item : IsItem f new (slice_index_or items k d)
       stays_item =
@@ -97,11 +97,11 @@ module _ (f : Filling) (old new : TableValue) (items : List Item) (places stamps
             passed_ended = λ some. all_ended_stay f.part old new At look.mended (passed_shelves_of f it) (apart (passed_shelves_of f it) (is.passed some) others_kings) it.passed_ended (is.passed_ended some);
           }
 
-      stays_due : IsFresh f.class (men_of f (slice_index_or items k d)) (slice_index_or items k d).side after (slice_index_or items k d).looked → IsDueItem f new (slice_index_or items k d)
+      stays_due : IsFreshItem f later (slice_index_or items k d) → IsDueItem f new (slice_index_or items k d)
       stays_due fresh =
           let it = slice_index_or items k d in
           let two = slice_index_or items i next in
-          let due = under.due k d k_in (stamps_rise f.class (men_of f it) it.side stamps after it.looked rise fresh) in
+          let due = under.due k d k_in (stamps_rise f.class (men_of f it) it.side marks.stamps.items later.stamps.items it.looked rise fresh) in
           elim stamped [
             | inl same ↦ subst (λ (t : TableValue). IsDueItem f t it) (sym same.0) due
             | inr new_stamp ↦
@@ -111,7 +111,7 @@ module _ (f : Filling) (old new : TableValue) (items : List Item) (places stamps
 
     -- ---- the item that was looked at
 
-    looked_due : IsFresh f.class (men_of f next) next.side after next.looked → IsDueItem f new next
+    looked_due : IsFreshItem f later next → IsDueItem f new next
     looked_due fresh = elim stamped [
       | inl same ↦ record {
         plain = subst (λ (t : TableValue). AreSeen f.part false t new f.children (men_of f next) next.first next.side) (sym same.0) look.seen.plain;
@@ -142,15 +142,16 @@ module _ (f : Filling) (old new : TableValue) (items : List Item) (places stamps
         ap (λ (s : Side). place_of (record { first = next.first; white = next.white; black = next.black; side = s; looked = next.looked; ended = next.ended; passed_ended = next.passed_ended; leaving = next.leaving })) look.side
         ∙ (let white = look.white in let black = look.black in omega (arith, white, black))
 
-    pub still_under_way : IsUnderWay f new (slice_set items i next) places after later
+    pub still_under_way : IsUnderWay f new (slice_set items i next) later
     still_under_way = record {
+      places = under.places;
       items_are = λ k d k_in. at_item k d (within k k_in) (IsItem f new) look.is (λ other. stays_item k d (within k k_in) other);
-      looked = λ k d k_in. at_item k d (within k k_in) (λ (item : Item). item.looked ≤ later) (let e = look.looked in let t = later_on in omega (arith, e, t)) (λ other. let le = under.looked k d (within k k_in) in let t = later_on in omega (arith, le, t));
+      looked = λ k d k_in. at_item k d (within k k_in) (λ (item : Item). item.looked ≤ later.tick) (let e = look.looked in let t = later_on in omega (arith, e, t)) (λ other. let le = under.looked k d (within k k_in) in let t = later_on in omega (arith, le, t));
       long = long_after;
       stamped = low;
       placed = λ k d k_in. elim (cases_eq k i) [
-        | inl same ↦ ap (λ (item : Item). slice_index places (place_of item)) (ap (λ n. slice_index_or (slice_set items i next) n d) same ∙ get_or-set_same items i next d i_in) ∙ ap (slice_index places) place_next ∙ under.placed i next i_in ∙ sym same
-        | inr other ↦ ap (λ (item : Item). slice_index places (place_of item)) (get_or-set_other items i k next d other) ∙ under.placed k d (within k k_in)
+        | inl same ↦ ap (λ (item : Item). slice_index under.places (place_of item)) (ap (λ n. slice_index_or (slice_set items i next) n d) same ∙ get_or-set_same items i next d i_in) ∙ ap (slice_index under.places) place_next ∙ under.placed i next i_in ∙ sym same
+        | inr other ↦ ap (λ (item : Item). slice_index under.places (place_of item)) (get_or-set_other items i k next d other) ∙ under.placed k d (within k k_in)
       ];
-      due = λ k d k_in. at_item k d (within k k_in) (λ (item : Item). IsFresh f.class (men_of f item) item.side after item.looked → IsDueItem f new item) looked_due (λ other. stays_due k d (within k k_in) other);
+      due = λ k d k_in. at_item k d (within k k_in) (λ (item : Item). IsFreshItem f later item → IsDueItem f new item) looked_due (λ other. stays_due k d (within k k_in) other);
     }

@@ -1,7 +1,7 @@
 -- A code tells one side to move and one square for each man.
 use Rattle.std.proofs.Common.{◌≡◌, ℕ, ◌<◌, Bool, true, false, cond, List, [], ◌∷◌, refl, sym, ap, subst, ◌∙◌, arith}
 use Rattle.egt_fill.specs.Prelude.{king_of, side_number, Man, Side, White, Black, material_of, AreDigits, has_target}
-use Rattle.egt_fill.specs.Prelude.{men_bases, men_at, list_of, TellsMen, Stand, number_from-same, side_few}
+use Rattle.egt_fill.specs.Prelude.{men_bases, men_at, list_of, TellsMen, Stand, number_from-same, side_few, heads, tails}
 
 flag_few : (passed : Bool) → cond passed 1 0 < 2
 flag_few true = omega arith
@@ -11,12 +11,6 @@ flag_few false = omega arith
 ends_fit : (target : Bool) (side : Side) (passed : Bool) → AreDigits (2 ∷ cond target (2 ∷ []) []) (side_number side ∷ cond target (cond passed 1 0 ∷ []) [])
 ends_fit true side passed = (side_few side, (flag_few passed, tt))
 ends_fit false side passed = (side_few side, tt)
-
-heads : {a b : ℕ} {x y : List ℕ} → a ∷ x ≡ b ∷ y → a ≡ b
-heads e = cc
-
-tails : {a b : ℕ} {x y : List ℕ} → a ∷ x ≡ b ∷ y → x ≡ y
-tails e = cc
 
 one_flag : (p q : Bool) → ◌≡◌ {A = ℕ} (cond p 1 0) (cond q 1 0) → p ≡ q
 one_flag true true e = refl

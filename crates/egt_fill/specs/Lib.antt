@@ -5,10 +5,10 @@ pub mod Settled
 pub mod Items
 pub mod Covered
 pub mod Stamps
-pub mod Filled
-pub mod UnderWay
-pub mod Rounds
-pub mod Forgotten
 pub mod Begun
+pub mod Filled
+pub mod Rounds
+pub mod UnderWay
+pub mod Forgotten
 pub mod Ends
 pub mod Prelude

@@ -4,6 +4,7 @@ pub use Rattle.egt_blocks.specs.Blocks.{AreShelvesOf, with_kings}
 pub use Rattle.egt_blocks.specs.Kept.{AreKept, IsKept, IsPlaced, wide_place}
 pub use Rattle.egt_blocks.specs.Taken.{men_swapped}
 pub use Rattle.egt_blocks.specs.declared.kept_blocks.BlockKey.{BlockKey}
+pub use Rattle.egt_board.proofs.Parts.{heads, tails}
 pub use Rattle.egt_board.specs.Attack.{king_of}
 pub use Rattle.egt_board.specs.Images.{side_number}
 pub use Rattle.egt_board.specs.Man.{other_side}
@@ -64,17 +65,21 @@ pub use Rattle.egt_fill.specs.Mended.{AllEnded, AreEnded, AreRightRows, IsCodeIn
 pub use Rattle.egt_fill.specs.Mended.{IsMendedAt, IsOfKings, IsPutAt, IsRightRow, IsRowSeen, IsShelf, no_squares}
 pub use Rattle.egt_fill.specs.Mended.{score_in, shelf_at}
 pub use Rattle.egt_fill.specs.Reads.{ReadsKings}
-pub use Rattle.egt_fill.specs.Rounds.{AreAllKept, AreFreshItems, IsFreshItem, IsUntouched, IsUntouchedPass}
+pub use Rattle.egt_fill.specs.Rounds.{AreAllKept, AreBothKept, AreFreshItems, IsFreshItem, IsUntouched}
 pub use Rattle.egt_fill.specs.Settled.{AreAllDue, AreDue, AreScoresIn, IsFilling}
 pub use Rattle.egt_fill.specs.Stamps.{IsFresh, stamp_place}
 pub use Rattle.egt_fill.specs.Turns.{TakesKings, TurnsTo}
 pub use Rattle.egt_fill.specs.UnderWay.{IsLookedAt, IsStamped, IsUnderWay}
 pub use Rattle.egt_fill.specs.declared.filling.Filling.{Filling}
 pub use Rattle.egt_fill.specs.declared.items.Item.{Item}
+pub use Rattle.egt_fill.specs.declared.kept.Kept.{Kept}
+pub use Rattle.egt_fill.specs.declared.kept.Near.{Near}
 pub use Rattle.egt_fill.specs.declared.looking.Scores.{Scores}
 pub use Rattle.egt_fill.specs.declared.mending.Mended.{Mended}
 pub use Rattle.egt_fill.specs.declared.mending.Shelf.{Shelf}
 pub use Rattle.egt_fill.specs.declared.rounds.Visited.{Visited}
+pub use Rattle.egt_fill.specs.declared.settling.Looks.{Looks}
+pub use Rattle.egt_fill.specs.declared.stamps.Marks.{Marks}
 pub use Rattle.egt_index.proofs.Best.{turn_number}
 pub use Rattle.egt_index.proofs.Led.{eight}
 pub use Rattle.egt_index.proofs.MixedDigits.{number_from-same}
@@ -106,8 +111,10 @@ pub use Rattle.egt_table.specs.declared.column.Column.{Column}
 pub use Rattle.std.proofs.lemmas.Bool.{cases_eq, cases_lt, false≢true, ne_eqb}
 pub use Rattle.std.proofs.lemmas.Bool.Decides.{nat_tests}
 pub use Rattle.std.proofs.lemmas.List.{get_or-replicate, get_or-set_other, get_or-set_same, get_or_default, get_or_past}
-pub use Rattle.std.proofs.lemmas.List.{length-set, set-get_or}
+pub use Rattle.std.proofs.lemmas.List.{length-set, set-get_or, with_items_is}
 pub use Rattle.std.proofs.lemmas.List.Elements.{All-contains, All-push, All-same}
+pub use Rattle.std.proofs.lemmas.Nat.{mul-le}
 pub use Rattle.std.proofs.lemmas.Nat.Bits.{bit_at-lt, bit_at-zero}
 pub use Rattle.std.specs.Int.{bit_at}
 pub use Rattle.std.specs.List.{All}
+pub use Rattle.std.specs.Vec.{with_items}

@@ -1,29 +1,32 @@
 -- Items while a part is filled.
-use Rattle.std.specs.Prelude.{◌≡◌, ◌≢◌, ℕ, ◌+◌, ◌<◌, ◌≤◌, ◌⊎◌, List, length, slice_index, slice_index_or}
+use Rattle.std.specs.Prelude.{◌≡◌, ◌≢◌, ℕ, ◌+◌, ◌≤◌, ◌⊎◌, List, length, slice_index}
 use Rattle.std.specs.List.{All}
 use Rattle.egt_table.specs.Table.{TableValue}
-use Rattle.egt_fill.specs.Begun.{place_of}
+use Rattle.egt_fill.specs.Begun.{AreNumbered, place_of}
 use Rattle.egt_fill.specs.Covered.{IsDueItem}
-use Rattle.egt_fill.specs.Items.{IsItem, IsSeenItem, men_of}
+use Rattle.egt_fill.specs.Items.{IsItem, IsSeenItem}
 use Rattle.egt_fill.specs.Mended.{IsMended}
-use Rattle.egt_fill.specs.Stamps.{IsFresh}
+use Rattle.egt_fill.specs.Rounds.{IsFreshItem}
 use Rattle.egt_fill.specs.declared.filling.Filling.{Filling}
 use Rattle.egt_fill.specs.declared.items.Item.{Item}
+use Rattle.egt_fill.specs.declared.stamps.Marks.{Marks}
 
 -- each item is of its own kings and side, and where none of what it reads has changed since it was looked at, its entries are due
-pub record IsUnderWay (f : Filling) (t : TableValue) (items : List Item) (places stamps : List ℕ) (tick : ℕ) : Type 0 where
+pub record IsUnderWay (f : Filling) (t : TableValue) (items : List Item) (marks : Marks) : Type 0 where
+  pub places : List ℕ
   pub items_are : All (IsItem f t) items
-  pub looked : All (λ (item : Item). item.looked ≤ tick) items
-  pub long : length stamps ≡ 8192
-  pub stamped : (i : ℕ) → slice_index stamps i ≤ tick
-  pub placed : (k : ℕ) (d : Item) → k < length items → slice_index places (place_of (slice_index_or items k d)) ≡ k
-  pub due : All (λ (item : Item). IsFresh f.class (men_of f item) item.side stamps item.looked → IsDueItem f t item) items
+  pub looked : All (λ (item : Item). item.looked ≤ marks.tick) items
+  pub long : length marks.stamps.items ≡ 8192
+  pub stamped : (i : ℕ) → slice_index marks.stamps.items i ≤ marks.tick
+  pub placed : AreNumbered items places
+  pub due : All (λ (item : Item). IsFreshItem f marks item → IsDueItem f t item) items
 
 -- nothing was put, or the stamp of these entries is new
-abbrev pub IsStamped : (item : Item) (old new : TableValue) (stamps after : List ℕ) (tick later : ℕ) → Type 0
-IsStamped item old new stamps after tick later =
-    ((new ≡ old) × (after ≡ stamps) × (later ≡ tick))
-    ⊎ ((later ≡ tick + 1) × (length after ≡ length stamps) × (slice_index after (place_of item) ≡ later) × ((i : ℕ) → i ≢ place_of item → slice_index after i ≡ slice_index stamps i))
+abbrev pub IsStamped : (item : Item) (old new : TableValue) (marks later : Marks) → Type 0
+IsStamped item old new marks later =
+    ((new ≡ old) × (later ≡ marks))
+    ⊎ ((later.tick ≡ marks.tick + 1) × (length later.stamps.items ≡ length marks.stamps.items) × (slice_index later.stamps.items (place_of item) ≡ later.tick)
+    × ((i : ℕ) → i ≢ place_of item → slice_index later.stamps.items i ≡ slice_index marks.stamps.items i))
 
 -- the item after a look at the tick
 pub record IsLookedAt (f : Filling) (old new : TableValue) (item after : Item) (tick : ℕ) : Type 0 where

@@ -5,7 +5,7 @@ ghost use Rattle.egt_fill.specs.Prelude.{IsItem, no_squares, IsFilling};
 
 use crate::filling::Filling;
 use crate::items::Item;
-use crate::stamps::stamp_place;
+use crate::stamps::{PLACES, stamp_place};
 use egt_blocks::blocks::{begin_with, nothing};
 use egt_board::{Side, SquareSet};
 use egt_check::blank::side_is_blank;
@@ -163,9 +163,6 @@ pub(crate) fn begun_items(
     Ok(Some(items))
 }
 
-/// How many places there are: one for each pair of kings' squares and side to move.
-pub(crate) const PLACES: usize = 8192;
-
 /// Writes the number of each item at its place.
 fn write_numbers(items: &[Item], places: &mut [u32])
     requires few { length items.now ≤ 8192 }
@@ -191,6 +188,7 @@ fn are_numbered(items: &[Item], places: &[u32]) -> bool
 
 /// Where the number of each item stands, by the place of its kings and side. `None` where two items have the same.
 pub(crate) fn places_of(alloc: Global, items: &[Item]) -> Result<Option<Vec<u32>>, AllocError>
+    ensures few { IfOk result (λ some. IfSome some (λ places. length items.now ≤ 8192)) }
     ensures length { IfOk result (λ some. IfSome some (λ places. length places.items ≡ 8192)) }
     ensures numbers { IfOk result (λ some. IfSome some (λ places. AreNumbered items.now places.items)) }
 {

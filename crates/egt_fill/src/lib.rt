@@ -10,6 +10,7 @@ pub mod ends;
 pub mod filling;
 mod forgetting;
 pub mod items;
+pub mod kept;
 pub mod looking;
 pub mod mending;
 pub mod rounds;
@@ -19,4 +20,5 @@ pub mod tables;
 mod turns;
 
 pub use rounds::ROUNDS;
+pub use settling::Looks;
 pub use tables::{Reached, filled_reach, filled_values};

@@ -1,14 +1,14 @@
 //! A look at an item: what is due to the greatest scores of all moves is put in its entries.
 ghost use Rattle.std.specs.Prelude.{◌≡◌, ◌≢◌, ◌<◌, ℕ, true};
-ghost use Rattle.egt_fill.specs.Prelude.{other_side, AreKept, IsOwnTable, column_score, AreItemScores, IsItem};
+ghost use Rattle.egt_fill.specs.Prelude.{other_side, IsOwnTable, AreAllKept, AreItemScores, IsItem};
 ghost use Rattle.egt_fill.specs.Prelude.{IsRightItem, IsSameItem, IsSeenItem, men_of, IsMended, IsFilling};
 ghost use Rattle.egt_fill.specs.declared.mending.Mended.TheVariants as mends;
 
 use crate::filling::Filling;
 use crate::items::Item;
+use crate::kept::Near;
 use crate::mending::{Mended, Shelf, mend_shelves};
 use egt_blocks::blocks::nothing;
-use egt_blocks::kept_blocks::BlockKey;
 use egt_check::block_judging::{part_scores, raise_part_passed};
 use egt_check::found::Found;
 use egt_check::move_scores::{beside_found, passing_captures};
@@ -17,6 +17,7 @@ use egt_check::table_judging::with_kings;
 use egt_index::ShelfMen;
 use egt_index::laws::numbers_stand_for_codes;
 use egt_lanes::Block;
+use std::alloc::{AllocError, Global};
 
 /// The greatest scores of all moves, where there is no target and where there is one; the second of each are of the zeroing column alone.
 #[derive(Drop)]
@@ -27,22 +28,31 @@ pub(crate) struct Scores {
     pub(crate) passed_clocks: Box<Block>,
 }
 
+/// Room for the scores of a look.
+pub(crate) fn room(alloc: Global) -> Result<Scores, AllocError> {
+    Ok(Scores {
+        plain: Box::new(alloc, nothing())?,
+        clocks: Box::new(alloc, nothing())?,
+        passed: Box::new(alloc, nothing())?,
+        passed_clocks: Box::new(alloc, nothing())?,
+    })
+}
+
 /// The greatest scores of all moves from the item's positions. False where a table does not tell.
 fn item_scores(
     f: &Filling,
     table: &Found,
     item: &Item,
     men: &ShelfMen,
-    keys: &mut [Option<BlockKey>],
-    blocks: &mut [Block],
+    read: &mut Near,
     out: &mut Scores,
 ) -> bool
     requires filling { IsFilling f.now }
     requires table { IsOwnTable f.now.part f.now.class f.now.men table.now }
     requires item { IsItem f.now table.now item.now }
     requires men { men.now ≡ men_of f.now item.now }
-    requires kept { AreKept f.now.class (column_score table.now) f.now.men (other_side item.now.side) keys.old blocks.old }
-    ensures kept { result ≡ true → AreKept f.now.class (column_score table.now) f.now.men (other_side item.now.side) keys.new blocks.new }
+    requires kept { AreAllKept f.now table.now (other_side item.now.side) read.old }
+    ensures kept { result ≡ true → AreAllKept f.now table.now (other_side item.now.side) read.new }
     ensures scores { result ≡ true → AreItemScores f.now table.now men.now item.now.side out.new }
 {
     let side = item.side;
@@ -53,8 +63,8 @@ fn item_scores(
         f.part,
         side,
         &item.leaving,
-        keys,
-        blocks,
+        &mut read.keys,
+        &mut read.blocks,
         &mut out.plain,
         &mut out.clocks,
     ) {
@@ -150,24 +160,23 @@ pub(crate) fn look(
     f: &Filling,
     table: &mut Found,
     item: &mut Item,
-    keys: &mut [Option<BlockKey>],
-    blocks: &mut [Block],
+    read: &mut Near,
     scores: &mut Scores,
 ) -> Mended
     requires filling { IsFilling f.now }
     requires table { IsOwnTable f.now.part f.now.class f.now.men table.old }
     requires item { IsItem f.now table.old item.old }
-    requires kept { AreKept f.now.class (column_score table.old) f.now.men (other_side item.old.side) keys.old blocks.old }
+    requires kept { AreAllKept f.now table.old (other_side item.old.side) read.old }
     ensures mended { IsMended f.now.part item.old.white item.old.black item.old.side table.old table.new }
     ensures due { result ≡ mends.Due → table.new ≡ table.old }
     ensures same { IsSameItem item.old item.new }
     ensures item { result ≢ mends.Untold → IsItem f.now table.new item.new }
     ensures seen { result ≢ mends.Untold → IsSeenItem f.now table.old table.new item.new }
-    ensures kept { result ≢ mends.Untold → AreKept f.now.class (column_score table.old) f.now.men (other_side item.old.side) keys.new blocks.new }
+    ensures kept { result ≢ mends.Untold → AreAllKept f.now table.old (other_side item.old.side) read.new }
 {
     numbers_stand_for_codes();
     let men = with_kings(&f.men, item.white, item.black);
-    if !item_scores(f, table, item, &men, keys, blocks, scores) {
+    if !item_scores(f, table, item, &men, read, scores) {
         return Mended::Untold;
     }
     mend_item(f, table, item, &men, scores)

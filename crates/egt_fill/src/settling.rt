@@ -1,22 +1,30 @@
 //! Entries that are put until all are due.
-ghost use Rattle.std.specs.Prelude.{◌≡◌, ◌<◌, ℕ, true, length, slice_index, IfOk};
-ghost use Rattle.egt_fill.specs.Prelude.{Black, White, size_of, HasColumn, Column, beside, table_at, IsOwnTable};
-ghost use Rattle.egt_fill.specs.Prelude.{table_in, KeepsPart, HasBytes, IsMendedAt, AreAllKept, IsFilling, IsUnderWay};
+ghost use Rattle.std.specs.Prelude.{◌≡◌, ◌*◌, ◌<◌, ◌≤◌, ℕ, length, IfOk, IfSome};
+ghost use Rattle.egt_fill.specs.Prelude.{size_of, HasColumn, Column, beside, table_at, IsOwnTable, table_in, KeepsPart};
+ghost use Rattle.egt_fill.specs.Prelude.{HasBytes, IsMendedAt, AreBothKept, IsFilling, IsUnderWay};
 ghost use Rattle.egt_check.specs.declared.part.Part.TheVariants as parts;
 
-use crate::beginning::{PLACES, begun_items, places_of};
+use crate::beginning::{begun_items, places_of};
 use crate::covering::all_are_covered;
 use crate::filling::Filling;
 use crate::items::Item;
-use crate::looking::Scores;
+use crate::kept::{Kept, nothing_kept};
 use crate::rounds::settle_items;
-use egt_blocks::blocks::nothing;
-use egt_blocks::kept_blocks::{BlockKey, RANK_PLACES};
+use crate::stamps::{Marks, no_marks};
+use egt_blocks::kept_blocks::RANK_PLACES;
 use egt_check::found::Found;
 use egt_class::Class;
 use egt_index::men::has_pawns;
-use egt_lanes::Block;
 use std::alloc::{AllocError, Global};
+
+/// How a part was filled.
+#[derive(Clone, Copy)]
+pub struct Looks {
+    /// How many items there are: each was begun once.
+    pub items: usize,
+    /// How many looks at them were taken.
+    pub taken: usize,
+}
 
 /// How many blocks are kept of the positions with one side to move: one for each pair of kings and column. The white king stands on one of the first five files,
 /// and in a class without pawns on one of the first five ranks.
@@ -27,74 +35,42 @@ fn places_for(class: Class) -> usize
     ranks * RANK_PLACES
 }
 
-/// Room for the scores of a look.
-fn room(alloc: Global) -> Result<Scores, AllocError> {
-    Ok(Scores {
-        plain: Box::new(alloc, nothing())?,
-        clocks: Box::new(alloc, nothing())?,
-        passed: Box::new(alloc, nothing())?,
-        passed_clocks: Box::new(alloc, nothing())?,
-    })
-}
-
-/// No stamp of any entries.
-fn no_stamps(alloc: Global) -> Result<Vec<u32>, AllocError>
-    ensures long { IfOk result (λ stamps. length stamps.items ≡ 8192) }
-    ensures none { IfOk result (λ stamps. (i : ℕ) → slice_index stamps.items i ≡ 0) }
-{
-    let stamps = vec![in alloc; 0; PLACES]?;
-    Ok(stamps)
-}
-
-/// Looks at the items until all that is due is put, and sees that they are of all codes. False where so many rounds do not do.
+/// Looks at the items until all that is due is put, and sees that they are of all codes. How many looks were taken; `None` where so many rounds do not do.
 fn settle_all(
     f: &Filling,
     table: &mut Found,
     items: &mut [Item],
     places: &[u32],
-    stamps: &mut [u32],
-    white_keys: &mut [Option<BlockKey>],
-    white_blocks: &mut [Block],
-    black_keys: &mut [Option<BlockKey>],
-    black_blocks: &mut [Block],
-    scores: &mut Scores,
+    marks: &mut Marks,
+    kept: &mut Kept,
     rounds: u32,
-) -> bool
+) -> Option<usize>
     requires filling { IsFilling f.now }
     requires table { IsOwnTable f.now.part f.now.class f.now.men table.old }
-    requires under { IsUnderWay f.now table.old items.old places.now stamps.old 1 }
-    requires white { AreAllKept f.now table.old White white_keys.old white_blocks.old }
-    requires black { AreAllKept f.now table.old Black black_keys.old black_blocks.old }
+    requires few { length items.old ≤ 8192 }
+    requires under { IsUnderWay f.now table.old items.old marks.old }
+    requires kept { AreBothKept f.now table.old kept.old }
     ensures mended { IsMendedAt f.now.part (λ i. Unit {0}) table.old table.new }
-    ensures right { result ≡ true → (i : ℕ) → i < size_of table.new.class → KeepsPart f.now.part (beside (table_at f.now.library.now) table.new) table.new i }
+    ensures few { IfSome result (λ taken. taken ≤ rounds * length items.old) }
+    ensures right { IfSome result (λ taken. (i : ℕ) → i < size_of table.new.class → KeepsPart f.now.part (beside (table_at f.now.library.now) table.new) table.new i) }
 {
-    if !settle_items(
-        f,
-        table,
-        items,
-        places,
-        stamps,
-        white_keys,
-        white_blocks,
-        black_keys,
-        black_blocks,
-        scores,
-        rounds,
-    ) {
-        return false;
-    }
+    let taken = settle_items(f, table, items, marks, kept, rounds)?;
     let _class = table.class();
-    all_are_covered(f, table, items, places)
+    if all_are_covered(f, table, items, places) {
+        Some(taken)
+    } else {
+        None
+    }
 }
 
-/// Puts what is due at all codes of the part, until all entries are. False where that is not told by bytes, and where so
+/// Puts what is due at all codes of the part, until all entries are. `None` where that is not told by bytes, and where so
 /// many rounds of looks are too few.
 pub(crate) fn settle(
     alloc: Global,
     f: &Filling,
     table: &mut Found,
     rounds: u32,
-) -> Result<bool, AllocError>
+) -> Result<Option<Looks>, AllocError>
     requires filling { IsFilling f.now }
     requires table { IsOwnTable f.now.part f.now.class f.now.men table.old }
     ensures class { table.new.class ≡ table.old.class }
@@ -103,32 +79,20 @@ pub(crate) fn settle(
     ensures zeroing { f.now.part ≡ parts.Reach → table.new.zeroing ≡ table.old.zeroing }
     ensures reach { f.now.part ≡ parts.Values → table.new.reach ≡ table.old.reach }
     ensures bytes { HasBytes (table_in f.now.part table.new) }
-    ensures right { IfOk result (λ told. told ≡ true → (i : ℕ) → i < size_of table.new.class → KeepsPart f.now.part (beside (table_at f.now.library.now) table.new) table.new i) }
+    ensures few { IfOk result (λ told. IfSome told (λ looks. looks.taken ≤ rounds * looks.items)) }
+    ensures right { IfOk result (λ told. IfSome told (λ looks. (i : ℕ) → i < size_of table.new.class → KeepsPart f.now.part (beside (table_at f.now.library.now) table.new) table.new i)) }
 {
     let Some(mut items) = begun_items(alloc, f, table)? else {
-        return Ok(false);
+        return Ok(None);
     };
     let Some(places) = places_of(alloc, &items)? else {
-        return Ok(false);
+        return Ok(None);
     };
-    let mut stamps = no_stamps(alloc)?;
-    let mut scores = room(alloc)?;
-    let kept = places_for(f.class);
-    let mut white_keys = vec![in alloc; None; kept]?;
-    let mut white_blocks = vec![in alloc; nothing(); kept]?;
-    let mut black_keys = vec![in alloc; None; kept]?;
-    let mut black_blocks = vec![in alloc; nothing(); kept]?;
-    Ok(settle_all(
-        f,
-        table,
-        &mut items,
-        &places,
-        &mut stamps,
-        &mut white_keys,
-        &mut white_blocks,
-        &mut black_keys,
-        &mut black_blocks,
-        &mut scores,
-        rounds,
-    ))
+    let mut marks = no_marks(alloc)?;
+    let mut kept = nothing_kept(alloc, places_for(f.class))?;
+    let many = items.len();
+    match settle_all(f, table, &mut items, &places, &mut marks, &mut kept, rounds) {
+        Some(taken) => Ok(Some(Looks { items: many, taken })),
+        None => Ok(None),
+    }
 }

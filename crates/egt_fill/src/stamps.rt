@@ -1,5 +1,5 @@
 //! Stamps: for each pair of kings' squares and side to move, when entries of such positions last changed.
-ghost use Rattle.std.specs.Prelude.{◌≡◌, ◌<◌, ◌≤◌, ◌/◌, ◌%◌, ◌==◌, ℕ, false, length, slice_index};
+ghost use Rattle.std.specs.Prelude.{◌≡◌, ◌<◌, ◌≤◌, ◌/◌, ◌%◌, ◌==◌, ℕ, false, length, slice_index, IfOk};
 ghost use Rattle.egt_fill.specs.Prelude.{turned_square, Side, material_of, IsTurnWith, has_pawns, IsFresh, stamp_place};
 ghost use Rattle.egt_fill.specs.Prelude.{TurnsTo};
 
@@ -11,6 +11,26 @@ use egt_class::Class;
 use egt_index::ShelfMen;
 use egt_index::men::has_equal_sides;
 use egt_index::turning::turned_square;
+use std::alloc::{AllocError, Global};
+
+/// The stamps, and the tick that is stamped next.
+#[derive(Drop)]
+pub(crate) struct Marks {
+    pub(crate) stamps: Vec<u32>,
+    pub(crate) tick: u32,
+}
+
+/// How many places there are: one for each pair of kings' squares and side to move.
+pub(crate) const PLACES: usize = 8192;
+
+/// No stamp of any entries.
+pub(crate) fn no_marks(alloc: Global) -> Result<Marks, AllocError>
+    ensures long { IfOk result (λ marks. length marks.stamps.items ≡ 8192) }
+    ensures none { IfOk result (λ marks. (i : ℕ) → slice_index marks.stamps.items i ≡ 0) }
+{
+    let stamps = vec![in alloc; 0; PLACES]?;
+    Ok(Marks { stamps, tick: 1 })
+}
 
 /// The place of the stamp of positions with the kings on these squares and that side to move.
 #[inline(always)]

@@ -1,11 +1,11 @@
 //! Tables of classes with two men beside the kings, filled beside those of their children.
-ghost use Rattle.std.specs.Prelude.{◌≡◌, None, IfOk, IfSome};
+ghost use Rattle.std.specs.Prelude.{◌≡◌, ◌*◌, ◌≤◌, None, IfOk, IfSome};
 ghost use Rattle.egt_fill.specs.Prelude.{HasChildren, HasReachChildren, table_at, HasTrueChildren, IsTrueTable};
 ghost use Rattle.egt_fill.specs.Prelude.{IsReached};
 
 use crate::begun::{begun_values, with_drawn_reach};
 use crate::filling::filling_of;
-use crate::settling::settle;
+use crate::settling::{Looks, settle};
 use egt_check::Library;
 use egt_check::laws::{kept_reaches_are_true, rules_are_kept_by_true_tables_alone};
 use egt_check::part::Part;
@@ -37,8 +37,9 @@ fn children_are_true(class: Class, library: &Library)
     }
 }
 
-/// The table of a class with two men beside the kings, whose children have their tables in the library; without the column of the nearest mates. `None` of
-/// another class, where bytes do not tell its entries or those of a child, and where more than `rounds` rounds of looks are needed (`ROUNDS` are enough).
+/// The table of a class with two men beside the kings, whose children have their tables in the library, without the column of the nearest mates; and the looks
+/// that it took. `None` of another class, where bytes do not tell its entries or those of a child, and where more than `rounds` rounds of looks are needed
+/// (`ROUNDS` are enough).
 ///
 /// # Errors
 ///
@@ -48,11 +49,12 @@ pub fn filled_values(
     class: Class,
     library: &Library,
     rounds: u32,
-) -> Result<Option<Table>, AllocError>
+) -> Result<Option<(Table, Looks)>, AllocError>
     requires children { HasChildren (table_at library.now) class }
-    ensures class { IfOk result (λ filled. IfSome filled (λ t. t.class ≡ class)) }
-    ensures reach { IfOk result (λ filled. IfSome filled (λ t. t.reach ≡ None)) }
-    ensures truth { IfOk result (λ filled. IfSome filled IsTrueTable) }
+    ensures class { IfOk result (λ filled. IfSome filled (λ both. both.0.class ≡ class)) }
+    ensures reach { IfOk result (λ filled. IfSome filled (λ both. both.0.reach ≡ None)) }
+    ensures truth { IfOk result (λ filled. IfSome filled (λ both. IsTrueTable both.0)) }
+    ensures few { IfOk result (λ filled. IfSome filled (λ both. both.1.taken ≤ rounds * both.1.items)) }
 {
     rules_are_kept_by_true_tables_alone();
     children_have_smaller_numbers();
@@ -63,12 +65,12 @@ pub fn filled_values(
     let Some(mut found) = begun_values(alloc, class)? else {
         return Ok(None);
     };
-    if !settle(alloc, &filling, &mut found, rounds)? {
+    let Some(looks) = settle(alloc, &filling, &mut found, rounds)? else {
         return Ok(None);
-    }
+    };
     let table = found.into_table();
     let _class = table.class();
-    Ok(Some(table))
+    Ok(Some((table, looks)))
 }
 
 /// A true table with the column of the nearest mates too, where bytes tell it within so many rounds of looks; its other
@@ -100,8 +102,8 @@ pub fn filled_reach(alloc: Global, table: Table, library: &Library, rounds: u32)
     let table = found.into_table();
     let _class = table.class();
     match told {
-        Ok(true) => Reached::Filled(table),
-        Ok(false) => Reached::Untold(table.without_reach()),
+        Ok(Some(_looks)) => Reached::Filled(table),
+        Ok(None) => Reached::Untold(table.without_reach()),
         Err(_refused) => Reached::NoMemory(table.without_reach()),
     }
 }

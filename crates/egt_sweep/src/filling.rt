@@ -25,7 +25,7 @@ pub(crate) fn filled(
     ensures refused { IfErr result (λ fault. fault ≡ faults.NoMemory) }
 {
     let table = match filled_values(alloc, class, library, rounds) {
-        Ok(Some(table)) => table,
+        Ok(Some((table, _looks))) => table,
         Ok(None) => return Ok(None),
         Err(_refused) => return Err(BuildFault::NoMemory),
     };

@@ -32,8 +32,8 @@ returns-clause-scores c = λ told. record {
   plain = plain_scores (goal.at.returns-clause-scores c).After-part_scores c.if-not-part_scores.false;
   passed = λ some a b a_in b_in next own same.
       let four = c.beside_found-four.result in
-      let scores : c.deref_mut-5.result.now ≡ c.part_scores.new.scores = first_of (cc, search rules) in
-      let clocks : c.deref_mut-6.result.now ≡ c.part_scores.new.zeroing = first_of (cc, search rules) in
+      let scores : c.deref_mut-7.result.now ≡ c.part_scores.new.scores = first_of (cc, search rules) in
+      let clocks : c.deref_mut-8.result.now ≡ c.part_scores.new.zeroing = first_of (cc, search rules) in
       scores_same c.args.f.now.part four next (own ∙ sym c.beside_found-four.ensures.own) (same ∙ sym c.beside_found-four.ensures.children) true c.args.men.now c.args.item.now.side a b (at c.raise_part_passed.new.scores a b) (at c.raise_part_passed.new.zeroing a b)
       (c.raise_part_passed.ensures a b a_in b_in (rw (scores, clocks) (c.part_scores.ensures.scores c.if-not-part_scores.false a b a_in b_in)));
 }

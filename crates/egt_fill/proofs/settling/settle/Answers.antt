@@ -7,11 +7,8 @@ pub settle_all-requires-clause-under : goal.settle_all-requires-clause-under
 settle_all-requires-clause-under c =
     let f = c.args.f.now in
     let t = c.args.table.now in
-    let items = c.in-Some.items.items in
     let places = c.in-Some-2.places.items in
-    let stamps = c.in_ok-stamps.stamps.items in
-    subst (λ (l : List Item). IsUnderWay f t l c.deref-2.result.now c.deref_mut-2.result.now 1) (sym c.deref_mut.ensures.value)
-    (subst (λ (l : List ℕ). IsUnderWay f t items l c.deref_mut-2.result.now 1) (sym c.deref-2.ensures.value)
-    (subst (λ (l : List ℕ). IsUnderWay f t items places l 1) (sym c.deref_mut-2.ensures.value)
-    (begun_under_way f t items places stamps (subst (λ (o : Option (Vec Item _)). IfSome o (λ v. All (IsItem f t) v.items)) c.in-Some.is c.in_ok-items.ensures.items) (subst (λ (o : Option (Vec Item _)). IfSome o (λ v. All (λ (item : Item). item.looked ≡ 0) v.items)) c.in-Some.is c.in_ok-items.ensures.looked)
-    (subst (λ (l : List Item). AreNumbered l places) c.deref.ensures.value (subst (λ (o : Option (Vec ℕ _)). IfSome o (λ v. AreNumbered c.deref.result.now v.items)) c.in-Some-2.is c.in_ok-places.ensures.numbers)) c.in_ok-stamps.ensures.long c.in_ok-stamps.ensures.none)))
+    let marks = c.in_ok-marks.marks in
+    subst (λ (l : List Item). IsUnderWay f t l marks) (sym c.deref_mut.ensures.value)
+    (begun_under_way f t c.in-Some.items.items places marks (subst (λ (o : Option (Vec Item _)). IfSome o (λ v. All (IsItem f t) v.items)) c.in-Some.is c.in_ok-items.ensures.items) (subst (λ (o : Option (Vec Item _)). IfSome o (λ v. All (λ (item : Item). item.looked ≡ 0) v.items)) c.in-Some.is c.in_ok-items.ensures.looked)
+    (subst (λ (l : List Item). AreNumbered l places) c.deref.ensures.value (subst (λ (o : Option (Vec ℕ _)). IfSome o (λ v. AreNumbered c.deref.result.now v.items)) c.in-Some-2.is c.in_ok-places.ensures.numbers)) c.in_ok-marks.ensures.long c.in_ok-marks.ensures.none)

@@ -14,4 +14,4 @@ all_are_covered-requires-clause-own c =
     }
 
 pub all_are_covered-requires-clause-due : goal.all_are_covered-requires-clause-due
-all_are_covered-requires-clause-due c = c.settle_items.ensures.due c.if-not-settle_items.false
+all_are_covered-requires-clause-due c = c.in_ok-taken.ensures.due

@@ -1,6 +1,6 @@
-use Rattle.std.proofs.Common.{◌∙◌, ◌<◌, ℕ, Option, IfSome, subst, sym}
+use Rattle.std.proofs.Common.{◌≡◌, ◌∙◌, ◌<◌, ℕ, Option, Some, Result, IfOk, IfSome, subst, sym}
 use Rattle.egt_fill.specs.Prelude.{size_of, CodeScores, IsDrawnIndex, Reach, HasReachChildren, Tables, beside, table_at}
-use Rattle.egt_fill.specs.Prelude.{HasTrueChildren, IsTrueTable, IsTable, TableValue, IsWithReach}
+use Rattle.egt_fill.specs.Prelude.{HasTrueChildren, IsTrueTable, IsTable, TableValue, IsWithReach, Looks}
 use Rattle.egt_table.specs.declared.column.Column.TheVariants as columns
 use Rattle.egt_fill.proofs.FilledTables.{KeepsAll, reach_is_true, with_true_reach}
 use Rattle.egt_fill.proofs.tables.filled_reach.Goals as goal
@@ -8,8 +8,8 @@ use Rattle.egt_fill.proofs.tables.filled_reach.Goals as goal
 pub with_drawn_reach-requires-clause-drawn : goal.with_drawn_reach-requires-clause-drawn
 with_drawn_reach-requires-clause-drawn c = subst (λ n. (code : ℕ) → code < size_of n → IsDrawnIndex c.in-Ok-Some.scores code) c.class-class.ensures.class (subst (λ (o : Option CodeScores). IfSome o (λ rows. (code : ℕ) → code < size_of c.class-class.result → IsDrawnIndex rows code)) c.in-Ok-Some.field-0-is c.in-Ok-Some.ensures.drawn)
 
-pub returns-in-Ok-true : goal.returns-in-Ok-true
-returns-in-Ok-true c =
+pub returns-in-Ok-Some-told : goal.returns-in-Ok-Some-told
+returns-in-Ok-Some-told c =
     let tables : Tables = table_at c.args.library.now in
     let f = c.in-Some.filling in
     let old : TableValue = c.args.table in
@@ -23,7 +23,8 @@ returns-in-Ok-true c =
     } in
     let children = subst (HasTrueChildren tables) (sym (with.class ∙ sym c.class-class.ensures.class)) c.children_are_true.ensures in
     let reach_children = subst (HasReachChildren tables) (sym with.class) c.requires.reach_children in
-    let right : KeepsAll f.part (beside (table_at f.library.now) t) t = c.in-Ok-true.ensures.right c.in-Ok-true.field-0-test in
+    let some : c.in-Ok-Some-told.field-0 ≡ Some c.in-Ok-Some-told._looks = cc in
+    let right : KeepsAll f.part (beside (table_at f.library.now) t) t = subst (λ (o : Option Looks). IfSome o (λ looks. KeepsAll f.part (beside (table_at f.library.now) t) t)) some (subst (λ (r : Result (Option Looks) _). IfOk r (λ o. IfSome o (λ looks. KeepsAll f.part (beside (table_at f.library.now) t) t))) c.in-Ok-Some-told.is c.settle-told.ensures.right) in
     let keeps = subst (λ library. KeepsAll Reach (beside (table_at library) t) t) c.in-Some.ensures.library (subst (λ part. KeepsAll part (beside (table_at f.library.now) t) t) c.in-Some.ensures.part right) in
     let same = c.into_table-table.ensures in
     subst (λ (u : TableValue). IsWithReach old u × IsTrueTable u) (sym same) (

@@ -1,5 +1,5 @@
 use Rattle.std.proofs.Common.{◌≡◌, ◌∙◌, None, Option, IfSome, subst, sym}
-use Rattle.egt_fill.specs.Prelude.{Values, Tables, beside, table_at, HasTrueChildren, IsTrueTable, IsTable, TableValue}
+use Rattle.egt_fill.specs.Prelude.{Values, Tables, beside, table_at, HasTrueChildren, IsTrueTable, IsTable, TableValue, Looks}
 use Rattle.egt_fill.proofs.FilledTables.{KeepsAll, values_are_true}
 use Rattle.egt_fill.proofs.tables.filled_values.Goals as goal
 
@@ -13,7 +13,7 @@ returns-clause-truth c =
     let lacks = subst (λ (o : Option TableValue). IfSome o (λ u. u.reach ≡ None)) c.in-Some-2.is begun.reach in
     let same = c.into_table-table.ensures in
     let children = subst (HasTrueChildren tables) (sym class) c.children_are_true.ensures in
-    let right : KeepsAll f.part (beside (table_at f.library.now) t) t = c.in_ok-settle.ensures.right c.if-not-branch.false in
+    let right : KeepsAll f.part (beside (table_at f.library.now) t) t = subst (λ (o : Option Looks). IfSome o (λ looks. KeepsAll f.part (beside (table_at f.library.now) t) t)) c.in-Some-3.is c.in_ok-looks.ensures.right in
     let keeps = subst (λ library. KeepsAll Values (beside (table_at library) t) t) c.in-Some.ensures.library (subst (λ part. KeepsAll part (beside (table_at f.library.now) t) t) c.in-Some.ensures.part right) in
     subst IsTrueTable (sym same)
     (values_are_true c.children_have_smaller_numbers.ensures.smaller tables t (subst IsTable same c.class-class.ensures.table) children
