@@ -1,8 +1,8 @@
 -- Which moves stay in a class.
 use Rattle.std.proofs.Common.{◌≡◌, ℕ, ◌<◌, ◌↔◌, not, Bool, true, false, Option, Some, None, IsTrue, eqb, refl, sym}
 use Rattle.std.proofs.Common.{subst, ◌∙◌, inl, inr}
-use Rattle.egt_sweep.specs.Prelude.{false≢true, and_parts, eqb-true, eq-eqb, Setup, IsAdmissible, Kind, Q, R, B, N, P}
-use Rattle.egt_sweep.specs.Prelude.{K, last_rank, rank_of, IsOf, IsIndex, Zeroes, IsPawnOn, Captures, Leads}
+use Rattle.egt_sweep.specs.Prelude.{false≢true, and_parts, eqb-true, eq-eqb, Setup, IsAdmissible, Kind, pawn_told}
+use Rattle.egt_sweep.specs.Prelude.{last_rank, rank_of, IsOf, IsIndex, Zeroes, IsPawnOn, Captures, Leads}
 use Rattle.egt_sweep.specs.Prelude.{FitsPromotion, promotes, is_pawn, Move, Metric, Mate, Zeroing, GoesOn, Laws}
 
 -- a test of what does not hold
@@ -14,14 +14,6 @@ does_not_zero false is = (λ t z. false≢true (is.1 z), λ none. refl)
 pub tests_equal : (b : Bool) (m n : ℕ) → b ≡ eqb m n → IsTrue b ↔ (m ≡ n)
 tests_equal b m n is = (λ t. eqb-true m n (sym is ∙ t), λ e. is ∙ eq-eqb m n e)
 
-pawn_kind : (kind : Kind) → is_pawn kind ≡ true → kind ≡ P
-pawn_kind P t = refl
-pawn_kind Q t = absurd (false≢true t)
-pawn_kind R t = absurd (false≢true t)
-pawn_kind B t = absurd (false≢true t)
-pawn_kind N t = absurd (false≢true t)
-pawn_kind K t = absurd (false≢true t)
-
 promoting : (b : Bool) (kind : Kind) → FitsPromotion b (Some kind) → b ≡ true
 promoting true kind fits = refl
 promoting false kind fits = absurd fits
@@ -32,7 +24,7 @@ no_promotion p q m leads none None e = sym e
 no_promotion p q m leads none (Some kind) e =
     let fits = subst (FitsPromotion (promotes leads.man m.to)) (sym e) leads.promotion in
     let t = promoting (promotes leads.man m.to) kind fits in
-    absurd (none (record { man = leads.man; stands = leads.stands; pawn = pawn_kind leads.man.kind (and_parts (is_pawn leads.man.kind) (eqb (rank_of m.to) (last_rank leads.man.side)) t).0 }))
+    absurd (none (record { man = leads.man; stands = leads.stands; pawn = pawn_told leads.man.kind (and_parts (is_pawn leads.man.kind) (eqb (rank_of m.to) (last_rank leads.man.side)) t).0 }))
 
 module _ (laws : Laws) (c : ℕ) where
   -- a position is of the class where it has an index there
