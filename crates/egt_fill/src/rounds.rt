@@ -80,7 +80,7 @@ fn visit_with(
     }
 }
 
-/// So visits the item with what is kept of either side.
+/// Visits the item with what is kept of both sides.
 fn visit(
     f: &Filling,
     table: &mut Found,
@@ -140,8 +140,8 @@ fn round(
     Some(looks)
 }
 
-/// Looks at items until nothing that one reads has changed since it was looked at: then all entries are due. How many looks were taken; `None` where entries
-/// are not told, and where so many rounds are too few.
+/// Looks at items until nothing that one reads has changed since it was looked at: then all entries are due. How many
+/// looks were taken; `None` where entries are not told, and where so many rounds are too few.
 pub(crate) fn settle_items(
     f: &Filling,
     table: &mut Found,

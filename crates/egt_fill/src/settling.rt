@@ -35,7 +35,8 @@ fn places_for(class: Class) -> usize
     ranks * RANK_PLACES
 }
 
-/// Looks at the items until all that is due is put, and sees that they are of all codes. How many looks were taken; `None` where so many rounds do not do.
+/// Looks at the items until all that is due is put, and sees that they are of all codes. How many looks were taken;
+/// `None` where so many rounds do not do.
 fn settle_all(
     f: &Filling,
     table: &mut Found,
