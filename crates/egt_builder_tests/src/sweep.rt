@@ -14,9 +14,9 @@ ghost use Rattle.egt_sweep.specs.MateColumn.{AreMateRanks};
 
 use egt_check::Library;
 use egt_class::Class;
-use egt_fixtures::shelf::named;
 use egt_graph::{Ranks, solve};
 use egt_index::size;
+use egt_plain::shelf::named;
 use egt_sweep::{BuildFault, MateGame, build};
 use egt_table::{Column, Table};
 use std::alloc::Global;

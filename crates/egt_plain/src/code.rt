@@ -39,7 +39,7 @@ pub(crate) fn rank(square: u8) -> u8 {
 }
 
 /// Whether a king on the one square attacks the other, or stands there.
-fn touch(one: u8, other: u8) -> bool {
+pub(crate) fn touch(one: u8, other: u8) -> bool {
     file(one).abs_diff(file(other)) <= 1 && rank(one).abs_diff(rank(other)) <= 1
 }
 

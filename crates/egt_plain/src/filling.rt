@@ -216,7 +216,7 @@ pub fn table_of(alloc: Global, tables: &PlainTables, class: u8) -> Result<Table,
     }
 }
 
-/// The same with the column of the nearest mates.
+/// The product's table of a class that was solved, by number, with all three columns.
 ///
 /// # Errors
 ///

@@ -1,14 +1,19 @@
-//! Plain tables of the first six classes, for tests: every position by its own code, with no symmetry, solved by sweeps
-//! forward. It is written from the rules of play alone and shares nothing with the indexes, moves and checker that tests hold
-//! against it: the kinds of men, the classes' numbers and the type of positions are all that it takes from them.
+//! What several crates of tests stand on. Plain tables of the first six classes: every position by its own code, with no symmetry, solved by
+//! sweeps forward, written from the rules of play alone (`filling` and `shelf` alone ask for indexes and sizes, and put the entries there).
+//! The table of two kings by the rule of kings alone; tables' files and libraries; runs by rounds in whatever order.
 #![tactic(auto)]
 
 mod code;
 mod filling;
+pub mod kings;
 mod mates;
 mod moves;
 mod outcome;
 mod reach;
+pub mod runs;
+pub mod shelf;
+mod solving;
+pub mod steps;
 mod tables;
 mod zeroing;
 

@@ -2,8 +2,9 @@
 //! where one of them is lost in less than n, and lost in n where all are won in less, or where it is checkmate and n is 0.
 use crate::code::{PlainPosition, code_count};
 use crate::outcome::{DRAW, is_loss_below, is_win_below, loss, win};
-use crate::tables::{PlainTables, entry_at};
+use crate::tables::PlainTables;
 use egt_board::Kind;
+use egt_table::Column;
 use std::alloc::{AllocError, Global};
 
 /// 1 for each code that is a position, and 0 for the others.
@@ -14,20 +15,6 @@ fn undecided(alloc: Global, third: Option<Kind>) -> Result<Vec<u16>, AllocError>
         column.push(u16::from(is_position))?;
     }
     Ok(column)
-}
-
-/// The mate entry of a position, which is of the class in work or of one that was solved; 0 where it is none.
-fn entry_of(
-    column: &[u16],
-    third: Option<Kind>,
-    solved: &PlainTables,
-    position: PlainPosition,
-) -> u16 {
-    if position.third.map(|(kind, _)| kind) == third {
-        entry_at(column, position.code())
-    } else {
-        solved.mate_of(position)
-    }
 }
 
 /// What sweep n finds of a position: an entry where it is decided.
@@ -41,7 +28,7 @@ fn decided(
     let mut has_move = false;
     let mut all_won = true;
     for successor in position.successors().as_slice() {
-        let entry = entry_of(column, third, solved, successor.position);
+        let entry = solved.entry_beside(Column::Mate, third, column, successor.position);
         if entry != 0 {
             has_move = true;
             if is_loss_below(entry, plies) {

@@ -2,8 +2,9 @@
 //! which no number is known: it is n where the number of one of them is less.
 use crate::code::PlainPosition;
 use crate::outcome::loss;
-use crate::tables::{PlainTables, entry_at};
+use crate::tables::PlainTables;
 use egt_board::Kind;
+use egt_table::Column;
 use std::alloc::{AllocError, Global};
 
 /// The entry of a position of which no number is known: in the end no checkmate is reached from it.
@@ -25,20 +26,6 @@ fn begun(alloc: Global, mate: &[u16]) -> Result<Vec<u16>, AllocError> {
     Ok(column)
 }
 
-/// The entry of a position, which is of the class in work or of one that was solved; 0 where it is none.
-fn entry_of(
-    column: &[u16],
-    third: Option<Kind>,
-    solved: &PlainTables,
-    position: PlainPosition,
-) -> u16 {
-    if position.third.map(|(kind, _)| kind) == third {
-        entry_at(column, position.code())
-    } else {
-        solved.reach_of(position)
-    }
-}
-
 /// Whether a successor has an entry from that of checkmate on and below this one.
 fn leads_below(
     column: &[u16],
@@ -48,7 +35,7 @@ fn leads_below(
     entry: u16,
 ) -> bool {
     for successor in position.successors().as_slice() {
-        let reached = entry_of(column, third, solved, successor.position);
+        let reached = solved.entry_beside(Column::Reach, third, column, successor.position);
         if MATE <= reached && reached < entry {
             return true;
         }

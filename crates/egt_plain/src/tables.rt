@@ -1,10 +1,7 @@
 //! The tables of the classes.
 use crate::code::{PlainPosition, THIRD};
-use crate::mates::solve_mates;
-use crate::reach::solve_reach;
-use crate::zeroing::solve_zeroing;
+use egt_board::Kind;
 use egt_table::Column;
-use std::alloc::{AllocError, Global};
 
 /// The columns of a class, by code.
 #[derive(Drop)]
@@ -23,24 +20,6 @@ pub struct PlainTables {
 }
 
 impl PlainTables {
-    /// Solves the first classes, so many.
-    pub fn solve(alloc: Global, classes: usize) -> Result<PlainTables, AllocError> {
-        let mut solved = PlainTables {
-            tables: Vec::with_capacity(alloc, THIRD.len())?,
-        };
-        for third in THIRD.iter().take(classes) {
-            let mate = solve_mates(alloc, *third, &solved)?;
-            let zeroing = solve_zeroing(alloc, *third, &mate, &solved)?;
-            let reach = solve_reach(alloc, *third, &mate, &solved)?;
-            solved.tables.push(PlainTable {
-                mate,
-                zeroing,
-                reach,
-            })?;
-        }
-        Ok(solved)
-    }
-
     /// The entries of a class, by number; none where it was not solved.
     pub fn entries(&self, class: usize, column: Column) -> &[u16] {
         match self.tables.get(class) {
@@ -64,14 +43,19 @@ impl PlainTables {
         0
     }
 
-    /// Its mate entry.
-    pub(crate) fn mate_of(&self, position: PlainPosition) -> u16 {
-        self.entry_of(Column::Mate, position)
-    }
-
-    /// Its entry in the column of the nearest mates.
-    pub(crate) fn reach_of(&self, position: PlainPosition) -> u16 {
-        self.entry_of(Column::Reach, position)
+    /// The entry of a position, which is of a class that was solved or of the one in work, of which this is the column; 0 where it is none.
+    pub(crate) fn entry_beside(
+        &self,
+        column: Column,
+        third: Option<Kind>,
+        in_work: &[u16],
+        position: PlainPosition,
+    ) -> u16 {
+        if position.third.map(|(kind, _)| kind) == third {
+            entry_at(in_work, position.code())
+        } else {
+            self.entry_of(column, position)
+        }
     }
 }
 

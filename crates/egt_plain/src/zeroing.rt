@@ -6,6 +6,7 @@ use crate::moves::Successor;
 use crate::outcome::{DRAW, is_loss, is_loss_below, is_win, is_win_below, loss, win};
 use crate::tables::{PlainTables, entry_at};
 use egt_board::Kind;
+use egt_table::Column;
 use std::alloc::{AllocError, Global};
 
 /// The entry of a position that is won or lost and not decided yet: later than any.
@@ -23,11 +24,8 @@ struct Known<'k> {
 impl Known<'_> {
     /// The mate entry of a position; 0 where it is none.
     fn mate_of(self, position: PlainPosition) -> u16 {
-        if position.third.map(|(kind, _)| kind) == self.third {
-            entry_at(self.mate, position.code())
-        } else {
-            self.solved.mate_of(position)
-        }
+        self.solved
+            .entry_beside(Column::Mate, self.third, self.mate, position)
     }
 
     /// Whether the move is one to a lost position that zeroes or leads to a loss in less than so many plies.

@@ -4,8 +4,8 @@ mod refused;
 mod streams;
 mod writing;
 
-use egt_fixtures::kings::{SIZE, entry};
-use egt_fixtures::shelf::entry_of;
+use egt_plain::kings::{SIZE, entry};
+use egt_plain::shelf::entry_of;
 use egt_table::{Column, Table};
 
 /// Whether the column has the entries of two kings, from a code on.

@@ -1,6 +1,6 @@
 //! What is answered to whole inputs.
 use egt_check::Library;
-use egt_fixtures::shelf::{library_below, whole_library_below};
+use egt_plain::shelf::{library_below, whole_library_below};
 use egt_probe::answer;
 use egt_table::{MemorySink, MemorySource};
 use std::alloc::Global;

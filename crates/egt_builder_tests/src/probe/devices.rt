@@ -1,6 +1,6 @@
 //! Each pull and each push fails in turn: the answer is `Device`, and what was written is a beginning of the reports.
 use super::answers::answered;
-use egt_fixtures::shelf::library_below;
+use egt_plain::shelf::library_below;
 use egt_probe::{AnswerFault, answer};
 use egt_table::{FailingSink, FailingSource, MemorySink, MemorySource};
 use std::alloc::Global;

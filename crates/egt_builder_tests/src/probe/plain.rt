@@ -1,7 +1,7 @@
 //! The verdicts of all positions of the first six classes, against plain tables, with the column of the nearest mates and without.
 use egt_board::{Position, Side};
 use egt_check::Library;
-use egt_fixtures::shelf::{library_of, whole_library_of};
+use egt_plain::shelf::{library_of, whole_library_of};
 use egt_plain::{PlainPosition, PlainTables, THIRD, position_of};
 use egt_probe::{Outcome, verdict};
 use egt_table::Column;

@@ -2,7 +2,7 @@
 use egt_board::{Position, Side};
 use egt_class::Class;
 use egt_fen::read;
-use egt_fixtures::shelf::{library_below, whole_library_below};
+use egt_plain::shelf::{library_below, whole_library_below};
 use egt_probe::{AnswerFault, HoldFault, LineFault, Outcome, hold, line, verdict};
 use std::test::*;
 

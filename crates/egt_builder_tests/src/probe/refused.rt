@@ -2,8 +2,8 @@
 //! `rt try --test --fail-alloc N`, from 1 until a run meets none.
 use egt_check::Library;
 use egt_fen::read;
-use egt_fixtures::shelf::library_below;
 use egt_moves::Move;
+use egt_plain::shelf::library_below;
 use egt_probe::{AnswerFault, LineFault, answer, line};
 use egt_table::{MemorySink, MemorySource};
 use std::alloc::Global;

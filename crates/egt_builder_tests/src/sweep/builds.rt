@@ -2,8 +2,8 @@
 use super::{built, built_over, longest_win};
 use egt_check::{Library, Reject, check};
 use egt_class::Class;
-use egt_fixtures::shelf::{entry_of, file_of, named};
 use egt_graph::Ranks;
+use egt_plain::shelf::{entry_of, file_of, named};
 use egt_sweep::{BuildFault, MigrateFault, build};
 use egt_table::{Column, Table};
 use std::alloc::Global;

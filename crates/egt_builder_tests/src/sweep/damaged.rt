@@ -2,8 +2,8 @@
 use super::built;
 use egt_check::{Library, Reject, check};
 use egt_class::Class;
-use egt_fixtures::shelf::named;
 use egt_graph::{Nears, Ranks};
+use egt_plain::shelf::named;
 use egt_sweep::build;
 use egt_table::{Column, Table};
 use std::alloc::Global;

@@ -1,8 +1,8 @@
 //! Tables that are built, beside public figures and beside tables of sweeps forward.
 use super::{built, longest_win};
 use egt_class::Class;
-use egt_fixtures::shelf::{file_of, named, whole_library_of};
 use egt_index::size;
+use egt_plain::shelf::{file_of, named, whole_library_of};
 use egt_plain::{PlainTables, whole_table_of};
 use egt_sweep::{build, build_within};
 use egt_table::{Column, Table};

@@ -1,8 +1,8 @@
 //! How far the nearest mate is, and the game that tells it.
 use egt_check::Library;
 use egt_class::Class;
-use egt_fixtures::shelf::{library_below, named, whole_library_below};
 use egt_graph::{Exit, Game, nearest};
+use egt_plain::shelf::{library_below, named, whole_library_below};
 use egt_sweep::{BuildFault, ReachGame};
 use std::test::*;
 

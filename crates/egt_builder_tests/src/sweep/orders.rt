@@ -5,11 +5,9 @@ ghost use Rattle.egt_sweep.specs.MateColumn.{AreMateRanks};
 use super::{built, mates};
 use egt_check::Library;
 use egt_class::Class;
-use egt_fixtures::runs::{
-    expand, played, post_all, post_block, with_draws, with_held, with_losses,
-};
-use egt_fixtures::shelf::{file_of, named};
 use egt_graph::{Batch, Close, Game, Post, Ranks, Rounds, solve};
+use egt_plain::runs::{expand, played, post_all, post_block, with_draws, with_held, with_losses};
+use egt_plain::shelf::{file_of, named};
 use egt_sweep::{MateGame, ZeroGame};
 use egt_table::Table;
 use std::alloc::Global;

@@ -4,7 +4,7 @@ ghost use Rattle.std.specs.Prelude.{◌≤◌};
 
 use egt_check::Library;
 use egt_class::Class;
-use egt_fixtures::shelf::{entry_of, named};
+use egt_plain::shelf::{entry_of, named};
 use egt_sweep::{BuildFault, build};
 use egt_table::{Column, NoMemory, Table};
 use std::alloc::Global;

@@ -2,9 +2,9 @@
 use super::reference::{Columns, Reference};
 use egt_check::{Library, Reject, check};
 use egt_class::Class;
-use egt_fixtures::shelf::{library_of, whole_library_of};
 use egt_graph::{Nears, Ranks};
 use egt_plain::PlainTables;
+use egt_plain::shelf::{library_of, whole_library_of};
 use egt_table::{Column, Table};
 use std::alloc::Global;
 use std::test::*;

@@ -1,8 +1,8 @@
 //! What the checker answers to tables that are not true.
 use egt_check::{Library, Reject, Rule, check};
 use egt_class::Class;
-use egt_fixtures::kings::{table_with, whole_table_with};
 use egt_graph::{Nears, Ranks};
+use egt_plain::kings::{table_with, whole_table_with};
 use egt_table::{Column, Table};
 use std::alloc::Global;
 use std::test::*;

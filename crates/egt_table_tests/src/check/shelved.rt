@@ -1,8 +1,8 @@
 //! What a library takes and gives.
 use egt_check::{Library, Reject, Rule};
 use egt_class::Class;
-use egt_fixtures::kings::table_with;
-use egt_fixtures::shelf::entry_of;
+use egt_plain::kings::table_with;
+use egt_plain::shelf::entry_of;
 use egt_table::Column;
 use std::test::*;
 

@@ -1,10 +1,10 @@
 //! What is read, and which fault other bytes have.
 use super::has_kings;
 use egt_class::Class;
-use egt_fixtures::kings::{
+use egt_plain::kings::{
     LENGTH, class, flip, kings_file, table_with, whole_kings_file, whole_table_with,
 };
-use egt_fixtures::shelf::{entry_of, file_of};
+use egt_plain::shelf::{entry_of, file_of};
 use egt_table::{Column, Device, FailingSource, FileFault, MemorySource, Source, Table};
 use std::alloc::Global;
 use std::test::*;

@@ -1,6 +1,6 @@
 //! A growth that is refused is answered so, and the next call answers as ever. The growths are refused one by one by
 //! `rt try --test --fail-alloc N`, from 1 until a run meets none.
-use egt_fixtures::kings::{class, kings_file};
+use egt_plain::kings::{class, kings_file};
 use egt_table::{FileFault, MemorySource, Table};
 use std::alloc::Global;
 use std::test::*;

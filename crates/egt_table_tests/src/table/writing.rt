@@ -1,6 +1,6 @@
 //! What is written.
-use egt_fixtures::kings::{LENGTH, kings_file, table_with, whole_kings_file};
-use egt_fixtures::shelf::file_of;
+use egt_plain::kings::{LENGTH, kings_file, table_with, whole_kings_file};
+use egt_plain::shelf::file_of;
 use egt_table::{Device, FailingSink, MemorySink, Sink, Table};
 use std::alloc::Global;
 use std::test::*;

@@ -1,7 +1,7 @@
 //! Checks and statistics of tables in files.
 use super::{both_print, changed, fails, folder, is_damaged, is_wrong, prints, put, run_on};
-use egt_fixtures::kings::kings_file;
-use egt_fixtures::shelf::file_of;
+use egt_plain::kings::kings_file;
+use egt_plain::shelf::file_of;
 use egt_plain::{PlainTables, table_of};
 use std::fs;
 use std::test::Fail;

@@ -2,8 +2,8 @@
 use super::{
     KINGS, Step, all_go, changed, fails, folder, goes, has_file, holds, is_damaged, is_wrong, put,
 };
-use egt_fixtures::kings::{WHOLE_LENGTH, kings_file, whole_kings_file};
-use egt_fixtures::shelf::file_of;
+use egt_plain::kings::{WHOLE_LENGTH, kings_file, whole_kings_file};
+use egt_plain::shelf::file_of;
 use egt_plain::{PlainTables, table_of, whole_table_of};
 use egt_sweep::MigrateFault;
 use egt_tool::ToolFault;

@@ -1,7 +1,7 @@
 //! Checks and reports of all files that a folder has.
 use super::{KINGS, Step, all_go, changed, fails, folder, put};
-use egt_fixtures::kings::{kings_file, whole_kings_file};
-use egt_fixtures::shelf::file_of;
+use egt_plain::kings::{kings_file, whole_kings_file};
+use egt_plain::shelf::file_of;
 use egt_plain::{PlainTables, whole_table_of};
 use std::fs;
 use std::test::Fail;

@@ -1,6 +1,6 @@
 //! Files that are replaced, and files that are not since a call of the system failed.
 use super::{Step, folder, goes, holds, put};
-use egt_fixtures::kings::{kings_file, whole_kings_file};
+use egt_plain::kings::{kings_file, whole_kings_file};
 use egt_table::{MemorySink, MemorySource};
 use egt_tool::run;
 use std::alloc::Allocator;

@@ -1,5 +1,6 @@
 //! The table of two kings: each position is a draw where the kings do not touch. A code is void where they do, or where
 //! another code is less and spells the same position in another image.
+use crate::code::touch;
 use crate::shelf::file_of;
 use egt_class::Class;
 use egt_graph::{Nears, Ranks};
@@ -34,10 +35,6 @@ fn turned(square: u8, symmetry: u8) -> u8 {
     } else {
         8 * rank + file
     }
-}
-
-fn touch(one: u8, other: u8) -> bool {
-    (one % 8).abs_diff(other % 8) <= 1 && (one / 8).abs_diff(other / 8) <= 1
 }
 
 /// The code that has the white king in the triangle.
@@ -110,7 +107,7 @@ pub fn table_with(
     }
 }
 
-/// The same with the column of the nearest mates, and other entries there.
+/// The table of two kings with all three columns, with another entry at some codes of each.
 pub fn whole_table_with(
     alloc: Global,
     mate: &[(u32, u16)],
@@ -138,7 +135,7 @@ pub fn kings_file(alloc: Global) -> Result<Vec<u8>, Fail> {
     file_of(alloc, &table_with(alloc, &[], &[])?)
 }
 
-/// The file of the same with the column of the nearest mates.
+/// The file of their table with the column of the nearest mates.
 pub fn whole_kings_file(alloc: Global) -> Result<Vec<u8>, Fail> {
     file_of(alloc, &whole_table_with(alloc, &[], &[], &[])?)
 }

@@ -2,10 +2,11 @@
 ghost use Rattle.std.specs.Prelude.{◌≡◌, true};
 ghost use Rattle.egt_table.specs.Table.{HasColumn};
 
+use crate::filling::{table_of, whole_table_of};
+use crate::tables::PlainTables;
 use egt_check::Library;
 use egt_class::{Class, by_name};
 use egt_index::size;
-use egt_plain::{PlainTables, table_of, whole_table_of};
 use egt_table::{Column, MemorySink, Table};
 use std::alloc::Global;
 use std::test::Fail;
@@ -26,7 +27,7 @@ pub fn library_of(alloc: Global, tables: &PlainTables, end: u8) -> Result<Librar
     Ok(library)
 }
 
-/// The same with the column of the nearest mates in each.
+/// A library with these plain tables, the column of the nearest mates in each, of the classes below a number, which is at most 6.
 pub fn whole_library_of(alloc: Global, tables: &PlainTables, end: u8) -> Result<Library, Fail> {
     let mut library = Library::new(alloc)?;
     for class in 0..end {
@@ -43,7 +44,7 @@ pub fn library_below(alloc: Global, end: u8) -> Result<Library, Fail> {
     library_of(alloc, &PlainTables::solve(alloc, usize::from(end))?, end)
 }
 
-/// The same with the column of the nearest mates in each.
+/// The library of the first tables with the column of the nearest mates in each, with the plain tables made anew.
 pub fn whole_library_below(alloc: Global, end: u8) -> Result<Library, Fail> {
     whole_library_of(alloc, &PlainTables::solve(alloc, usize::from(end))?, end)
 }

@@ -1,5 +1,5 @@
 use Rattle.std.proofs.Common.{◌≡◌}
-use Rattle.egt_fixtures.proofs.runs.post_all.Given as goal
+use Rattle.egt_plain.proofs.runs.play_with_losses.Given as goal
 
 -- the run is over the same game
 abbrev pub invariant-loop-block : goal.invariant-loop-block

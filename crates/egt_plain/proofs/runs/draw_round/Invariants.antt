@@ -1,5 +1,5 @@
 use Rattle.std.proofs.Common.{◌≡◌}
-use Rattle.egt_fixtures.proofs.runs.draw_round.Given as goal
+use Rattle.egt_plain.proofs.runs.draw_round.Given as goal
 
 -- the run is over the same game
 abbrev pub invariant-loop-draw : goal.invariant-loop-draw
