@@ -1,5 +1,5 @@
 -- Which entry is due, by the best score of a step.
-use Rattle.std.proofs.Common.{◌≡◌, ℕ, zero, suc, IfSome, ◌+◌, ◌<◌, ◌≤◌, ◌⊎◌, ◌↔◌, inl, inr, Bool, true, false, IsTrue}
+use Rattle.std.proofs.Common.{◌≡◌, ℕ, zero, suc, IfSome, ◌-◌, ◌<◌, ◌≤◌, ◌⊎◌, ◌↔◌, inl, inr, Bool, true, false, IsTrue}
 use Rattle.std.proofs.Common.{Option, Some, None, refl, sym, ap, subst, ◌∙◌, arith}
 use Rattle.egt_entries.specs.Prelude.{cases_lt, Setup, Value, Win, Loss, Draw, NoMove, SomeMove, IsStalemate, Ends}
 use Rattle.egt_entries.specs.Prelude.{chess, StandsAs, Standing, Checkmate, Stalemate, HasMove, Metric, Mate, Zeroing}
@@ -7,6 +7,8 @@ use Rattle.egt_entries.specs.Prelude.{ByMetric, Outcome, longest, IsShort, entry
 use Rattle.egt_entries.specs.Prelude.{number_at, value_of, Says, IsCounted, IsSaid, score_of, IsBest, loss_in, win_in}
 use Rattle.egt_entries.specs.Prelude.{zeroing_said, IsAtEnd, entry_before, IsDueDraw, IsDue}
 use Rattle.egt_entries.specs.declared.outcome.Outcome.TheVariants as outcomes
+use Rattle.std.proofs.lemmas.Bool.Decides.{nat_tests}
+use Rattle.std.proofs.lemmas.Grind.{common_steps}
 
 -- what each column shows of a position is one thing, for which an entry has room
 pub record IsOne (shows : Shown) (q : Setup) : Type 0 where
@@ -19,20 +21,10 @@ IsShownOf shows metric q (Some outcome) = shows metric q (value_of outcome)
 IsShownOf shows metric q None = (v : Value) → ¬ shows metric q v
 
 pub same_value : (a b : Outcome) → value_of a ≡ value_of b → a ≡ b
-same_value (outcomes.Win i) (outcomes.Win j) e = cc
-same_value (outcomes.Win i) (outcomes.Loss j) e = cc
-same_value (outcomes.Win i) outcomes.Draw e = cc
-same_value (outcomes.Loss i) (outcomes.Win j) e = cc
-same_value (outcomes.Loss i) (outcomes.Loss j) e = cc
-same_value (outcomes.Loss i) outcomes.Draw e = cc
-same_value outcomes.Draw (outcomes.Win j) e = cc
-same_value outcomes.Draw (outcomes.Loss j) e = cc
-same_value outcomes.Draw outcomes.Draw e = refl
+same_value a b e = grind (arith, common_steps)
 
 is_counted : (outcome : Outcome) → IsShort (value_of outcome) → IsCounted outcome
-is_counted (outcomes.Win k) short = short.1
-is_counted (outcomes.Loss k) short = short
-is_counted outcomes.Draw short = tt
+is_counted outcome short = grind (arith, nat_tests)
 
 pub said_counted : (shows : Shown) (metric : Metric) (p q : Setup) (m : chess.Move p q) (said : Option Outcome) → IsSaid shows metric p q m said → IfSome said IsCounted
 said_counted shows metric p q m (Some outcome) h = h.1
@@ -50,14 +42,10 @@ module _ (shows : Shown) (p q : Setup) (m : chess.Move p q) (one : IsOne shows q
   same_count kind i j back (inr a) (inr b) = back (one.one Zeroing (kind i) (kind j) a.1 b.1)
 
   mate_shows : (outcome : Outcome) → Says shows Mate p q m outcome → shows Mate q (value_of outcome)
-  mate_shows (outcomes.Win k) says = says
-  mate_shows (outcomes.Loss k) says = says
-  mate_shows outcomes.Draw says = says
+  mate_shows outcome says = grind (arith, common_steps)
 
   mate_says : (outcome : Outcome) → shows Mate q (value_of outcome) → Says shows Mate p q m outcome
-  mate_says (outcomes.Win k) shown = shown
-  mate_says (outcomes.Loss k) shown = shown
-  mate_says outcomes.Draw shown = shown
+  mate_says outcome shown = grind (arith, common_steps)
 
   -- a step says one thing
   says_once : (metric : Metric) (a b : Outcome) → Says shows metric p q m a → Says shows metric p q m b → a ≡ b
@@ -129,60 +117,30 @@ module _ (shows : Shown) (p q : Setup) (m : chess.Move p q) (one : IsOne shows q
   zeroing_is_said None zeroing zeroes h z b = neither (λ k says. h (Win says.0.0) says.0.1) (λ k says. h (Loss says.0.0) says.0.1)
 
 -- a score tells what was said, up to nothing
-below_draw : (said : Option Outcome) → IfSome said IsCounted → score_of said ≤ longest → (k : ℕ) × (said ≡ Some (outcomes.Win k)) × (k ≡ score_of said)
-below_draw (Some (outcomes.Win k)) counted low = (k, refl, refl)
-below_draw (Some (outcomes.Loss k)) counted low = absurd (omega arith)
-below_draw (Some outcomes.Draw) counted low = absurd (omega arith)
-below_draw None counted low = absurd (omega arith)
+below_draw : (said : Option Outcome) → IfSome said IsCounted → score_of said ≤ longest → said ≡ Some (outcomes.Win (score_of said))
+below_draw said counted low = grind (arith, nat_tests)
 
-above_draw : (said : Option Outcome) → IfSome said IsCounted → 33000 ≤ score_of said → (k : ℕ) × (said ≡ Some (outcomes.Loss k)) × (k + score_of said ≡ 65000)
-above_draw (Some (outcomes.Loss k)) counted high = (k, refl, omega arith)
-above_draw (Some (outcomes.Win k)) counted high = absurd (omega arith)
-above_draw (Some outcomes.Draw) counted high = absurd (omega arith)
-above_draw None counted high = absurd (omega arith)
+above_draw : (said : Option Outcome) → IfSome said IsCounted → 33000 ≤ score_of said → said ≡ Some (outcomes.Loss (65000 - score_of said))
+above_draw said counted high = grind (arith, nat_tests)
 
-at_draw : (said : Option Outcome) → IfSome said IsCounted → score_of said ≡ 32002 → said ≡ Some outcomes.Draw
-at_draw (Some outcomes.Draw) counted at = refl
-at_draw (Some (outcomes.Win k)) counted at = absurd (omega arith)
-at_draw (Some (outcomes.Loss k)) counted at = absurd (omega arith)
-at_draw None counted at = absurd (omega arith)
-
-between : (said : Option Outcome) → IfSome said IsCounted → 32002 ≤ score_of said → score_of said < 33000 → score_of said ≡ 32002
-between (Some outcomes.Draw) counted low high = refl
-between (Some (outcomes.Win k)) counted low high = absurd (omega arith)
-between (Some (outcomes.Loss k)) counted low high = absurd (omega arith)
-between None counted low high = absurd (omega arith)
+at_draw : (said : Option Outcome) → IfSome said IsCounted → 32002 ≤ score_of said → score_of said < 33000 → said ≡ Some outcomes.Draw
+at_draw said counted low high = grind (arith, nat_tests)
 
 -- the entry that is due shows the value after what was said
 win_is_due : (said : Option Outcome) (n : ℕ) → entry_before said ≡ entry_of (Win (suc n)) → said ≡ Some (outcomes.Loss n)
-win_is_due (Some (outcomes.Loss k)) n e = let same : k ≡ n = omega arith in ap (λ i. Some (outcomes.Loss i)) same
-win_is_due (Some (outcomes.Win k)) n e = absurd (omega arith)
-win_is_due (Some outcomes.Draw) n e = absurd (omega arith)
-win_is_due None n e = absurd (omega arith)
+win_is_due said n e = grind (arith, nat_tests)
 
 loss_is_due : (said : Option Outcome) (n : ℕ) → entry_before said ≡ entry_of (Loss (suc n)) → said ≡ Some (outcomes.Win n)
-loss_is_due (Some (outcomes.Win k)) n e = let same : k ≡ n = omega arith in ap (λ i. Some (outcomes.Win i)) same
-loss_is_due (Some (outcomes.Loss k)) n e = absurd (omega arith)
-loss_is_due (Some outcomes.Draw) n e = absurd (omega arith)
-loss_is_due None n e = absurd (omega arith)
+loss_is_due said n e = grind (arith, nat_tests)
 
 draw_is_due : (said : Option Outcome) → entry_before said ≡ entry_of Draw → said ≡ Some outcomes.Draw
-draw_is_due (Some outcomes.Draw) e = refl
-draw_is_due (Some (outcomes.Win k)) e = absurd (omega arith)
-draw_is_due (Some (outcomes.Loss k)) e = absurd (omega arith)
-draw_is_due None e = absurd (omega arith)
+draw_is_due said e = grind (arith, nat_tests)
 
 no_win_at_once : (said : Option Outcome) → ¬ (entry_before said ≡ entry_of (Win zero))
-no_win_at_once (Some (outcomes.Loss k)) e = omega arith
-no_win_at_once (Some (outcomes.Win k)) e = omega arith
-no_win_at_once (Some outcomes.Draw) e = omega arith
-no_win_at_once None e = omega arith
+no_win_at_once said e = grind (arith, nat_tests)
 
 no_loss_at_once : (said : Option Outcome) → ¬ (entry_before said ≡ entry_of (Loss zero))
-no_loss_at_once (Some (outcomes.Loss k)) e = omega arith
-no_loss_at_once (Some (outcomes.Win k)) e = omega arith
-no_loss_at_once (Some outcomes.Draw) e = omega arith
-no_loss_at_once None e = omega arith
+no_loss_at_once said e = grind (arith, nat_tests)
 
 module _ (shows : Shown) (metric : Metric) (p : Setup) (one : (q : Setup) → chess.Move p q → IsOne shows q) (best : ℕ) (is : IsBest shows metric p best) where
   -- what the best step says
@@ -207,8 +165,7 @@ module _ (shows : Shown) (metric : Metric) (p : Setup) (one : (q : Setup) → ch
   least_loss : (n : ℕ) (q : Setup) (m : chess.Move p q) → Says shows metric p q m (outcomes.Loss n) → (k : ℕ) × (best_said ≡ Some (outcomes.Loss k)) × (k ≤ n)
   least_loss n q m says =
       let h = highest q m (outcomes.Loss n) says in
-      let l = above_draw best_said best_counted (omega (arith, h.0, h.1)) in
-      (l.0, l.1, omega (arith, l.2, h.0, h.1))
+      (65000 - score_of best_said, above_draw best_said best_counted (omega (arith, h.0, h.1)), omega (arith, h.0, h.1))
 
   win_due : (n : ℕ) → FitsBeside shows metric p (Win n) ↔ (entry_before best_said ≡ entry_of (Win n))
   win_due zero = ((λ h. absurd h), (λ e. no_win_at_once best_said e))
@@ -240,7 +197,7 @@ module _ (shows : Shown) (metric : Metric) (p : Setup) (one : (q : Setup) → ch
       let high : score_of best_said ≡ n = ap score_of e in
       let low : score_of s.1.said ≤ n = omega (arith, s.2, s.1.is, is.reached.is) in
       let w = below_draw s.1.said (said_counted shows metric p q m s.1.said s.1.is_said) (omega (arith, counts)) in
-      (w.0, (subst (IsSaid shows metric p q m) w.1 s.1.is_said).0, omega (arith, w.2))
+      (score_of s.1.said, (subst (IsSaid shows metric p q m) w s.1.is_said).0, low)
 
   loss_due : Ends chess → (n : ℕ) → FitsBeside shows metric p (Loss n) ↔ (entry_before best_said ≡ entry_of (Loss n))
   loss_due ends zero = ((λ mate. absurd (ends p mate is.next is.step)), (λ e. absurd (no_loss_at_once best_said e)))
@@ -277,10 +234,8 @@ module _ (shows : Shown) (p : Setup) (one : (q : Setup) → chess.Move p q → I
         | inl low ↦
             let high = highest shows Mate p one best is some.0 some.1 outcomes.Draw some.2 in
             let counts = best_counted shows Mate p one best is in
-            ap entry_before (at_draw mate_said_best counts (between mate_said_best counts high.0 low))
-        | inr high ↦
-            let l = above_draw mate_said_best (best_counted shows Mate p one best is) high in
-            absurd (no_loss h l.0 l.1)
+            ap entry_before (at_draw mate_said_best counts high.0 low)
+        | inr high ↦ absurd (no_loss h _ (above_draw mate_said_best (best_counted shows Mate p one best is) high))
       ]
 
       there : FitsBeside shows Mate p Draw → entry_before mate_said_best ≡ entry_of Draw
