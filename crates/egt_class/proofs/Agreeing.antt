@@ -1,7 +1,8 @@
 -- Counts of men that agree at every man but the kings.
 use Rattle.std.proofs.Common.{◌≡◌, ◌≢◌, ℕ, Bool, true, false, eqb, List, [], ◌∷◌, refl, ap, ◌∙◌}
-use Rattle.egt_class.specs.Prelude.{eq-eqb, eqb-true, false≢true, Side, White, Black, Kind, Q, R, B, N, P, K, Man}
+use Rattle.egt_class.specs.Prelude.{eq-eqb, eqb-true, Side, Kind, K, Man}
 use Rattle.egt_class.specs.Prelude.{men_beside, agree_at, man_of}
+use Rattle.std.proofs.Common.{arith}
 
 abbrev Agree : List Man → (Man → ℕ) → (Man → ℕ) → Type 0
 Agree [] f g = Unit {0}
@@ -12,13 +13,11 @@ and_so b rest = elim b [ true ↦ rest | false ↦ false ]
 
 told_first : (b rest : Bool) → and_so b rest ≡ true → b ≡ true
 unfolding and_so
-told_first true rest told = refl
-told_first false rest told = absurd (false≢true told)
+told_first b rest told = grind arith
 
 told_rest : (b rest : Bool) → and_so b rest ≡ true → rest ≡ true
 unfolding and_so
-told_rest true rest told = told
-told_rest false rest told = absurd (false≢true told)
+told_rest b rest told = grind arith
 
 agree-told : (men : List Man) (f g : Man → ℕ) → agree_at men f g ≡ true → Agree men f g
 unfolding and_so
@@ -28,17 +27,7 @@ agree-told (man ∷ men) f g told =
 
 -- every man but a king is among those that are compared
 pub all_agree : (f g : Man → ℕ) → agree_at men_beside f g ≡ true → (side : Side) (kind : Kind) → kind ≢ K → f (man_of side kind) ≡ g (man_of side kind)
-all_agree f g told White Q beside = (agree-told men_beside f g told).0
-all_agree f g told White R beside = (agree-told men_beside f g told).1.0
-all_agree f g told White B beside = (agree-told men_beside f g told).1.1.0
-all_agree f g told White N beside = (agree-told men_beside f g told).1.1.1.0
-all_agree f g told White P beside = (agree-told men_beside f g told).1.1.1.1.0
-all_agree f g told Black Q beside = (agree-told men_beside f g told).1.1.1.1.1.0
-all_agree f g told Black R beside = (agree-told men_beside f g told).1.1.1.1.1.1.0
-all_agree f g told Black B beside = (agree-told men_beside f g told).1.1.1.1.1.1.1.0
-all_agree f g told Black N beside = (agree-told men_beside f g told).1.1.1.1.1.1.1.1.0
-all_agree f g told Black P beside = (agree-told men_beside f g told).1.1.1.1.1.1.1.1.1.0
-all_agree f g told side K beside = absurd (beside refl)
+all_agree f g told side kind beside = grind arith
 
 -- counts that are the same agree
 agree-same : (men : List Man) (f g : Man → ℕ) → Agree men f g → agree_at men f g ≡ true

@@ -1,6 +1,6 @@
 -- Tests of all classes.
 use Rattle.std.proofs.Common.{◌≡◌, ◌≢◌, ℕ, zero, suc, ◌+◌, ◌<◌, ◌&&◌, ◌||◌, ◌⊎◌, Bool, true, false, eqb, ltb, List, []}
-use Rattle.std.proofs.Common.{◌∷◌, Option, Some, None, IfSome, refl, sym, ap₂, ◌∙◌, subst, inl, inr, arith, slice_index}
+use Rattle.std.proofs.Common.{◌∷◌, Option, IfSome, refl, sym, ap₂, ◌∙◌, subst, inl, inr, arith, slice_index}
 use Rattle.egt_class.specs.Prelude.{list_any, list_all, Contains, and_parts, eqb-true, eq-eqb, ltb-true, false≢true}
 use Rattle.egt_class.specs.Prelude.{Side, White, Black, Kind, Q, R, B, N, P, K, Man, all_below, passes_below, Material}
 use Rattle.egt_class.specs.Prelude.{materials, material_of, men_in, has_equal_sides, count_in, kinds_of, name_of}
@@ -75,8 +75,7 @@ all_smaller = refl
 
 -- a test that asks no more where it fails
 told_true : (b rest : Bool) → b ≡ true → elim b [ true ↦ rest | false ↦ true ] ≡ true → rest ≡ true
-told_true true rest e told = told
-told_true false rest e told = absurd (false≢true e)
+told_true b rest e told = grind arith
 
 pub names_distinct : (c d : ℕ) → c < 36 → d < 36 → name_of c ≡ name_of d → c ≡ d
 names_distinct c d c_in d_in same =
@@ -85,10 +84,7 @@ names_distinct c d c_in d_in same =
     (passes_below (names_apart c (name_of c)) 36 d (passes_below (λ c. all_below (names_apart c (name_of c)) 36) 36 c all_names_apart c_in) d_in))
 
 flips_same : (a b : Bool) → same_flip a b ≡ true → a ≡ b
-flips_same true true e = refl
-flips_same true false e = absurd (false≢true e)
-flips_same false true e = absurd (false≢true e)
-flips_same false false e = refl
+flips_same a b e = grind arith
 
 pub sides_told_at : (c : ℕ) → c < 36 → sides_told c (material_of c) ≡ true
 sides_told_at c c_in = passes_below (λ c. sides_told c (material_of c)) 36 c all_sides_told c_in
@@ -150,8 +146,7 @@ apart_at c d flipped turned c_in d_in = by_flips flipped turned
     by_flips true true = each.3
 
 pub either : (a b : Bool) → (a || b) ≡ true → (a ≡ true) ⊎ (b ≡ true)
-either true b e = inl refl
-either false b e = inr e
+either a b e = grind arith
 
 -- classes with the same men are one class, with one flip but where both sides have the same men
 pub one_class : (c d : ℕ) (flipped turned : Bool) → c < 36 → d < 36 → ((man : Man) → men_of (material_of c) flipped man ≡ men_of (material_of d) turned man) → (c ≡ d) × ((flipped ≡ turned) ⊎ (has_equal_sides c ≡ true))
@@ -189,22 +184,10 @@ each_passes p [] all = tt
 each_passes p (x ∷ xs) all = let both = and_parts (p x) (list_all p xs) all in (both.0, each_passes p xs both.1)
 
 taking_passes : (p : Option Kind → Bool) → list_all p takings ≡ true → (taken : Option Kind) → IfSome taken (λ kind. kind ≢ K) → p taken ≡ true
-taking_passes p all None ok = (each_passes p takings all).0
-taking_passes p all (Some Q) ok = (each_passes p takings all).1.0
-taking_passes p all (Some R) ok = (each_passes p takings all).1.1.0
-taking_passes p all (Some B) ok = (each_passes p takings all).1.1.1.0
-taking_passes p all (Some N) ok = (each_passes p takings all).1.1.1.1.0
-taking_passes p all (Some P) ok = (each_passes p takings all).1.1.1.1.1.0
-taking_passes p all (Some K) ok = absurd (ok refl)
+taking_passes p all kind ok = grind arith
 
 promotion_passes : (p : Option Kind → Bool) → list_all p promotions ≡ true → (becomes : Option Kind) → IfSome becomes (λ kind. (kind ≢ P) × (kind ≢ K)) → p becomes ≡ true
-promotion_passes p all None ok = (each_passes p promotions all).0
-promotion_passes p all (Some Q) ok = (each_passes p promotions all).1.0
-promotion_passes p all (Some R) ok = (each_passes p promotions all).1.1.0
-promotion_passes p all (Some B) ok = (each_passes p promotions all).1.1.1.0
-promotion_passes p all (Some N) ok = (each_passes p promotions all).1.1.1.1.0
-promotion_passes p all (Some P) ok = absurd (ok.0 refl)
-promotion_passes p all (Some K) ok = absurd (ok.1 refl)
+promotion_passes p all kind ok = grind arith
 
 -- a possible change leads to a child
 pub covered : (c : ℕ) (change : Change) → c < 36 → IfSome change.taken (λ kind. kind ≢ K) → IfSome change.becomes (λ kind. (kind ≢ P) × (kind ≢ K)) → is_possible (material_of c) change ≡ true

@@ -33,18 +33,7 @@ others xs = sum_by (λ x. other_than_king x.0.kind) xs
 one_of_three : (side : Side) (kind : Kind) → let man : Man = record { side = side; kind = kind } in
     other_than_king kind + stands_here (king_of White) (Some man) + stands_here (king_of Black) (Some man) ≡ 1
 unfolding other_than_king
-one_of_three White Q = refl
-one_of_three White R = refl
-one_of_three White B = refl
-one_of_three White N = refl
-one_of_three White P = refl
-one_of_three White K = refl
-one_of_three Black Q = refl
-one_of_three Black R = refl
-one_of_three Black B = refl
-one_of_three Black N = refl
-one_of_three Black P = refl
-one_of_three Black K = refl
+one_of_three side kind = grind arith
 
 three_parts : (xs : List (Man × ℕ)) → others xs + listed (king_of White) xs + listed (king_of Black) xs ≡ length xs
 unfolding others listed
@@ -58,23 +47,13 @@ three_parts (x ∷ xs) =
     omega arith
 
 pub king_told : (kind : Kind) → is_king kind ≡ true → kind ≡ K
-king_told Q e = absurd (false≢true e)
-king_told R e = absurd (false≢true e)
-king_told B e = absurd (false≢true e)
-king_told N e = absurd (false≢true e)
-king_told P e = absurd (false≢true e)
-king_told K e = refl
+king_told kind e = grind arith
 
 pub other_told : (kind : Kind) → is_king kind ≡ false → kind ≢ K
 other_told kind e is = false≢true (sym e ∙ ap is_king is)
 
 pub kind_few : (kind : Kind) → kind ≢ K → kind_number kind < 5
-kind_few Q other = omega arith
-kind_few R other = omega arith
-kind_few B other = omega arith
-kind_few N other = omega arith
-kind_few P other = omega arith
-kind_few K other = absurd (other refl)
+kind_few kind other = grind arith
 
 -- a king is no other man
 not_a_king : (man : Man) (side : Side) → man.kind ≢ K → stands_here man (Some (king_of side)) ≡ 0
@@ -87,10 +66,7 @@ not_a_king man side other = elim (eqb_tells (man_number man) (man_number (king_o
     few = kind_few man.kind other
 
     apart : (s t : Side) → 6 * side_number s + kind_number man.kind ≡ 6 * side_number t + 5 → ⊥
-    apart White White e = let f = few in absurd (omega arith)
-    apart White Black e = let f = few in absurd (omega arith)
-    apart Black White e = let f = few in absurd (omega arith)
-    apart Black Black e = let f = few in absurd (omega arith)
+    apart s t e = grind arith
 
 number_of : Option Man → ℕ
 number_of None = 0
@@ -98,13 +74,11 @@ number_of (Some man) = 1
 
 at_most_one : (o : Option Man) → number_of o ≤ 1
 unfolding number_of
-at_most_one None = omega arith
-at_most_one (Some man) = omega arith
+at_most_one o = grind arith
 
 none_stands : (man : Man) (o : Option Man) → number_of o ≡ 0 → stands_here man o ≡ 0
 unfolding number_of
-none_stands man None e = refl
-none_stands man (Some other) e = absurd (omega arith)
+none_stands man o e = grind arith
 
 pub king_stands : (man : Man) (side : Side) (kind : Kind) → man.kind ≢ K → kind ≡ K → let other : Man = record { side = side; kind = kind } in stands_here man (Some other) ≡ 0
 king_stands man side kind not_king is = ap (λ k. let other : Man = record { side = side; kind = k } in stands_here man (Some other)) is ∙ not_a_king man side not_king

@@ -1,11 +1,12 @@
 -- Positions of a class: one class, the settled form, the images.
-use Rattle.std.proofs.Common.{◌≡◌, ℕ, ◌<◌, ◌⊎◌, ◌↔◌, Bool, true, false, not, if◌then◌else◌, refl, sym, ap, ◌∙◌, inl}
+use Rattle.std.proofs.Common.{◌≡◌, ℕ, ◌<◌, ◌⊎◌, ◌↔◌, Bool, true, not, if◌then◌else◌, refl, sym, ap, ◌∙◌, inl}
 use Rattle.std.proofs.Common.{inr}
 use Rattle.egt_class.specs.Prelude.{Side, White, Black, Kind, Man, other_side, Placement, Setup, SettlesTo, count_of}
 use Rattle.egt_class.specs.Prelude.{SameMen, ExchangedMen, men_in, has_equal_sides, IsOf}
 use Rattle.egt_class.proofs.ClassTests.{one_class, equal_sides}
 use Rattle.egt_board.proofs.SettledForms.{settles_men}
 use Rattle.egt_board.proofs.Sides.{side_twice}
+use Rattle.std.proofs.Common.{arith}
 
 pub same_class : (p : Setup) (c d : ℕ) (flipped turned : Bool) → c < 36 → d < 36 → IsOf c flipped p → IsOf d turned p → (c ≡ d) × ((flipped ≡ turned) ⊎ (has_equal_sides c ≡ true))
 unfolding men_in
@@ -21,7 +22,7 @@ either_side c c_in equal Black Black kind = refl
 pub either_flip : (p : Setup) (c : ℕ) (flipped turned : Bool) → c < 36 → has_equal_sides c ≡ true → IsOf c flipped p → IsOf c turned p
 either_flip p c flipped turned c_in equal is = record { men = λ man. is.men man ∙ either_side c c_in equal _ _ man.kind }
 
--- the same men are of the same class
+-- positions with as many of each man are of one class
 pub by_men : (p q : Setup) (c : ℕ) (flipped : Bool) → ((man : Man) → count_of q.men man ≡ count_of p.men man) → IsOf c flipped p → IsOf c flipped q
 by_men p q c flipped same is = record { men = λ man. same man ∙ is.men man }
 
@@ -32,10 +33,7 @@ settled_class p q c flipped settles =
 
 -- with colours exchanged the other flip is taken
 exchanged_side : (flipped : Bool) (side : Side) → (if flipped then other_side (other_side side) else other_side side) ≡ (if not flipped then other_side side else side)
-exchanged_side true White = refl
-exchanged_side true Black = refl
-exchanged_side false White = refl
-exchanged_side false Black = refl
+exchanged_side flipped side = grind arith
 
 pub image_class : (p q : Setup) (c : ℕ) (flipped : Bool) → SameMen p q ⊎ ExchangedMen p q → IsOf c flipped p → (IsOf c flipped q × (q.side ≡ p.side)) ⊎ (IsOf c (not flipped) q × (q.side ≡ other_side p.side))
 image_class p q c flipped (inl same) is = inl (by_men p q c flipped same.men is, same.side)

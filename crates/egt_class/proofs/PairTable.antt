@@ -1,7 +1,7 @@
 -- The table of classes by two men is right at each pair.
 use Rattle.std.proofs.Common.{◌≡◌, ◌≢◌, ℕ, ◌+◌, ◌*◌, ◌<◌, ◌≤◌, ◌&&◌, Bool, true, false, not, cond, eqb, ltb, Option}
 use Rattle.std.proofs.Common.{Some, None, IfSome, if◌then◌else◌, refl, sym, ap, ap₂, ◌∙◌, arith, inl, inr}
-use Rattle.egt_class.specs.Prelude.{and_parts, ltb-true, eqb-true, eq-eqb, false≢true, eqb_tells, Side, White, Black}
+use Rattle.egt_class.specs.Prelude.{and_parts, ltb-true, eqb-true, eq-eqb, eqb_tells, Side, White, Black}
 use Rattle.egt_class.specs.Prelude.{Kind, Q, R, B, N, P, K, Man, other_side, kind_number, side_number, stands_here}
 use Rattle.egt_class.specs.Prelude.{count_of, Setup, all_below, passes_below, materials, material_of, men_in}
 use Rattle.egt_class.specs.Prelude.{has_equal_sides, IsOf, men_beside, agree_at, man_of, slot_of, kind_slot, first_slot}
@@ -43,9 +43,7 @@ pub pair_below : (a b : ℕ) → a < 11 → b < 11 → class_at (11 * a + b) < 3
 pair_below a b a_in b_in = ltb-true _ _ (and_parts _ _ (right_at a b a_in b_in)).0
 
 not_both : (a b : Bool) → not (a && b) ≡ true → a ≡ true → b ≡ false
-not_both true true h e = absurd (false≢true h)
-not_both true false h e = refl
-not_both false b h e = absurd (false≢true e)
+not_both a b h e = grind arith
 
 pub pair_unflipped : (a b : ℕ) → a < 11 → b < 11 → has_equal_sides (class_at (11 * a + b)) ≡ true → flip_at (11 * a + b) ≡ false
 pair_unflipped a b a_in b_in equal = not_both _ _ (and_parts _ _ (and_parts _ _ (right_at a b a_in b_in)).1).0 equal
@@ -68,12 +66,7 @@ same_test a b c d f g = ap (λ test. cond test 1 0) (elim (eqb_tells a b) [
 ])
 
 slot_is : (first : ℕ) (kind : Kind) → kind ≢ K → kind_slot first kind ≡ first + kind_number kind
-slot_is first Q other = omega arith
-slot_is first R other = refl
-slot_is first B other = refl
-slot_is first N other = refl
-slot_is first P other = refl
-slot_is first K other = absurd (other refl)
+slot_is first kind other = grind arith
 
 slots : (s t : Side) (k l : Kind) → k ≢ K → l ≢ K → one_where (6 * side_number s + kind_number k) (6 * side_number t + kind_number l) ≡ one_where (kind_slot (first_slot s) k) (kind_slot (first_slot t) l)
 slots s t k l k_other l_other =
@@ -94,8 +87,7 @@ some_slot : (first : ℕ) (kind : Kind) → 1 ≤ first → kind ≢ K → 1 ≤
 some_slot first kind some other = let is = slot_is first kind other in omega arith
 
 first_some : (side : Side) → 1 ≤ first_slot side
-first_some White = omega arith
-first_some Black = omega arith
+first_some side = grind arith
 
 none_where : (a : ℕ) → 1 ≤ a → one_where a 0 ≡ 0
 none_where a some = elim (eqb_tells a 0) [
@@ -117,8 +109,7 @@ slot_below (Some man) other =
     let low = first_low man.side in omega arith
   where
     first_low : (side : Side) → first_slot side ≤ 6
-    first_low White = omega arith
-    first_low Black = omega arith
+    first_low side = grind arith
 
 -- whose men beside the kings are a pair's is of the pair's class
 pub pair_is_of : (p : Setup) (first second : Option Man) → AreNonKings p first second → IsOf (class_at (11 * slot_of first + slot_of second)) (flip_at (11 * slot_of first + slot_of second)) p

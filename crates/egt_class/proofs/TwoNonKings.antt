@@ -1,10 +1,10 @@
 -- The men beside the kings, counted by taking them off the board.
-use Rattle.std.proofs.Common.{◌≡◌, ◌≢◌, ℕ, zero, suc, ◌+◌, ◌<◌, Bool, true, false, Option, Some, None, IfSome, arith}
+use Rattle.std.proofs.Common.{◌≡◌, ◌≢◌, ℕ, zero, suc, ◌+◌, ◌<◌, Bool, Option, Some, None, IfSome, arith}
 use Rattle.std.proofs.Common.{refl, sym, ap, ◌∙◌, inl, inr}
 use Rattle.egt_class.specs.Prelude.{option_map, K, Man, HasBeside, stands_here, count_of, Placement, Stands}
 use Rattle.egt_class.specs.Prelude.{get-remove_same, get-remove_other, total, Setup, AreNonKings}
 use Rattle.std.specs.FinMap as placement
-use Rattle.egt_class.proofs.NonKings.{OneKing, is_king, king_told, other_told, king_stands}
+use Rattle.egt_class.proofs.NonKings.{OneKing, is_king}
 
 total_none : (f : ℕ → ℕ) (n : ℕ) → ((t : ℕ) → f t ≡ 0) → total f n ≡ 0
 total_none f zero none = refl
@@ -16,8 +16,7 @@ unfolding count_of
 counted_none men man none = total_none (λ s. stands_here man (placement.get men s)) 64 (λ t. of_option (placement.get men t) (none t))
   where
     of_option : (o : Option Man) → ((other : Man) → o ≡ Some other → stands_here man (Some other) ≡ 0) → stands_here man o ≡ 0
-    of_option None not = refl
-    of_option (Some other) not = not other refl
+    of_option o not = grind arith
 
 -- what the board has when the man is taken off a square
 abbrev Clears : Type 0
@@ -37,8 +36,7 @@ kings_alone : (men : Placement) (man : Man) → man.kind ≢ K → ((t : ℕ) (o
 kings_alone men man not_king none = counted_none men man (λ t other stands. of_kind t other stands (is_king other.kind) refl)
   where
     of_kind : (t : ℕ) (other : Man) → Stands men t other → (b : Bool) → is_king other.kind ≡ b → stands_here man (Some other) ≡ 0
-    of_kind t other stands true e = king_stands man other.side other.kind not_king (king_told other.kind e)
-    of_kind t other stands false e = absurd (none t other stands (other_told other.kind e))
+    of_kind t other stands test e = grind arith
 
 square_in : Option (Man × ℕ) → ℕ
 square_in None = 0
@@ -83,8 +81,7 @@ counted clears men (Some (a, s)) (Some (b, t)) on_board are man not_king =
 
 no_king : (men : Placement) (o : Option (Man × ℕ)) → IfSome o (λ e. Stands men e.1 e.0 × (e.0.kind ≢ K)) → IfSome (man_in o) (λ man. man.kind ≢ K)
 unfolding man_in
-no_king men None there = tt
-no_king men (Some e) there = there.1
+no_king men o there = grind arith
 
 -- the men beside the kings of an admissible position
 pub are_beside : Clears → (p : Setup) (first second : Option (Man × ℕ)) → OnBoard p.men → OneKing p.men → HasBeside p.men first second → AreNonKings p (option_map (λ e. e.0) first) (option_map (λ e. e.0) second)

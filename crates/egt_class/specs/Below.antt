@@ -8,7 +8,7 @@ unfoldable pub all_below : (ℕ → Bool) → ℕ → Bool
 all_below p zero = true
 all_below p (suc n) = p n && all_below p n
 
--- so it does for any of them
+-- what passes for all below n passes for each k below n
 pub passes_below : (p : ℕ → Bool) (n k : ℕ) → all_below p n ≡ true → k < n → p k ≡ true
 unfolding all_below
 passes_below p zero k all k_in = absurd (omega arith)

@@ -3,7 +3,7 @@ use Rattle.std.specs.Prelude.{ℕ, zero, suc, ◌≤◌, ◌↔◌}
 use Rattle.egt_entries.specs.Prelude.{⊎_map, Setup, Value, Win, Loss, Draw, SomeMove, IsStalemate, chess, Metric, Mate}
 use Rattle.egt_entries.specs.Prelude.{Zeroing, Shown, Counts, FitsBeside}
 
--- the same is shown of both positions
+-- whatever is shown of the one position is shown of the other
 abbrev pub ShownAlike : Shown → Shown → Setup → Setup → Type 0
 ShownAlike shows shows' q q' = (metric : Metric) (v : Value) → shows metric q v ↔ shows' metric q' v
 

@@ -27,8 +27,7 @@ is_counted : (outcome : Outcome) → IsShort (value_of outcome) → IsCounted ou
 is_counted outcome short = grind (arith, nat_tests)
 
 pub said_counted : (shows : Shown) (metric : Metric) (p q : Setup) (m : chess.Move p q) (said : Option Outcome) → IsSaid shows metric p q m said → IfSome said IsCounted
-said_counted shows metric p q m (Some outcome) h = h.1
-said_counted shows metric p q m None h = tt
+said_counted shows metric p q m said h = grind arith
 
 module _ (shows : Shown) (p q : Setup) (m : chess.Move p q) (one : IsOne shows q) where
   -- the count of a step that zeroes, or else of its successor's entry

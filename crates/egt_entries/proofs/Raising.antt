@@ -6,8 +6,7 @@ use Rattle.egt_entries.specs.Prelude.{Move, Metric, Mate, ByMetric, Shown, AtMos
 use Rattle.egt_entries.specs.Prelude.{AreRaised, number_at, greater, Scores, IsBest}
 
 more : (low high : ℕ) (best : Option ℕ) → low ≤ high → AtMost high best → AtMost low best
-more low high None le h = absurd h
-more low high (Some best) le h = omega (arith, le, h)
+more low high best le h = grind arith
 
 -- a best that holds for the one holds for the other
 carried : (score : ℕ) (mid new : Option ℕ) → ((s : ℕ) → mid ≡ Some s → AtMost s new) → AtMost score mid → AtMost score new
@@ -64,7 +63,7 @@ module _ (shows : Shown) (metric : Metric) (p : Setup) where
     ];
   }
 
-  -- the same moves in other words
+  -- what the moves of A raise, other moves raise too, where A has each legal one of them
   pub raised_alike : (A Among : Move → Type 0) (old new : Option ℕ) → IsRaised shows metric p A old new → ((m : Move) → IsLegal p m → Among m → A m) → IsRaised shows metric p Among old new
   raised_alike A Among old new raised covers = record {
     kept = raised.kept;

@@ -21,14 +21,7 @@ module _ (tables : Tables) (t : TableValue) (i : ℕ) where
   kept_all void range reach dead rule = kept_before 8 (λ lt. void) (λ lt. range) (λ lt. reach) (λ lt. dead) rule (place_below rule)
     where
       place_below : (rule : Rule) → rule_place rule < 8
-      place_below rules.Void = omega arith
-      place_below rules.Range = omega arith
-      place_below rules.Kind = omega arith
-      place_below rules.Win = omega arith
-      place_below rules.Loss = omega arith
-      place_below rules.Draw = omega arith
-      place_below rules.Reach = omega arith
-      place_below rules.Dead = omega arith
+      place_below rule = grind arith
 
 module _ (tables : Tables) (t : TableValue) (i : ℕ) (p : Setup) (spelled : Spells t.class i p) (alone : (q : Setup) → Spells t.class i q → q ≡ p) (index : ¬ IsVoid t.class i) (due : ℕ) (is_due : IsReachDue (ShowsReachOf tables) p due) where
   abbrev here : ℕ

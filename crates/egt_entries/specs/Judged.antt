@@ -22,7 +22,7 @@ abbrev pub IsOfKind : Option Outcome → Outcome → Type 0
 IsOfKind (Some mate) outcome = SameKind (value_of mate) (value_of outcome)
 IsOfKind None outcome = Unit {0}
 
--- the same by entries; nothing is asked in the mate column
+-- the entries of both columns show values of one kind; nothing is asked in the mate column
 abbrev pub Agree : Metric → (mate x : ℕ) → Type 0
 Agree Mate mate x = Unit {0}
 Agree Zeroing mate x = (v w : Value) → Shows mate v → Shows x w → SameKind v w

@@ -33,6 +33,6 @@ pub record IsRaised (shows : Shown) (metric : Metric) (p : Setup) (Among : Move 
 abbrev pub best_in : Metric → Option ByMetric → Option ℕ
 best_in metric best = option_map (λ numbers. number_at numbers metric) best
 
--- the same in each metric
+-- both numbers are raised, each in its metric
 abbrev pub AreRaised : Shown → Setup → (Move → Type 0) → Option ByMetric → Option ByMetric → Type 0
 AreRaised shows p Among old new = (metric : Metric) → IsRaised shows metric p Among (best_in metric old) (best_in metric new)

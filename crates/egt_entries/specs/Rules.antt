@@ -42,7 +42,7 @@ Keeps tables t metric i rules.Dead = Unit {0}
 abbrev pub FitsReach : Tables → TableValue → ℕ → Option ℕ → Type 0
 FitsReach tables t i number = ShowsReach (reach_at t i) number → (p : Setup) → Spells t.class i p → FitsReachBeside (ShowsReachOf tables) p number
 
--- the same of that column's entry at the index
+-- the entry of the column of the nearest mates at the index keeps the rule
 abbrev pub KeepsReach : Tables → TableValue → ℕ → Rule → Type 0
 KeepsReach tables t i rules.Void = (reach_at t i ≡ 0) ↔ IsVoid t.class i
 KeepsReach tables t i rules.Range = reach_at t i ≤ 32002
@@ -53,7 +53,7 @@ KeepsReach tables t i rules.Draw = Unit {0}
 KeepsReach tables t i rules.Reach = (n : ℕ) → FitsReach tables t i (Some n)
 KeepsReach tables t i rules.Dead = FitsReach tables t i None
 
--- the same by columns
+-- the column's entry at the index keeps the rule
 abbrev pub KeepsIn : Tables → TableValue → Column → ℕ → Rule → Type 0
 KeepsIn tables t columns.Mate i rule = Keeps tables t Mate i rule
 KeepsIn tables t columns.Zeroing i rule = Keeps tables t Zeroing i rule
@@ -92,11 +92,11 @@ IsJudged tables t metric i = IsJudgedBy (Keeps tables t metric i)
 abbrev pub KeepsBelow : Tables → TableValue → Metric → ℕ → Type 0
 KeepsBelow tables t metric n = (i : ℕ) → i < n → (rule : Rule) → Keeps tables t metric i rule
 
--- so do those of the column of the nearest mates
+-- all entries of the column of the nearest mates below n keep the rules
 abbrev pub KeepsReachBelow : Tables → TableValue → ℕ → Type 0
 KeepsReachBelow tables t n = (i : ℕ) → i < n → (rule : Rule) → KeepsReach tables t i rule
 
--- so do those of any column
+-- all entries of the column, whichever it is, below n keep the rules
 abbrev pub KeepsInBelow : Tables → TableValue → Column → ℕ → Type 0
 KeepsInBelow tables t column n = (i : ℕ) → i < n → (rule : Rule) → KeepsIn tables t column i rule
 

@@ -19,7 +19,7 @@ Tables = ℕ → Option TableValue
 abbrev pub table_at : List (Option TableValue) → Tables
 table_at places c = slice_index_or places c None
 
--- the same, and this table of its own class
+-- the tables, and this one of its own class
 abbrev pub beside : Tables → TableValue → Tables
 beside tables t c = if c == t.class then Some t else tables c
 

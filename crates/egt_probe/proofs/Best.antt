@@ -47,7 +47,7 @@ module _ (facts : Facts) where
       let same : miss.1.value ≡ v = facts.one_value q miss.1.value v miss.1.has has in
       miss.2 (miss.1.shows.1 ∙ ap entry_of same ∙ sym e)
 
-  -- so there is one that does not
+  -- some move shows the value
   pub some_found : (p : Setup) (x : ℕ) (v : Value) (o : Option (Move × Setup)) → x ≡ entry_of v → SomeMove chess p (λ q. HasValue chess q v) → IfNone o ((m : Move) → Misses p x m) → IsSome o
   some_found p x v None e some none = absurd (missed p some.0 some.1.0 x v e (none some.1.0) some.1.1 some.2)
   some_found p x v (Some found) e some none = refl

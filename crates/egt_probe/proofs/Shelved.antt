@@ -18,7 +18,7 @@ module _ (t : TableValue) (truth : IsTrueTable t) where
       let shown = told metric p i x ok is e in
       subst (Tells metric p) (shown_once x shown.0 v shown.2 s) shown.1
 
-  -- so is an outcome that both columns show of the side to move
+  -- an outcome that both columns show of the side to move is true
   pub true_outcome : (p : Setup) (i x y : ℕ) (side : Side) (o : Outcome) → IsAdmissible p → IsIndex t.class p i → x ≡ entry_at t Mate i → y ≡ entry_at t Zeroing i → side ≡ p.side
       → Shows x (mate_value side o) → Shows y (zeroing_value side o) → HasValue chess p (mate_value p.side o) × HasZeroing chess p (zeroing_value p.side o)
   true_outcome p i x y side o ok is e f same mate zeroing = (

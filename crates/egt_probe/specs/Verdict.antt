@@ -19,7 +19,7 @@ mate_value mover outcomes.Draw = Draw
 mate_value mover outcomes.Dead = Draw
 mate_value mover (outcomes.Decided winner plies zeroing) = mate_by mover winner plies
 
--- the same in plies to the capture, move of a pawn or checkmate that comes next
+-- an outcome in plies to the capture, move of a pawn or checkmate that comes next, as the mover sees it
 abbrev pub zeroing_value : Side → Outcome → Value
 zeroing_value mover outcomes.Draw = Draw
 zeroing_value mover outcomes.Dead = Draw

@@ -1,6 +1,6 @@
 -- Where moves lead: into the class or a child of it.
 use Rattle.std.proofs.Common.{◌≡◌, ◌≢◌, ℕ, ◌+◌, ◌*◌, ◌<◌, ◌&&◌, ◌⊎◌, Bool, true, false, not, cond, eqb, ltb, Option}
-use Rattle.std.proofs.Common.{Some, None, IfSome, IsSome, refl, sym, ap, ap₂, ◌∙◌, subst, inl, inr, arith}
+use Rattle.std.proofs.Common.{Some, None, IfSome, IsSome, refl, sym, ap, ap₂, ◌∙◌, inl, inr, arith}
 use Rattle.std.proofs.Common.{if◌then◌else◌}
 use Rattle.egt_steps.specs.Prelude.{Contains, option_map, is_some, false≢true, eq-eqb, lt-ltb, eqb_tells, Side, White}
 use Rattle.egt_steps.specs.Prelude.{Black, Kind, Q, R, B, N, P, K, Man, other_side, pawn_of, Setup, kind_number}
@@ -15,9 +15,7 @@ turned : Bool → Man → Man
 turned f man = man_of (side_if f man.side) man.kind
 
 side_twice : (f : Bool) (side : Side) → side_if f (side_if f side) ≡ side
-side_twice true White = refl
-side_twice true Black = refl
-side_twice false side = refl
+side_twice f side = grind arith
 
 turned_twice : (f : Bool) (man : Man) → turned f (turned f man) ≡ man
 unfolding turned
@@ -25,12 +23,7 @@ turned_twice f man = ap (λ side. man_of side man.kind) (side_twice f man.side)
 
 -- an officer is neither pawn nor king
 officer_apart : (kind : Kind) → IsOfficer kind → (kind ≢ P) × (kind ≢ K)
-officer_apart Q officer = ((λ e. cc), (λ e. cc))
-officer_apart R officer = ((λ e. cc), (λ e. cc))
-officer_apart B officer = ((λ e. cc), (λ e. cc))
-officer_apart N officer = ((λ e. cc), (λ e. cc))
-officer_apart P officer = absurd officer
-officer_apart K officer = absurd officer
+officer_apart kind officer = grind arith
 
 one_where : ℕ → ℕ → ℕ
 one_where a b = cond (eqb a b) 1 0
@@ -69,55 +62,30 @@ here_other_side side k l = elim (eqb_tells (man_number (man_of (other_side side)
 ]
   where
     differ : (side : Side) → 6 * side_number (other_side side) + kind_number k ≡ 6 * side_number side + kind_number l → ⊥
-    differ White e = let a = kind_few l in omega arith
-    differ Black e = let a = kind_few k in omega arith
+    differ side e = grind arith
 
 -- an officer is no pawn
 here_officer : (side : Side) (kind : Kind) → IsOfficer kind → stands_here (pawn_of side) (Some (man_of side kind)) ≡ 0
-here_officer White Q officer = refl
-here_officer White R officer = refl
-here_officer White B officer = refl
-here_officer White N officer = refl
-here_officer White P officer = absurd officer
-here_officer White K officer = absurd officer
-here_officer Black Q officer = refl
-here_officer Black R officer = refl
-here_officer Black B officer = refl
-here_officer Black N officer = refl
-here_officer Black P officer = absurd officer
-here_officer Black K officer = absurd officer
+here_officer side kind officer = grind arith
 
 side_of_other : (f : Bool) (side : Side) → side_if f (other_side side) ≡ other_side (side_if f side)
-side_of_other true side = refl
-side_of_other false side = refl
+side_of_other f side = grind arith
 
 -- one flip and then another
 abbrev flip_by : Bool → Bool → Bool
 flip_by f g = if f then not g else g
 
 sides_both : (f g : Bool) (side : Side) → side_if g (side_if f side) ≡ side_if (flip_by f g) side
-sides_both true true White = refl
-sides_both true true Black = refl
-sides_both true false side = refl
-sides_both false g side = refl
+sides_both f g side = grind arith
 
 change_told : (taken : Option Kind) (becomes : Option Kind) → IsSome taken ⊎ IsSome becomes → (IsSome becomes → IfSome taken (λ kind. kind ≢ P)) → is_change taken becomes ≡ true
-change_told None None some no_pawn = absurd (elim some [ inl e ↦ false≢true e | inr e ↦ false≢true e ])
-change_told None (Some kind) some no_pawn = refl
-change_told (Some P) None some no_pawn = refl
-change_told (Some P) (Some kind) some no_pawn = absurd (no_pawn refl refl)
-change_told (Some Q) becomes some no_pawn = refl
-change_told (Some R) becomes some no_pawn = refl
-change_told (Some B) becomes some no_pawn = refl
-change_told (Some N) becomes some no_pawn = refl
-change_told (Some K) becomes some no_pawn = refl
+change_told taken becomes some no_pawn = grind arith
 
 all_three : (a b c : Bool) → a ≡ true → b ≡ true → c ≡ true → (a && b && c) ≡ true
 all_three a b c p q r = ap₂ (λ x y. x && y) (ap₂ (λ x y. x && y) p q) r
 
 mapped_some : (o : Option Man) → IsSome o → IsSome (option_map (λ (man : Man). man.kind) o)
-mapped_some None some = some
-mapped_some (Some man) some = refl
+mapped_some o some = grind arith
 
 module _ (p q : Setup) (m : Move) (c : ℕ) (f : Bool) (is : IsOf c f p) (x : Exchanges p m q) where
   -- a move that neither captures nor promotes
@@ -125,8 +93,7 @@ module _ (p q : Setup) (m : Move) (c : ℕ) (f : Bool) (is : IsOf c f p) (x : Ex
   stays quiet plain = record { men = λ man. same man ∙ is.men man }
     where
       nothing : (o : Option Man) → x.taken ≡ o → x.taken ≡ None
-      nothing None e = e
-      nothing (Some other) e = absurd (quiet (x.captures.1 (ap is_some e)))
+      nothing o e = grind arith
 
       same : (man : Man) → count_of q.men man ≡ count_of p.men man
       same man =
@@ -147,8 +114,7 @@ module _ (p q : Setup) (m : Move) (c : ℕ) (f : Bool) (is : IsOf c f p) (x : Ex
 
   taken_is : (o : Option Man) → IfSome o (λ other. (other.side ≡ other_side p.side) × (other.kind ≢ K)) → option_map (turned f) o ≡ option_map (man_of (other_side (side_if f p.side))) (option_map (λ (man : Man). man.kind) o)
   unfolding turned
-  taken_is None ok = refl
-  taken_is (Some other) ok = ap (λ side. Some (man_of side other.kind)) (ap (side_if f) ok.0 ∙ side_of_other f p.side)
+  taken_is o ok = grind arith
 
   before : (man : Man) → count_of p.men (turned f man) ≡ men_of (material_of c) false man
   unfolding turned men_in
@@ -188,12 +154,10 @@ module _ (p q : Setup) (m : Move) (c : ℕ) (f : Bool) (is : IsOf c f p) (x : Ex
   there man some = lt-ltb _ _ some
 
   officer_told : (promo : Option Kind) → IfSome promo (λ kind. (x.man.kind ≡ P) × IsOfficer kind × IfSome x.taken (λ other. other.kind ≢ P)) → IfSome promo IsOfficer
-  officer_told None ok = tt
-  officer_told (Some kind) ok = ok.1
+  officer_told promo ok = grind arith
 
   kinds_told : (o : Option Man) → IfSome o (λ other. (other.side ≡ other_side p.side) × (other.kind ≢ K)) → IfSome (option_map (λ (man : Man). man.kind) o) (λ kind. kind ≢ K)
-  kinds_told None ok = tt
-  kinds_told (Some man) ok = ok.1
+  kinds_told o ok = grind arith
 
   -- the man that is taken was there
   has_taken : (o : Option Kind) → change.taken ≡ o → has_man (material_of c) (option_map (man_of (other_side mover)) o) ≡ true
@@ -209,7 +173,7 @@ module _ (p q : Setup) (m : Move) (c : ℕ) (f : Bool) (is : IsOf c f p) (x : Ex
       not_promoted kind None = refl
       not_promoted kind (Some other) = here_other_side mover kind other
 
-  -- so was the pawn that is promoted
+  -- the pawn that is promoted was there
   has_pawn : (promo : Option Kind) → m.promo ≡ promo → IfSome promo IsOfficer → has_man (material_of c) (option_map (λ _. pawn_of mover) promo) ≡ true
   has_pawn None e ok = refl
   has_pawn (Some kind) e ok =
@@ -219,9 +183,7 @@ module _ (p q : Setup) (m : Move) (c : ℕ) (f : Bool) (is : IsOf c f p) (x : Ex
       there (pawn_of mover) (omega arith)
 
   no_pawn_taken : (promo : Option Kind) → IfSome promo (λ kind. (x.man.kind ≡ P) × IsOfficer kind × IfSome x.taken (λ other. other.kind ≢ P)) → IsSome promo → (o : Option Man) → x.taken ≡ o → IfSome (option_map (λ (man : Man). man.kind) o) (λ kind. kind ≢ P)
-  no_pawn_taken None ok some o e = absurd (false≢true some)
-  no_pawn_taken (Some kind) ok some None e = tt
-  no_pawn_taken (Some kind) ok some (Some man) e = subst (λ o. IfSome o (λ other. other.kind ≢ P)) e ok.2
+  no_pawn_taken promo ok some o e = grind arith
 
   possible : Captures p m ⊎ IsSome m.promo → is_possible (material_of c) change ≡ true
   possible other =
@@ -253,8 +215,7 @@ module _ (p q : Setup) (m : Move) (c : ℕ) (f : Bool) (is : IsOf c f p) (x : Ex
       by_kind side P = after side P (λ e. cc)
 
   promoted_told : (promo : Option Kind) → IfSome promo IsOfficer → IfSome promo (λ kind. (kind ≢ P) × (kind ≢ K))
-  promoted_told None officer = tt
-  promoted_told (Some kind) officer = officer_apart kind officer
+  promoted_told promo officer = grind arith
 
   -- a capture or a promotion
   pub leaves : c < 36 → OneKing q.men → Captures p m ⊎ IsSome m.promo → (d : ℕ) × (turned : Bool) × Contains (children_of c) d × IsOf d turned q

@@ -1,7 +1,7 @@
 -- The quiet steps of a man who stands still on a shelf: which are legal, and where they lead.
 use Rattle.std.proofs.Common.{◌≡◌, ◌≢◌, ℕ, ◌&&◌, ◌==◌, Bool, false, if◌then◌else◌, List, [], ◌∷◌, Some, None, refl, sym}
 use Rattle.std.proofs.Common.{ap, ◌∙◌, subst, inl, inr, arith}
-use Rattle.egt_steps.specs.Prelude.{Kind, Q, R, B, N, P, K, Man, Step, IsInCheck, OneOf, Reaches, Rides, farthest}
+use Rattle.egt_steps.specs.Prelude.{Kind, P, K, Man, Step, IsInCheck, OneOf, Reaches, Rides, farthest}
 use Rattle.egt_steps.specs.Prelude.{steps_of, other_side, ahead, last_rank, Placement, Stands, IsFree, Setup, rank_of}
 use Rattle.egt_steps.specs.Prelude.{plain, after, is_target, men_after, FitsPromotion, IsQuietTarget}
 use Rattle.std.specs.FinMap as map
@@ -22,11 +22,7 @@ king_reaches F G man s t king r = of_kind man.kind king r
   where
     of_kind : (kind : Kind) → kind ≡ K → OneOf (Rides F (farthest kind) s t) (steps_of man.side kind) → OneOf (Rides G (farthest kind) s t) (steps_of man.side kind)
     of_kind K e reaches = king_bare F G s t (steps_of man.side K) reaches
-    of_kind Q e reaches = absurd (cc)
-    of_kind R e reaches = absurd (cc)
-    of_kind B e reaches = absurd (cc)
-    of_kind N e reaches = absurd (cc)
-    of_kind P e reaches = absurd (cc)
+    of_kind kind e reaches = grind arith
 
 -- ---- one piece on the move in one position
 

@@ -1,5 +1,5 @@
 -- What the code after a step spells: the men who stood there, but for the one who went.
-use Rattle.std.proofs.Common.{◌≡◌, ◌≢◌, ℕ, List, [], ◌∷◌, ◌++◌, map, None, Some, refl, sym, ap, ◌∙◌, inl, inr, subst}
+use Rattle.std.proofs.Common.{◌≡◌, ◌≢◌, ℕ, List, [], ◌∷◌, ◌++◌, map, refl, sym, ap, ◌∙◌, inl, inr, subst}
 use Rattle.egt_steps.specs.Prelude.{option_to_list, cases_eq, king_of, men_of, get-insert_other, get-insert_same}
 use Rattle.egt_steps.specs.Prelude.{get-remove_other, get-remove_same, same_men, Man, White, Black, IsListed, AllApart}
 use Rattle.egt_steps.specs.Prelude.{Entry, IsOff, list_of, moved_entry, moved_square, Stand, AreApart, get_here}
@@ -7,6 +7,7 @@ use Rattle.egt_steps.specs.Prelude.{get_later, listed_stands, free_of}
 use Rattle.std.specs.FinMap as placement
 use Rattle.egt_steps.proofs.Carried.{went, stayed}
 use Rattle.egt_steps.proofs.Moved.{after_of}
+use Rattle.std.proofs.Common.{arith}
 
 off_listed : (list : List (Man × ℕ)) (man : Man) (s : ℕ) → IsOff list s → IsListed list man s → ⊥
 off_listed [] man s off h = h
@@ -72,10 +73,7 @@ module _ (from to : ℕ) (apart : to ≢ from) where
   ])
 
   both_listed : (x y : Entry) → option_to_list (moved_entry from to x) ++ option_to_list (moved_entry from to y) ≡ moved_list (option_to_list x ++ option_to_list y)
-  both_listed None None = refl
-  both_listed None (Some d) = refl
-  both_listed (Some e) None = refl
-  both_listed (Some e) (Some d) = refl
+  both_listed x y = grind arith
 
   pub list_moved : (s : Stand) → list_of (after_of from to s) ≡ moved_list (list_of s)
   list_moved s = ap (λ l. (king_of White, moved_square from to s.white) ∷ (king_of Black, moved_square from to s.black) ∷ l) (both_listed s.next s.last)

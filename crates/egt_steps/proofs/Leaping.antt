@@ -1,11 +1,11 @@
 -- By how many squares a pawn advances, and the index of a position that settles to another.
-use Rattle.std.proofs.Common.{◌≡◌, ◌⊎◌, ℕ, ◌≤◌, ◌==◌, ◌&&◌, if◌then◌else◌, Bool, true, false, refl, sym, subst, inl}
+use Rattle.std.proofs.Common.{◌≡◌, ◌⊎◌, ℕ, ◌≤◌, ◌==◌, ◌&&◌, if◌then◌else◌, Bool, false, sym, subst, inl}
 use Rattle.std.proofs.Common.{inr}
 use Rattle.egt_steps.specs.Prelude.{eqb_tells, IsSettled, SettlesTo, Setup, IsIndex}
+use Rattle.std.proofs.Common.{arith}
 
 pub and_false : (a b : Bool) → b ≡ false → (a && b) ≡ false
-and_false true b e = e
-and_false false b e = refl
+and_false a b e = grind arith
 
 pub one_off_home : (rank home n : ℕ) → n ≤ (if rank == home then 2 else 1) → (n ≤ 1) ⊎ ((n ≤ 2) × (rank ≡ home))
 one_off_home rank home n few = elim (eqb_tells rank home) [

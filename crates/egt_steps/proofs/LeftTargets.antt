@@ -1,21 +1,18 @@
 -- Which advances of a pawn leave a target, and what the positions after them settle to.
-use Rattle.std.proofs.Common.{◌≡◌, ◌≢◌, ℕ, ◌*◌, ◌/◌, ◌+◌, ◌%◌, ◌≤◌, ◌==◌, ◌&&◌, ◌||◌, ◌⊎◌, ◌↔◌, if◌then◌else◌, Bool}
+use Rattle.std.proofs.Common.{◌≡◌, ◌≢◌, ℕ, ◌*◌, ◌/◌, ◌+◌, ◌≤◌, ◌==◌, ◌&&◌, ◌||◌, ◌⊎◌, ◌↔◌, if◌then◌else◌, Bool}
 use Rattle.std.proofs.Common.{true, false, Option, Some, None, IfSome, IsTrue, refl, sym, ap, ◌∙◌, subst, inl, inr}
 use Rattle.std.proofs.Common.{arith}
-use Rattle.egt_steps.specs.Prelude.{is_some, and_parts, eqb_tells, king_of, other_side, Advances, HasPawnBeside}
+use Rattle.egt_steps.specs.Prelude.{is_some, eqb_tells, king_of, other_side, Advances, HasPawnBeside}
 use Rattle.egt_steps.specs.Prelude.{IsBeside, ahead, last_rank, pawn_of, Placement, Stands, SettlesTo, Setup}
 use Rattle.egt_steps.specs.Prelude.{IsAdmissible, rank_of, IsTarget, target_rank, Kind, P, K, Man, Side, White, Black}
 use Rattle.egt_steps.specs.Prelude.{settles_admissible, settles_men, side_twice, sides_differ, ShelfMen, is_two_ranks}
-use Rattle.egt_steps.specs.Prelude.{passed, is_pawn, two_ranks_told, target_is, Facts, AreTwoRanksApart, LeavesTarget}
+use Rattle.egt_steps.specs.Prelude.{passed, is_pawn, target_is, Facts, AreTwoRanksApart, LeavesTarget}
 use Rattle.egt_steps.proofs.Leaping.{one_off_home}
 use Rattle.egt_steps.proofs.TwoNonKings.{AreTwo, one_two, who}
 
 -- in an advance by two squares the pawn stands right ahead of the square that he passed
 past_half : (F : ℕ → Type 0) (side : Side) (s t : ℕ) → Advances F side s t → AreTwoRanksApart s t → ahead side ((s + t) / 2) ≡ t
-past_half F White s t advances (inl two) = let across : t % 8 ≡ s % 8 = advances.rides.away.across in omega (arith, across, two)
-past_half F White s t advances (inr two) = let along : t / 8 ≡ s / 8 + advances.rides.count * 1 = advances.rides.away.along in absurd (omega (arith, along, two))
-past_half F Black s t advances (inl two) = let along : s / 8 ≡ t / 8 + advances.rides.count * 1 = advances.rides.away.along in absurd (omega (arith, along, two))
-past_half F Black s t advances (inr two) = let across : t % 8 ≡ s % 8 = advances.rides.away.across in omega (arith, across, two)
+past_half F side s t advances h = grind arith
 
 -- and that square alone is a target
 half_alone : (F : ℕ → Type 0) (side : Side) (s t u : ℕ) → Advances F side s t → AreTwoRanksApart s t → rank_of u ≡ target_rank (other_side side) → ahead side u ≡ t → u ≡ (s + t) / 2
@@ -25,8 +22,7 @@ half_alone F side s t u advances two rank here = same side rank here (past_half 
     low = elim two [ inl up ↦ omega (arith, up) | inr down ↦ omega (arith, down) ]
 
     same : (side : Side) → rank_of u ≡ target_rank (other_side side) → ahead side u ≡ t → ahead side ((s + t) / 2) ≡ t → u ≡ (s + t) / 2
-    same White rank here there = omega (arith, here, there)
-    same Black rank here there = omega (arith, here, there, rank, low)
+    same side rank here there = grind arith
 
 -- nor is he promoted
 pub unpromoted : (F : ℕ → Type 0) (side : Side) (s t : ℕ) → Advances F side s t → AreTwoRanksApart s t → rank_of t ≢ last_rank side
@@ -48,8 +44,7 @@ two_told s t (inl two) = elim (eqb_tells (rank_of t) (rank_of s + 2)) [ inl same
 two_told s t (inr two) = elim (eqb_tells (rank_of s) (rank_of t + 2)) [ inl same ↦ ap (λ b. (rank_of t == rank_of s + 2) || b) same.0 ∙ or_true (rank_of t == rank_of s + 2) | inr apart ↦ absurd (apart.1 two) ]
   where
     or_true : (b : Bool) → (b || true) ≡ true
-    or_true true = refl
-    or_true false = refl
+    or_true b = grind arith
 
 -- a pawn passes a square in an advance by two squares, and in no other
 pub passes : (man : Man) (s t : ℕ) → man.kind ≡ P → AreTwoRanksApart s t → passed man s t ≡ Some ((s + t) / 2)
@@ -59,8 +54,7 @@ passed_by : (man : Man) (s t u : ℕ) → passed man s t ≡ Some u → AreTwoRa
 passed_by man s t u is = by_test (is_pawn man.kind && is_two_ranks s t) refl is
   where
     by_test : (b : Bool) → (is_pawn man.kind && is_two_ranks s t) ≡ b → (if b then Some ((s + t) / 2) else None) ≡ Some u → AreTwoRanksApart s t × (u ≡ (s + t) / 2)
-    by_test true e is = (two_ranks_told s t (and_parts (is_pawn man.kind) (is_two_ranks s t) e).1, let same = is in cc)
-    by_test false e is = absurd (let same = is in cc)
+    by_test b e is = grind arith
 
 -- the men beside the kings: the first stands on a, and this one, who was the last one on b, has advanced to t
 module _ (men : ShelfMen) (side : Side) (a b t : ℕ) (man : Man) (pawn : men.last.kind ≡ P) (mine : man.side ≡ side) (F : ℕ → Type 0) (advances : Advances F side b t) where
@@ -108,7 +102,7 @@ module _ (men : ShelfMen) (side : Side) (a b t : ℕ) (man : Man) (pawn : men.la
     | inr h ↦ absurd (sides_differ side (sym mine ∙ ap (λ (x : Man). x.side) (sym h.1) ∙ is.side_is))
   ]
 
-  -- so a target is left by such an advance alone
+  -- a target is left by such an advance alone
   pub told : (q r : Setup) → IsAfter q → q.target ≡ passed men.last b t → SettlesTo q r → IsTrue (is_some r.target) ↔ LeavesTarget men side a b t
   told q r is target (inl already) = (
     λ some. by_target q.target refl (ap (λ (x : Setup). is_some x.target) (sym already.1) ∙ some),
@@ -116,8 +110,7 @@ module _ (men : ShelfMen) (side : Side) (a b t : ℕ) (man : Man) (pawn : men.la
   )
     where
       by_target : (o : Option ℕ) → q.target ≡ o → IsTrue (is_some o) → LeavesTarget men side a b t
-      by_target None e some = absurd (let no = some in cc)
-      by_target (Some u) e some = let by = passed_by men.last b t u (sym target ∙ e) in ready_alone q u is by.0 by.1 (subst (IsReady q) e already.0)
+      by_target o e some = grind arith
   told q r is target (inr unsettled) = (
     λ some. absurd (let no : false ≡ true = ap (λ (x : Setup). is_some x.target) (sym unsettled.1) ∙ some in cc),
     λ leaves. absurd (unsettled.0 (subst (IsReady q) (sym (target ∙ passes men.last b t pawn leaves.two)) (ready q is leaves))),
@@ -147,8 +140,7 @@ module _ (men : ShelfMen) (side : Side) (a b t : ℕ) (man : Man) (pawn : men.la
       form_told = told q form.0 is target form.1
 
       form_side : (s : Setup) → SettlesTo q s → s.side ≡ q.side
-      form_side s (inl already) = ap (λ (x : Setup). x.side) already.1
-      form_side s (inr unsettled) = ap (λ (x : Setup). x.side) unsettled.1
+      form_side s h = grind arith
 
       form_after : IsAfter form.0
       form_after = record {

@@ -7,6 +7,7 @@ use Rattle.egt_steps.specs.Prelude.{IsSettled, Setup, turned_man, IsMoved, moved
 use Rattle.egt_steps.specs.Prelude.{Entry, men_among, IsOff, AllStand, Stood, HasStand, list_of, Stand}
 use Rattle.std.specs.FinMap as placement
 use Rattle.egt_steps.proofs.Carried.{went, stayed}
+use Rattle.std.proofs.Common.{arith}
 
 module _ (c : ℕ) (p : Setup) (from to : ℕ) (q : Setup) (moved : IsMoved c p from to q) where
   abbrev move_one : Man × ℕ → Man × ℕ
@@ -68,8 +69,7 @@ module _ (c : ℕ) (p : Setup) (from to : ℕ) (q : Setup) (moved : IsMoved c p 
   men_kept (e ∷ list) = ap (λ l. e.0 ∷ l) (men_kept list)
 
   entry_listed : (entry : Entry) → map move_one (option_to_list entry) ≡ option_to_list (moved_entry from to entry)
-  entry_listed None = refl
-  entry_listed (Some e) = refl
+  entry_listed entry = grind arith
 
   both_listed : (x y : Entry) → map move_one (option_to_list x ++ option_to_list y) ≡ option_to_list (moved_entry from to x) ++ option_to_list (moved_entry from to y)
   both_listed None y = entry_listed y
@@ -91,7 +91,7 @@ module _ (c : ℕ) (p : Setup) (from to : ℕ) (q : Setup) (moved : IsMoved c p 
     all = subst (AllStand flips q.men) listed (all_moved flips (list_of before) stood.all);
   }
 
--- so they stand after the move
+-- the men stand as a move leaves them
 pub stand_moved : (c : ℕ) (flips passed : Bool) (p q : Setup) (from to : ℕ) (before after : Stand) (old side : Side) → HasStand c flips before old passed p → IsMoved c p from to q → IsSettled q
     → side ≡ other_side old → IsMovedStand from to before after → HasStand c flips after side false q
 stand_moved c flips passed p q from to before after old side has moved settled side_is is = record {

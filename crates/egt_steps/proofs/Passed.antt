@@ -1,9 +1,9 @@
 -- No man passes or reaches the square on which it stands.
 use Rattle.std.proofs.Common.{◌≢◌, ℕ, ◌<◌, List, [], ◌∷◌, inl, inr, arith, subst}
-use Rattle.egt_steps.specs.Prelude.{OneOf, Reaches, Rides, farthest, step, steps_of, Away, Kind, Q, R, B, N, P, K, Man}
-use Rattle.egt_steps.specs.Prelude.{Side, White, Black, Step, Way, Up, Down, Still}
+use Rattle.egt_steps.specs.Prelude.{OneOf, Reaches, Rides, farthest, step, steps_of, Away, Kind, Man}
+use Rattle.egt_steps.specs.Prelude.{Side, Step, Way, Up, Down}
 
--- so many steps, if there are any, end on another square
+-- n steps that way, n above 0, end on another square
 abbrev Departs : Step → Type 0
 Departs d = (n s : ℕ) → 0 < n → Away d n s s → ⊥
 
@@ -24,13 +24,7 @@ down : (files : Way) (w : ℕ) → Departs (step files w Down 1)
 down files w n s some away = let is = away.along in omega (arith, is, some)
 
 all_depart : (side : Side) (kind : Kind) → AllDepart (steps_of side kind)
-all_depart side Q = (right Still 0, (left Still 0, (up Still 0, (down Still 0, (right Up 1, (right Down 1, (left Up 1, (left Down 1, tt))))))))
-all_depart side R = (right Still 0, (left Still 0, (up Still 0, (down Still 0, tt))))
-all_depart side B = (right Up 1, (right Down 1, (left Up 1, (left Down 1, tt))))
-all_depart side N = (right Up 2, (right Down 2, (left Up 2, (left Down 2, (up Up 2, (down Up 2, (up Down 2, (down Down 2, tt))))))))
-all_depart side K = (right Still 0, (left Still 0, (up Still 0, (down Still 0, (right Up 1, (right Down 1, (left Up 1, (left Down 1, tt))))))))
-all_depart White P = (right Up 1, (left Up 1, tt))
-all_depart Black P = (right Down 1, (left Down 1, tt))
+all_depart side kind = grind arith
 
 ride_departs : (F : ℕ → Type 0) (most s t : ℕ) (ds : List Step) → AllDepart ds → OneOf (Rides F most s t) ds → (t ≢ s) × OneOf (Rides (λ u. (u ≢ s) × F u) most s t) ds
 ride_departs F most s t [] all none = absurd none

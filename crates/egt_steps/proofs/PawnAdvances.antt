@@ -1,11 +1,11 @@
 -- The advances of a pawn lead to the men after them, and to all positions of them.
-use Rattle.std.proofs.Common.{◌≡◌, ◌≢◌, ◌↔◌, ℕ, ◌*◌, ◌/◌, ◌+◌, ◌<◌, if◌then◌else◌, Bool, true, false, IsTrue, Option}
+use Rattle.std.proofs.Common.{◌≡◌, ◌≢◌, ◌↔◌, ℕ, ◌<◌, if◌then◌else◌, Bool, false, IsTrue, Option}
 use Rattle.std.proofs.Common.{Some, None, refl, sym, ap, ◌∙◌, subst, inl, inr, arith}
 use Rattle.egt_steps.specs.Prelude.{is_some, IsInCheck, king_of, other_side, Advances, ahead, forward, pawn_of}
 use Rattle.egt_steps.specs.Prelude.{Placement, Stands, IsFree, one_man, SettlesTo, Setup, Away, IsTarget, target_rank}
 use Rattle.egt_steps.specs.Prelude.{Kind, P, K, Man, Side, White, Black, settles_men, settles_settled, side_twice}
 use Rattle.egt_steps.specs.Prelude.{sides_differ, HasStand, ShelfMen, Captures, Goes, PawnAdvances, Leads, after}
-use Rattle.egt_steps.specs.Prelude.{men_after, men_left, FitsPromotion, IsOfficer, arriving, promotes, Move}
+use Rattle.egt_steps.specs.Prelude.{men_after, men_left, FitsPromotion, arriving, promotes, Move}
 use Rattle.egt_steps.specs.Prelude.{arriving_side, not_free, target_is, Facts, LeavesTarget, IsAdvance, IsAdvanceFrom}
 use Rattle.egt_steps.specs.Prelude.{IsClassAfter, stand_after, stand_in, IsClear}
 use Rattle.std.specs.FinMap as placement
@@ -18,8 +18,7 @@ use Rattle.egt_moves.proofs.SettledMoves.{advances_from}
 
 -- a pawn goes off the square from which it advances
 off_start : (side : Side) (s t n : ℕ) → 0 < n → Away (forward side) n s t → t ≢ s
-off_start White s t n some away e = let along : t / 8 ≡ s / 8 + n * 1 = away.along in omega (arith, along, some, e)
-off_start Black s t n some away e = let along : s / 8 ≡ t / 8 + n * 1 = away.along in omega (arith, along, some, e)
+off_start side s t n some away e = grind arith
 
 -- only which squares are free counts, and never the one from which it advances
 advances_free : (F G : ℕ → Type 0) (side : Side) (s t : ℕ) → ((u : ℕ) → u ≢ s → F u → G u) → Advances F side s t → Advances G side s t
@@ -36,13 +35,10 @@ advances_free F G side s t free advances = record {
 
 -- no king arrives
 arriving_kind : (man : Man) (b : Bool) (promo : Option Kind) → man.kind ≡ P → FitsPromotion b promo → (arriving man promo).kind ≢ K
-arriving_kind man b None pawn fits king = let both : P ≡ K = sym pawn ∙ king in cc
-arriving_kind man true (Some kind) pawn fits king = subst IsOfficer king fits
-arriving_kind man false (Some kind) pawn fits king = absurd fits
+arriving_kind man b promo pawn fits king = grind arith
 
 pub none_of : (o : Option ℕ) → is_some o ≡ false → o ≡ None
-none_of None e = refl
-none_of (Some s) e = absurd (let no = e in cc)
+none_of o e = grind arith
 
 module _ (facts : Facts) (counting : Counting) (c : ℕ) (men : ShelfMen) (first : Bool) (side : Side) (passed : Bool) (a b : ℕ) (p : Setup) (one_other : men.one.kind ≢ K) (pawn : men.last.kind ≡ P)
     (has : HasStand c false (stand_in first men a b) side passed p) where
@@ -134,8 +130,7 @@ module _ (facts : Facts) (counting : Counting) (c : ℕ) (men : ShelfMen) (first
     form = facts.settles q
 
     same_side : (r : Setup) → SettlesTo q r → r.side ≡ q.side
-    same_side r (inl already) = ap (λ (x : Setup). x.side) already.1
-    same_side r (inr unsettled) = ap (λ (x : Setup). x.side) unsettled.1
+    same_side r h = grind arith
 
     pub goes : IsAdvance men side a b m.promo m.to
         × ((d : ℕ) (before flips : Bool) → IsClassAfter before d flips men.one (arriving men.last m.promo)

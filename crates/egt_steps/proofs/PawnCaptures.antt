@@ -1,5 +1,5 @@
 -- The captures by which a pawn is promoted lead to the three men who are left, and to all positions of them.
-use Rattle.std.proofs.Common.{◌≡◌, ◌≢◌, ℕ, ◌*◌, ◌/◌, ◌+◌, if◌then◌else◌, Bool, true, false, Option, Some, None, refl}
+use Rattle.std.proofs.Common.{◌≡◌, ◌≢◌, ℕ, ◌/◌, ◌+◌, if◌then◌else◌, Bool, true, false, Option, Some, None, refl}
 use Rattle.std.proofs.Common.{sym, ap, ◌∙◌, subst, inl, inr, arith}
 use Rattle.egt_steps.specs.Prelude.{IsInCheck, king_of, OneOf, Reaches, Rides, farthest, pawn_steps, steps_of}
 use Rattle.egt_steps.specs.Prelude.{other_side, ahead, Placement, Stands, IsFree, IsHeld, one_man, Setup, rank_of, Kind}
@@ -24,12 +24,7 @@ down_one : (s t : ℕ) → rank_of s ≡ rank_of t + 1 → is_two_ranks s t ≡ 
 down_one s t down = neither _ _ (untold (rank_of t) (rank_of s + 2) (λ e. omega (arith, down, e))) (untold (rank_of s) (rank_of t + 2) (λ e. omega (arith, down, e)))
 
 one_rank : (F : ℕ → Type 0) (side : Side) (s t : ℕ) → OneOf (Rides F 1 s t) (pawn_steps side) → is_two_ranks s t ≡ false
-one_rank F White s t (inl r) = let along : t / 8 ≡ s / 8 + r.count * 1 = r.away.along in let some = r.moves in let few = r.within in up_one s t (omega (arith, along, some, few))
-one_rank F White s t (inr (inl r)) = let along : t / 8 ≡ s / 8 + r.count * 1 = r.away.along in let some = r.moves in let few = r.within in up_one s t (omega (arith, along, some, few))
-one_rank F White s t (inr (inr none)) = absurd none
-one_rank F Black s t (inl r) = let along : s / 8 ≡ t / 8 + r.count * 1 = r.away.along in let some = r.moves in let few = r.within in down_one s t (omega (arith, along, some, few))
-one_rank F Black s t (inr (inl r)) = let along : s / 8 ≡ t / 8 + r.count * 1 = r.away.along in let some = r.moves in let few = r.within in down_one s t (omega (arith, along, some, few))
-one_rank F Black s t (inr (inr none)) = absurd none
+one_rank F side s t h = grind arith
 
 module _ (man : Man) (pawn : man.kind ≡ P) (s t : ℕ) where
   pub takes_unpassed : (F : ℕ → Type 0) → Reaches F man s t → passed man s t ≡ None
@@ -44,8 +39,7 @@ module _ (man : Man) (pawn : man.kind ≡ P) (s t : ℕ) where
 
 -- a pawn is promoted to an officer, and only where he arrives on his last rank
 pub promoted : (b : Bool) (kind : Kind) → FitsPromotion b (Some kind) → (b ≡ true) × IsOfficer kind
-promoted true kind fits = (refl, fits)
-promoted false kind fits = absurd fits
+promoted b kind fits = grind arith
 
 no_king_made : (kind : Kind) → IsOfficer kind → kind ≢ K
 no_king_made kind officer king = subst IsOfficer king officer

@@ -10,6 +10,7 @@ use Rattle.std.specs.FinMap as map
 use Rattle.egt_steps.proofs.Fanned.{goes_quietly, king_reaches}
 use Rattle.egt_steps.proofs.Passed.{departs}
 use Rattle.egt_steps.proofs.Still.{KeepsClass, is_moved}
+use Rattle.std.proofs.Common.{arith}
 
 -- how stands follow moves, by the law of egt_index
 pub record Following : Type 0 where
@@ -38,8 +39,7 @@ one_moved c from to p q r one other =
 
 -- a side's king is no pawn, and of the side
 pub king_piece : (side : Side) → (king_of side).kind ≢ P
-king_piece White e = cc
-king_piece Black e = cc
+king_piece side e = grind arith
 
 module _ (facts : Facts) (keeps : KeepsClass) (follow : Following) (c : ℕ) (class_in : c < 36) (men : ShelfMen) (side : Side) (passed : Bool) (a b : ℕ) (p : Setup) (has : HasStand c false (stand_on men a b) side passed p) where
   abbrev pub here : Stand

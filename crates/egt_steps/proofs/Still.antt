@@ -1,36 +1,27 @@
 -- A move that does not zero takes one man to a free square, and changes nothing else on the board.
 use Rattle.std.proofs.Common.{◌≡◌, ◌≢◌, ℕ, ◌+◌, ◌/◌, if◌then◌else◌, ◌==◌, ◌&&◌, Bool, true, false, Option, Some, None}
 use Rattle.std.proofs.Common.{refl, ap, ◌∙◌, inl, inr, ◌⊎◌, subst, ◌||◌}
-use Rattle.egt_steps.specs.Prelude.{Kind, Q, R, B, N, P, K, Man, other_side, Placement, Stands, IsFree, get-insert_same}
+use Rattle.egt_steps.specs.Prelude.{Kind, P, Man, other_side, Placement, Stands, IsFree, get-insert_same}
 use Rattle.egt_steps.specs.Prelude.{IsHeld, one_man, Setup, IsAdmissible, rank_of, ahead, last_rank, IsOf, IsMoved}
 use Rattle.egt_steps.specs.Prelude.{Zeroes, IsPawnOn, Captures, Goes, Leads, men_left, is_target, is_two_ranks, IsLegal}
 use Rattle.egt_steps.specs.Prelude.{plain, passed, is_pawn, FitsPromotion, Move, IsLegalTarget, IsQuietTarget}
 use Rattle.egt_steps.specs.Prelude.{eqb_tells}
 use Rattle.std.specs.FinMap as map
 use Rattle.egt_board.proofs.Sides.{side_cases}
+use Rattle.std.proofs.Common.{arith}
 
 -- the law on moves that keep the class
 abbrev pub KeepsClass : Type 0
 KeepsClass = (p q : Setup) (m : Move) (c : ℕ) (flipped : Bool) → IsAdmissible p → IsOf c flipped p → Leads p m q → ¬ Captures p m → m.promo ≡ None → IsOf c flipped q
 
 pub no_pawn : (kind : Kind) → kind ≢ P → is_pawn kind ≡ false
-no_pawn Q not = refl
-no_pawn R not = refl
-no_pawn B not = refl
-no_pawn N not = refl
-no_pawn P not = absurd (not refl)
-no_pawn K not = refl
+no_pawn kind not = grind arith
 
 pub no_pawn_is : (kind : Kind) → is_pawn kind ≡ false → kind ≢ P
 no_pawn_is kind not pawn = let told = ap is_pawn pawn in cc
 
 pub pawn_is : (kind : Kind) → is_pawn kind ≡ true → kind ≡ P
-pawn_is P e = refl
-pawn_is Q e = let not = e in cc
-pawn_is R e = let not = e in cc
-pawn_is B e = let not = e in cc
-pawn_is N e = let not = e in cc
-pawn_is K e = let not = e in cc
+pawn_is kind e = grind arith
 
 -- numbers that differ are told apart
 pub untold : (a b : ℕ) → a ≢ b → (a == b) ≡ false
@@ -41,9 +32,7 @@ neither true b e f = e
 neither false b e f = f
 
 pub no_promotion : (b : Bool) (promo : Option Kind) → b ≡ false → FitsPromotion b promo → promo ≡ None
-no_promotion true promo e fits = let not = e in cc
-no_promotion false None e fits = refl
-no_promotion false (Some kind) e fits = absurd fits
+no_promotion b promo e fits = grind arith
 
 -- no man but a pawn is promoted
 pub piece_promo : (p q : Setup) (m : Move) (leads : Leads p m q) → leads.man.kind ≢ P → m.promo ≡ None
@@ -56,13 +45,7 @@ targeted p m from is legal = (m.promo, subst (IsLegal p) (λ i. record { from = 
 
 -- a man that is no pawn, or does not go to the target, takes nothing in passing
 pub not_passing : (kind : Kind) (target : Option ℕ) (t : ℕ) → (kind ≡ P → target ≡ Some t → ⊥) → (is_pawn kind && is_target target t) ≡ false
-not_passing P None t none = refl
-not_passing P (Some s) t none = elim (eqb_tells s t) [ inl here ↦ absurd (none refl (ap Some here.1)) | inr apart ↦ apart.0 ]
-not_passing Q target t none = refl
-not_passing R target t none = refl
-not_passing B target t none = refl
-not_passing N target t none = refl
-not_passing K target t none = refl
+not_passing kind target t none = grind arith
 
 -- no pawn passes a square
 pub piece_unpassed : (man : Man) (from t : ℕ) → man.kind ≢ P → passed man from t ≡ None

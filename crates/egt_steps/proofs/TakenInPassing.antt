@@ -6,7 +6,7 @@ use Rattle.egt_steps.specs.Prelude.{ahead, pawn_of, Placement, Stands, IsFree, I
 use Rattle.egt_steps.specs.Prelude.{get-remove_same, one_man, Setup, rank_of, IsTarget, target_rank, Kind, P, K, Man}
 use Rattle.egt_steps.specs.Prelude.{Side, White, Black, side_twice, sides_differ, HasStand, ShelfMen, Stand, Goes}
 use Rattle.egt_steps.specs.Prelude.{Leads, after, is_target, men_after, men_left, FitsPromotion, IsOfficer, arriving}
-use Rattle.egt_steps.specs.Prelude.{is_pawn, promotes, Move, may_become, not_free, target_is, Facts, IsOfFourKinds}
+use Rattle.egt_steps.specs.Prelude.{is_pawn, promotes, Move, not_free, target_is, Facts, IsOfFourKinds}
 use Rattle.egt_steps.specs.Prelude.{IsPassingCapture, IsPassingFrom, stand_in, IsClassOf, IsPastKings, Left, left_of}
 use Rattle.egt_steps.specs.Prelude.{stand_left}
 use Rattle.std.specs.FinMap as placement
@@ -19,17 +19,14 @@ use Rattle.egt_moves.proofs.SettledMoves.{advances_from}
 
 -- a target is on no last rank
 target_within : (side : Side) (t : ℕ) → rank_of t ≡ target_rank side → (0 < rank_of t) × (rank_of t < 7)
-target_within White t rank = (omega (arith, rank), omega (arith, rank))
-target_within Black t rank = (omega (arith, rank), omega (arith, rank))
+target_within side t rank = grind arith
 
 -- it is right ahead of the pawn who set it, as the other side goes
 ahead_back : (side : Side) (t : ℕ) → rank_of t ≡ target_rank side → ahead side (ahead (other_side side) t) ≡ t
-ahead_back White t rank = omega (arith, rank)
-ahead_back Black t rank = omega arith
+ahead_back side t rank = grind arith
 
 some_of : (o : Option ℕ) → is_some o ≡ true → (t : ℕ) × (o ≡ Some t)
-some_of (Some t) e = (t, refl)
-some_of None e = absurd (let no = e in cc)
+some_of o e = grind arith
 
 module _ (facts : Facts) (telling : Telling) (c : ℕ) (men : ShelfMen) (first : Bool) (side : Side) (a b : ℕ) (p : Setup) (pawn : men.last.kind ≡ P) (has : HasStand c false (stand_in first men a b) side true p) where
   there : AreTwo p.men men.white men.black men.one a men.last b
@@ -230,8 +227,7 @@ four_kinds p q b m leads from_is = elim (decided_held p.men m.to (other_side p.s
 ]
   where
     officer : (o : Option Kind) → m.promo ≡ o → IfSome o IsOfficer
-    officer None e = tt
-    officer (Some kind) e = may_become (promotes leads.man m.to) (Some kind) (subst (FitsPromotion (promotes leads.man m.to)) e leads.promotion)
+    officer o e = grind arith
 
     by_promotion : (o : Option Kind) → m.promo ≡ o → IsHeld p.men m.to (other_side p.side) → IsOfFourKinds p b m
     by_promotion None e held = inr (inl (from_is, (held, e)))

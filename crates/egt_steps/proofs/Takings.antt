@@ -38,7 +38,7 @@ pub record AreLeft (men : Placement) (left : Left) : Type 0 where
   pub off_black : left.square ≢ left.black
   pub free : (s : ℕ) → s ≢ left.white → s ≢ left.black → s ≢ left.square → IsFree men s
 
--- so they stand in one placement alone
+-- the men that are left stand in one placement alone
 pub one_left : (m n : Placement) (left : Left) → AreLeft m left → AreLeft n left → m ≡ n
 one_left m n left one other = same_men m n (λ s. elim (cases_eq s left.white) [
   | inl here ↦ ap (placement.get m) here ∙ one.white ∙ sym (ap (placement.get n) here ∙ other.white)
@@ -189,14 +189,11 @@ module _ (p : Setup) (man : Man) (from to : ℕ) (held : IsHeld p.men to (other_
 
   -- who takes a man attacks him
   taking_reaches : Goes p man from to → Reaches (IsFree p.men) man from to
-  taking_reaches (inl goes) = goes.reaches
-  taking_reaches (inr (inl advances)) = absurd (let none = sym held.stands ∙ advances.advances.free in cc)
-  taking_reaches (inr (inr takes)) = takes.reaches
+  taking_reaches h = grind arith
 
 -- a pawn does not stay one on its last rank
 within_ranks : (side : Side) (to : ℕ) → 0 < rank_of to → rank_of to < 7 → rank_of to ≢ last_rank side
-within_ranks White to low high e = omega (arith, high, e)
-within_ranks Black to low high e = omega (arith, low, e)
+within_ranks side to low high e = grind arith
 
 pub not_promoting : (man : Man) (to : ℕ) → (man.kind ≡ P → (0 < rank_of to) × (rank_of to < 7)) → promotes man to ≡ false
 not_promoting man to fits = by_test (promotes man to) refl

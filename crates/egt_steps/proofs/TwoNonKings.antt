@@ -65,7 +65,7 @@ who men white black one a other b are s man stands = elim (cases_eq s white) [
     at : (t : ℕ) → s ≡ t → Stands men t man
     at t here = subst (λ u. Stands men u man) here stands
 
--- so they stand in one placement alone
+-- two men and the kings stand in one placement alone
 pub one_two : (m n : Placement) (white black : ℕ) (one : Man) (a : ℕ) (other : Man) (b : ℕ) → AreTwo m white black one a other b → AreTwo n white black one a other b → m ≡ n
 one_two m n white black one a other b here there = same_men m n (λ s. elim (cases_eq s white) [
   | inl is ↦ ap (placement.get m) is ∙ here.white_there ∙ sym (ap (placement.get n) is ∙ there.white_there)

@@ -47,13 +47,10 @@ file_fault_of : (class : ℕ) (bytes : List ℕ) (fault : FileFault) → 16 ≤ 
 file_fault_of class bytes fault h e = let long : nat_lt (length bytes) 16 ≡ false = le-ltb (length bytes) 16 h in rw (long, e) refl
 
 answer_of : (class : ℕ) (bytes : List ℕ) (fault : FileFault) → IsOfField fault → file_fault class bytes ≡ Some fault → IsAnswer class bytes fault
-answer_of class bytes faults.Device k e = tt
-answer_of class bytes faults.NoMemory k e = absurd k
-answer_of class bytes fault k e = e
+answer_of class bytes fault k e = grind arith
 
 pub not_counted : (fault : FileFault) (old new : ℕ) → IsOfField fault → new ≡ old → CountsFault fault old new
-not_counted faults.Device old new k e = absurd k
-not_counted fault old new k e = e
+not_counted fault old new k e = grind arith
 
 -- the fault of a header is that of all bytes
 fault_of_all : (version class : ℕ) (bytes header rest : List ℕ) → bytes ≡ header ++ rest → length header ≡ 16 → version ≡ stated_version header
@@ -92,10 +89,7 @@ cut_more (Some xs) (Some ys) done n m faults.Short p q h = omega (arith, ap leng
 cut_more left mid done n m fault p q h = absurd q
 
 pub misfit_of_cut : (n : ℕ) (left : Option (List ℕ)) (fault : FileFault) → IsCut n left fault → IsMisfit n left fault
-misfit_of_cut n left faults.Device q = tt
-misfit_of_cut n None faults.Short q = tt
-misfit_of_cut n (Some bytes) faults.Short q = q
-misfit_of_cut n left fault q = absurd q
+misfit_of_cut n left fault q = grind arith
 
 -- what came before the end
 pub misfit_more : (left mid : Option (List ℕ)) (done : List ℕ) (n : ℕ) (fault : FileFault) → Consumes left mid done → IsMisfit 0 mid fault → length done ≡ n → IsMisfit n left fault

@@ -19,8 +19,7 @@ bytes_behind : (n : ℕ) (xs : List ℕ) → AreBytes xs → AreBytes (drop n xs
 bytes_behind n xs b i = rw (get_or-drop n xs i 0) (b (n + i))
 
 passes : (right : Bool) (later : Option FileFault) (fault : FileFault) → if right then later else Some fault ≡ None → (right ≡ true) × (later ≡ None)
-passes true later fault e = (refl, e)
-passes false later fault e = absurd (cc)
+passes right later fault e = grind arith
 
 -- bytes without a fault are those of the fields
 pub fields_right : (fields : List Field) (bytes : List ℕ) → AreBytes bytes → length bytes ≡ widths fields → first_fault fields bytes ≡ None → bytes ≡ flat_map field_bytes fields

@@ -12,8 +12,7 @@ use Rattle.egt_table.proofs.Entries.{entries_length}
 use Rattle.egt_table.proofs.Versions.{told_of_table, version_small}
 
 columns_counted : (reach : Option (List ℕ)) → columns_in (version_of reach) ≡ length (Mate ∷ Zeroing ∷ reach_columns reach)
-columns_counted None = refl
-columns_counted (Some entries) = refl
+columns_counted reach = grind arith
 
 class_stands : (version class : ℕ) (body : List ℕ) → class < 36 → number_at 2 8 (header_of version class ++ body) ≡ class
 unfolding header_fields
@@ -76,9 +75,7 @@ entry_of_columns t (c ∷ columns) size (suc k) i column sizes fit e h =
     ∙ entry_of_columns t columns size k i column (λ j. sizes (suc j)) (λ j. fit (suc j)) e h
 
 third_is_there : (reach : Option (List ℕ)) (j : ℕ) (c : Column) → slice_get (reach_columns reach) j ≡ Some c → (c ≡ Reach) × IsSome reach
-third_is_there None j c e = absurd (cc)
-third_is_there (Some entries) zero c e = (sym (same_column Reach c e), refl)
-third_is_there (Some entries) (suc j) c e = absurd (cc)
+third_is_there reach j c e = grind arith
 
 -- a column of a table is there
 is_there : (t : TableValue) (j : ℕ) (c : Column) → slice_get (columns_of t) j ≡ Some c → HasColumn c t
@@ -121,10 +118,7 @@ same_class t u ht hu same =
 
 same_reach : (a b : Option (List ℕ)) → version_of a ≡ version_of b
     → (slice_get (reach_columns a) 0 ≡ Some Reach → slice_get (reach_columns b) 0 ≡ Some Reach → entries_or_none a ≡ entries_or_none b) → a ≡ b
-same_reach None None v e = refl
-same_reach None (Some y) v e = absurd (omega arith)
-same_reach (Some x) None v e = absurd (omega arith)
-same_reach (Some x) (Some y) v e = ap (λ (w : List ℕ). Some w) (e refl refl)
+same_reach a b v e = grind arith
 
 same_parts : (t u : TableValue) → t.class ≡ u.class → t.mate ≡ u.mate → t.zeroing ≡ u.zeroing → t.reach ≡ u.reach → t ≡ u
 same_parts t u c m z r =

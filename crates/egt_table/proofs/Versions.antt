@@ -15,13 +15,11 @@ told_of_all bytes header rest p h =
     rw (p, behind, number) refl
 
 pub version_small : (reach : Option (List ℕ)) → version_of reach ≤ 2
-version_small None = omega arith
-version_small (Some entries) = omega arith
+version_small reach = grind arith
 
 told_of_header : (reach : Option (List ℕ)) (class : ℕ) → stated_version (header_of (version_of reach) class) ≡ version_of reach
 unfolding header_fields
-told_of_header None class = refl
-told_of_header (Some entries) class = refl
+told_of_header reach class = grind arith
 
 pub told_of_table : (t : TableValue) → stated_version (bytes_of t) ≡ version_of t.reach
 unfolding header_fields
@@ -40,8 +38,7 @@ body_is t = ap (λ (w : List ℕ). entries_bytes t.mate ++ (entries_bytes t.zero
 
 third_length : (reach : Option (List ℕ)) (size : ℕ) → (IsSome reach → length (entries_or_none reach) ≡ size)
     → 2 * size + (2 * size + 2 * length (entries_or_none reach)) ≡ columns_in (version_of reach) * (2 * size)
-third_length None size h = omega arith
-third_length (Some entries) size h = let is : length entries ≡ size = h refl in omega arith
+third_length reach size h = grind arith
 
 pub body_length : (t : TableValue) → IsTable t → length (flat_map (column_bytes t) (columns_of t)) ≡ columns_in (version_of t.reach) * (2 * size_of t.class)
 body_length t h =

@@ -31,7 +31,7 @@ pub(crate) fn fill<S: Source>(source: &mut S, buffer: &mut [u8]) -> Result<usize
 }
 
 /// Pushes until the whole piece was taken.
-pub(crate) fn push_all<S: Sink>(sink: &mut S, piece: &[u8]) -> Result<(), Device>
+pub fn push_all<S: Sink>(sink: &mut S, piece: &[u8]) -> Result<(), Device>
     ensures bytes { OnOk result (Appends (S.written sink.old) (S.written sink.new) piece.now) }
     ensures front { OnErr result (AppendsFront (S.written sink.old) (S.written sink.new) piece.now) }
     ensures failures { CountsFailure result (S.failures sink.old) (S.failures sink.new) }

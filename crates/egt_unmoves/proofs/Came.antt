@@ -1,11 +1,12 @@
 -- What a move that neither captures nor promotes does to the men, and taking it back.
 use Rattle.std.proofs.Common.{◌≡◌, ◌≢◌, ℕ, ◌&&◌, Option, Some, None, false, refl, sym, ap, ◌∙◌, inl, inr, if◌then◌else◌}
-use Rattle.egt_unmoves.specs.Prelude.{cases_eq, eqb_tells, Kind, Q, R, B, N, P, K, Man, other_side, ahead, Placement}
+use Rattle.egt_unmoves.specs.Prelude.{cases_eq, eqb_tells, Kind, P, Man, other_side, ahead, Placement}
 use Rattle.egt_unmoves.specs.Prelude.{Stands, IsFree, one_man, same_men, get-insert_same, get-insert_other}
 use Rattle.egt_unmoves.specs.Prelude.{get-remove_same, get-remove_other, Setup, SettlesTo, Move, Goes, plain, is_target}
 use Rattle.egt_unmoves.specs.Prelude.{takes_in_passing, men_left, is_pawn, arriving, ComesBy, MayComeFrom, GoesOver}
 use Rattle.egt_unmoves.specs.Prelude.{men_before, setup_before, side_twice, side_cases}
 use Rattle.std.specs.FinMap as map
+use Rattle.std.proofs.Common.{arith}
 pub use Rattle.egt_board.proofs.Facing.{unput_free}
 
 pub not_free : {A : Type 0} (men : Placement) (s : ℕ) (man : Man) → IsFree men s → Stands men s man → A
@@ -29,12 +30,7 @@ left_whole b man to never = by_kind man.kind refl
     ]
 
     by_kind : (kind : Kind) → man.kind ≡ kind → men_left b man to ≡ b.men
-    by_kind P e = by_target e b.target refl
-    by_kind Q e = no_pawn (ap is_pawn e)
-    by_kind R e = no_pawn (ap is_pawn e)
-    by_kind B e = no_pawn (ap is_pawn e)
-    by_kind N e = no_pawn (ap is_pawn e)
-    by_kind K e = no_pawn (ap is_pawn e)
+    by_kind kind e = grind arith
 
 -- settling changes neither the men nor the side to move
 pub settles_men : (p q : Setup) → SettlesTo p q → q.men ≡ p.men
@@ -46,10 +42,7 @@ settles_side p q (inl h) = ap (λ (x : Setup). x.side) h.1
 settles_side p q (inr h) = ap (λ (x : Setup). x.side) h.1
 
 pub settles_once : (p q r : Setup) → SettlesTo p q → SettlesTo p r → q ≡ r
-settles_once p q r (inl h) (inl k) = h.1 ∙ sym k.1
-settles_once p q r (inl h) (inr k) = absurd (k.0 h.0)
-settles_once p q r (inr h) (inl k) = absurd (h.0 k.0)
-settles_once p q r (inr h) (inr k) = h.1 ∙ sym k.1
+settles_once p q r h h' = grind arith
 
 -- a man that moved, and nothing else: where it stood and stands
 pub record Came (b : Setup) (m : Move) (q : Setup) : Type 0 where
@@ -63,7 +56,7 @@ pub record Came (b : Setup) (m : Move) (q : Setup) : Type 0 where
   pub men : b.men ≡ men_before q.men man m.to m.from
   pub goes : GoesOver b.men man m.from m.to
 
--- the same men, but for one that has moved
+-- where a man has moved and all others stay, moving him back gives the men before
 pub moved_on : (a c : Placement) (man : Man) (s t : ℕ) → Stands a s man → IsFree a t → c ≡ map.insert (map.remove a s) t man
     → Stands c t man × IsFree c s × (a ≡ map.insert (map.remove c t) s man)
 moved_on a c man s t stands free e = (stands_t, free_s, same_men a _ there)

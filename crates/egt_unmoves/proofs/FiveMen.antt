@@ -45,8 +45,7 @@ five_men men a b c d e v w x y z on_a on_b on_c on_d on_e ab ac ad ae bc bd be c
     stays m s t man other stands = get-remove_other m s t (λ same. other (sym same)) ∙ stands
 
 pawns_differ : (side : Side) → pawn_of side ≢ pawn_of (other_side side)
-pawns_differ White e = let bad : White ≡ Black = ap (λ (x : Man). x.side) e in cc
-pawns_differ Black e = let bad : Black ≡ White = ap (λ (x : Man). x.side) e in cc
+pawns_differ side e = grind arith
 
 kings_differ : king_of White ≢ king_of Black
 kings_differ e = let bad : White ≡ Black = ap (λ (x : Man). x.side) e in cc
@@ -85,12 +84,10 @@ target_of p t ok settled is = (
 
 -- a target is ahead of its pawn for the other side
 rank_advanced : (side : Side) (t : ℕ) → rank_of t ≡ target_rank (other_side side) → rank_of (ahead side t) ≡ advanced_rank side
-rank_advanced White t e = omega arith
-rank_advanced Black t e = omega arith
+rank_advanced side t e = grind arith
 
 ahead_back : (side : Side) (t : ℕ) → rank_of t ≡ target_rank (other_side side) → ahead (other_side side) (ahead side t) ≡ t
-ahead_back White t e = omega arith
-ahead_back Black t e = omega arith
+ahead_back side t e = grind arith
 
 module _ (b q : Setup) (m : Move) (comes : ComesBy b m q) where
   x : Came b m q

@@ -1,6 +1,6 @@
 -- The list of moves backwards as it grows.
 use Rattle.std.proofs.Common.{◌≡◌, ℕ, ◌+◌, ◌*◌, ◌<◌, ◌≤◌, ◌↔◌, List, [], ◌∷◌, ◌++◌, arith, refl, ap, inl, inr, subst}
-use Rattle.std.proofs.Common.{suc, Option, Some, None}
+use Rattle.std.proofs.Common.{suc, Option}
 use Rattle.egt_unmoves.specs.Prelude.{Contains, cases_lt, Contains-push, Contains-push_cases, Contains-append_left}
 use Rattle.egt_unmoves.specs.Prelude.{Setup, Move, goes_on_board, Unmove, ComesBy, TakesBack, IsUnmove, place_of}
 use Rattle.egt_unmoves.specs.Prelude.{target_place, ComesFirst, IsInOrder, ListsBelow}
@@ -11,8 +11,7 @@ pub squares_within : (b : Setup) (m : Move) (q : Setup) → ComesBy b m q → (m
 squares_within b m q c = (c.admissible.on_board m.from c.leads.man c.leads.stands, goes_on_board b c.leads.man m.from m.to c.leads.goes)
 
 pub target_place_small : (o : Option ℕ) → target_place o < 2
-target_place_small None = omega arith
-target_place_small (Some t) = omega arith
+target_place_small o = grind arith
 
 Contains-none : {A : Type 0} (u : Unmove) → Contains [] u → A
 Contains-none u h = absurd (omega (arith, h.1))

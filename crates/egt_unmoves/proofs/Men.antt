@@ -1,7 +1,7 @@
 -- The unmoves of all men of the side that waits, and room for them: two a goal, of which a man has 28 and the king 8.
 use Rattle.std.proofs.Common.{◌≡◌, ◌≢◌, ℕ, ◌+◌, ◌*◌, ◌<◌, ◌≤◌, ◌↔◌, List, [], length, arith, refl, sym, ap, ◌∙◌, inl}
 use Rattle.std.proofs.Common.{inr, subst}
-use Rattle.egt_unmoves.specs.Prelude.{bit_at, cases_eq, cases_lt, bit_at-lt, Side, White, Black, Kind, Q, R, B, N, P, K}
+use Rattle.egt_unmoves.specs.Prelude.{bit_at, cases_eq, cases_lt, bit_at-lt, Side, White, Black, Kind}
 use Rattle.egt_unmoves.specs.Prelude.{Man, SquareSet, other_side, king_of, Stands, IsHeld, one_man, Has, size_of}
 use Rattle.egt_unmoves.specs.Prelude.{size_of-some, Setup, IsAdmissible, IsKingOn, most_goals, Unmove, ListsBelow}
 use Rattle.egt_unmoves.proofs.Came.{came}
@@ -33,12 +33,7 @@ ListsMen-none q left held few = record {
 }
 
 few_goals : (kind : Kind) → most_goals kind ≤ 28
-few_goals Q = omega arith
-few_goals R = omega arith
-few_goals B = omega arith
-few_goals N = omega arith
-few_goals P = omega arith
-few_goals K = omega arith
+few_goals kind = grind arith
 
 room_for : (q : Setup) (now : List Unmove) (left left' : SquareSet) (s : ℕ) (man : Man) (k : ℕ) → IsAdmissible q → Has left s → bit_at left'.bits s ≡ 0 → ((t : ℕ) → t ≢ s → bit_at left'.bits t ≡ bit_at left.bits t)
     → size_of left' + 1 ≡ size_of left → Stands q.men s man → IsKingOn q.men (other_side q.side) k → length now + 56 * size_of left ≤ 128 + 40 * bit_at left.bits k

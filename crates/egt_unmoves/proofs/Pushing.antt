@@ -1,7 +1,7 @@
 -- The unmoves of one place, of one square before, and of one man.
-use Rattle.std.proofs.Common.{◌≡◌, ◌≢◌, ℕ, ◌+◌, ◌*◌, ◌<◌, ◌≤◌, ◌↔◌, ◌⊎◌, List, [], ◌∷◌, ◌++◌, length, Bool, true, false}
-use Rattle.std.proofs.Common.{IsTrue, Option, Some, None, arith, refl, sym, ap, ◌∙◌, inl, inr, subst}
-use Rattle.egt_unmoves.specs.Prelude.{bit_at, cases_eq, cases_lt, false≢true, P, Man, SquareSet, Side, other_side}
+use Rattle.std.proofs.Common.{◌≡◌, ◌≢◌, ℕ, ◌+◌, ◌*◌, ◌<◌, ◌≤◌, ◌↔◌, ◌⊎◌, List, [], ◌∷◌, ◌++◌, length, Bool}
+use Rattle.std.proofs.Common.{IsTrue, Option, Some, None, arith, sym, ap, ◌∙◌, inl, inr, subst}
+use Rattle.egt_unmoves.specs.Prelude.{bit_at, cases_eq, cases_lt, P, Man, SquareSet, Side, other_side}
 use Rattle.egt_unmoves.specs.Prelude.{ahead, HasPawnBeside, Placement, Stands, one_man, IsTarget, Has, size_of, Setup}
 use Rattle.egt_unmoves.specs.Prelude.{Move, IsPawnOn, plain, most_goals, Unmove, ComesBy, TakesBack, MayComeFrom, Went}
 use Rattle.egt_unmoves.specs.Prelude.{men_before, place_of, target_place, ListsBelow}
@@ -24,10 +24,7 @@ placed w n q from to k from_in small takes e =
 
 -- flags that tell the same are the same
 same_flag : (a b : Bool) (X : Type 0) → IsTrue a ↔ X → IsTrue b ↔ X → a ≡ b
-same_flag true true X f g = refl
-same_flag false false X f g = refl
-same_flag true false X f g = absurd (false≢true (g.1 (f.0 refl)))
-same_flag false true X f g = absurd (false≢true (f.1 (g.0 refl)))
+same_flag a b X f g = grind arith
 
 -- it tells whether the man is a pawn
 pub told : (b q : Setup) (man : Man) (from to : ℕ) (flag : Bool) → MayComeFrom q man to from → ComesBy b (plain from to) q → IsTrue flag ↔ (man.kind ≡ P) → IsTrue flag ↔ IsPawnOn b.men from

@@ -1,5 +1,5 @@
 -- Two kings in the corners are a position.
-use Rattle.std.proofs.Common.{◌≡◌, ◌≢◌, ℕ, ◌+◌, ◌≤◌, ◌⊎◌, Some, None, cond, Bool, true, false, arith, refl, sym, ap}
+use Rattle.std.proofs.Common.{◌≡◌, ◌≢◌, ℕ, ◌+◌, ◌≤◌, ◌⊎◌, Some, None, cond, Bool, arith, refl, sym, ap}
 use Rattle.std.proofs.Common.{◌∙◌, inl, inr, subst}
 use Rattle.egt_unmoves.specs.Prelude.{is_some, nat_cmp_total, nat_cmp, cases_eq, Side, White, Black, P, K, Man, king_of}
 use Rattle.egt_unmoves.specs.Prelude.{IsInCheck, corners, Reaches, Placement, Stands, IsFree, get-insert_same}
@@ -10,8 +10,7 @@ no_more : (m : Placement) (s : ℕ) (man : Man) → map.len (map.insert m s man)
 no_more m s man = by_key (is_some (map.get m s)) (map.len-insert nat_cmp_total m s man)
   where
     by_key : (b : Bool) → map.len (map.insert m s man) ≡ cond b (map.len m) (map.len m + 1) → map.len (map.insert m s man) ≤ map.len m + 1
-    by_key true e = omega arith
-    by_key false e = omega arith
+    by_key b e = grind arith
 
 kings_differ : king_of White ≢ king_of Black
 kings_differ e = let bad : White ≡ Black = ap (λ (x : Man). x.side) e in cc
@@ -52,15 +51,7 @@ black_there = record { stands = on_black; only = only }
 
 -- a king does not reach the other corner
 too_far : Reaches (IsFree corners) (king_of White) 0 63 → ⊥
-too_far (inl r) = let a = r.away.across in let few = r.within in omega arith
-too_far (inr (inl r)) = let a = r.away.across in let few = r.within in omega arith
-too_far (inr (inr (inl r))) = let a = r.away.across in let few = r.within in omega arith
-too_far (inr (inr (inr (inl r)))) = let a = r.away.across in let few = r.within in omega arith
-too_far (inr (inr (inr (inr (inl r))))) = let a = r.away.across in let few = r.within in omega arith
-too_far (inr (inr (inr (inr (inr (inl r)))))) = let a = r.away.across in let few = r.within in omega arith
-too_far (inr (inr (inr (inr (inr (inr (inl r))))))) = let a = r.away.across in let few = r.within in omega arith
-too_far (inr (inr (inr (inr (inr (inr (inr (inl r)))))))) = let a = r.away.across in let few = r.within in omega arith
-too_far (inr (inr (inr (inr (inr (inr (inr (inr none)))))))) = none
+too_far h = grind arith
 
 no_check : ¬ IsInCheck corners Black
 no_check check = too_far (subst (λ t. Reaches (IsFree corners) (king_of White) 0 t) here there)

@@ -1,7 +1,7 @@
 -- The unmoves of an image.
 use Rattle.std.proofs.Common.{◌≡◌, ℕ, ◌<◌, ◌↔◌, ◌/◌, ◌%◌, ◌==◌, Bool, true, false, Option, Some, None, IfSome, arith}
 use Rattle.std.proofs.Common.{refl, sym, ap, ◌∙◌, inl, inr, subst}
-use Rattle.egt_unmoves.specs.Prelude.{option_map, cases_eq, Side, White, Black, Man, Mirror, Files, Ranks, Diagonal}
+use Rattle.egt_unmoves.specs.Prelude.{option_map, cases_eq, Side, Man, Mirror, Files, Ranks, Diagonal}
 use Rattle.egt_unmoves.specs.Prelude.{Colours, square_by, square_by-twice, HasNoPawn, Stands, IsFree, one_man}
 use Rattle.egt_unmoves.specs.Prelude.{get-insert_other, get-remove_other, Setup, IsAdmissible, IsSettled, SettlesTo}
 use Rattle.egt_unmoves.specs.Prelude.{rank_of, square_if, square_of, KeepsPlay, IsTarget, target_rank, turned_square}
@@ -33,13 +33,11 @@ turned_apart n flipped s t s_in t_in e =
     three u u_in = square_if-within (n / 4 == 1) Diagonal _ (two u u_in)
 
 turned_kind : (flipped : Bool) (man : Man) → (turned_man flipped man).kind ≡ man.kind
-turned_kind true man = refl
-turned_kind false man = refl
+turned_kind flipped man = grind arith
 
 -- a target is a square of the board
 target_within : (side : Side) (t : ℕ) → rank_of t ≡ target_rank side → t < 64
-target_within White t e = omega arith
-target_within Black t e = omega arith
+target_within side t e = grind arith
 
 -- the turn is one that the men before allow too
 pub keeps_before : (n : ℕ) (b : Setup) (m : Move) (q : Setup) → ComesBy b m q → KeepsPlay n q.men → KeepsPlay n b.men

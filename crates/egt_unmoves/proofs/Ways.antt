@@ -1,6 +1,6 @@
 -- The ways back.
-use Rattle.std.proofs.Common.{◌≡◌, ℕ, zero, suc, ◌+◌, ◌-◌, ◌<◌, ◌≤◌, ◌⊎◌, arith, refl, sym, ap, ◌∙◌, inl, inr}
-use Rattle.std.proofs.Common.{if◌then◌else◌, ◌==◌, Bool, true, false, Some, None, ◌&&◌, ◌/◌}
+use Rattle.std.proofs.Common.{◌≡◌, ℕ, zero, suc, ◌+◌, ◌-◌, ◌<◌, ◌≤◌, ◌⊎◌, arith, sym, ap, ◌∙◌, inl, inr}
+use Rattle.std.proofs.Common.{if◌then◌else◌, ◌==◌, Bool, true, Some, None, ◌&&◌, ◌/◌}
 use Rattle.egt_unmoves.specs.Prelude.{Side, White, Black, P, Man, other_side, rank_of, Away, ahead, forward, home_rank}
 use Rattle.egt_unmoves.specs.Prelude.{farthest_advance, Advances, passed, is_two_ranks, is_pawn}
 use Rattle.egt_moves.proofs.Admissible.{two_ranks_told}
@@ -11,8 +11,7 @@ some_advance : (side : Side) (s : ℕ) → 1 ≤ farthest_advance side s
 some_advance side s = by_test (rank_of s == home_rank side)
   where
     by_test : (b : Bool) → 1 ≤ (if b then 2 else 1)
-    by_test true = omega arith
-    by_test false = omega arith
+    by_test b = grind arith
 
 one_back : (G : ℕ → Type 0) (side : Side) (s t : ℕ) → G s → Away (forward side) 1 t s → Advances G side t s
 one_back G side s t free away = record {
@@ -34,8 +33,7 @@ Advances-back F G side s t s_in low free a = by_count side a.rides.count a.rides
         inr (one_back G Black s (t - 8) free (record { on_board = s_in; across = omega arith; along = omega arith }))
     by_count Black (suc (suc zero)) some few away = let x = away.across in let y = away.along in
         inr (one_back G White s (t + 8) free (record { on_board = s_in; across = omega arith; along = omega arith }))
-    by_count side zero some few away = absurd (omega arith)
-    by_count side (suc (suc (suc n))) some few away = absurd (omega arith)
+    by_count side n some few away = grind arith
 
 -- a pawn that advances comes from the square behind its goal, or over it
 pub passed_over : (F : ℕ → Type 0) (side : Side) (s t : ℕ) → s < 64 → Advances F side s t → (s ≡ ahead (other_side side) t) ⊎ F (ahead (other_side side) t)
@@ -49,12 +47,10 @@ passed_over F side s t s_in a = by_count side a.rides.count a.rides.moves (omega
         inr (clear 1 (t - 8) (omega arith) (omega arith) (record { on_board = omega arith; across = omega arith; along = omega arith }))
     by_count Black (suc (suc zero)) some few away clear = let x = away.across in let y = away.along in let z = away.on_board in
         inr (clear 1 (t + 8) (omega arith) (omega arith) (record { on_board = omega arith; across = omega arith; along = omega arith }))
-    by_count side zero some few away clear = absurd (omega arith)
-    by_count side (suc (suc (suc n))) some few away clear = absurd (omega arith)
+    by_count side n some few away clear = grind arith
 
 if_some : (b : Bool) (x t : ℕ) → (if b then Some x else None) ≡ Some t → (b ≡ true) × (x ≡ t)
-if_some true x t e = (refl, cc)
-if_some false x t e = absurd (cc)
+if_some b x t e = grind arith
 
 -- the square that a pawn passes is the one behind its goal
 pub ahead_passed : (F : ℕ → Type 0) (man : Man) (s t u : ℕ) → man.kind ≡ P → Advances F man.side s t → passed man s t ≡ Some u → ahead man.side u ≡ t
@@ -67,9 +63,4 @@ ahead_passed F man s t u pawn a e = by_count man.side a.rides.count a.rides.move
     apart = two_ranks_told s t found.0
 
     by_count : (side : Side) (n : ℕ) → 0 < n → n ≤ 2 → Away (forward side) n s t → ahead side u ≡ t
-    by_count White (suc zero) some few away = let y = away.along in elim apart [ inl up ↦ omega arith | inr down ↦ omega arith ]
-    by_count Black (suc zero) some few away = let y = away.along in elim apart [ inl up ↦ omega arith | inr down ↦ omega arith ]
-    by_count White (suc (suc zero)) some few away = let x = away.across in let y = away.along in let z = found.1 in omega arith
-    by_count Black (suc (suc zero)) some few away = let x = away.across in let y = away.along in let z = found.1 in omega arith
-    by_count side zero some few away = absurd (omega arith)
-    by_count side (suc (suc (suc n))) some few away = absurd (omega arith)
+    by_count side n some few away = grind arith

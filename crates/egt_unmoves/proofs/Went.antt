@@ -1,7 +1,7 @@
 -- A move led here from a square exactly where what `Went` asks of the square holds.
 use Rattle.std.proofs.Common.{◌≡◌, ◌≢◌, ◌↔◌, ℕ, ◌<◌, ◌⊎◌, ◌==◌, ◌&&◌, Option, Some, None, IfSome, arith, refl, sym, ap}
 use Rattle.std.proofs.Common.{◌∙◌, inl, inr, subst}
-use Rattle.egt_unmoves.specs.Prelude.{cases_eq, eqb_tells, Side, White, Black, Kind, Q, R, B, N, P, K, Man, king_of}
+use Rattle.egt_unmoves.specs.Prelude.{cases_eq, eqb_tells, Side, White, Black, Kind, P, Man, king_of}
 use Rattle.egt_unmoves.specs.Prelude.{IsInCheck, Rides-free, other_side, pawn_of, ahead, forward, last_rank}
 use Rattle.egt_unmoves.specs.Prelude.{farthest_advance, MayStand, Advances, HasPawnBeside, Placement, Stands, IsFree}
 use Rattle.egt_unmoves.specs.Prelude.{one_man, get-insert_other, get-remove_other, Setup, IsAdmissible, IsKingOn}
@@ -136,12 +136,7 @@ module _ (q : Setup) (man : Man) (to from : ℕ) (may : MayComeFrom q man to fro
       ]
 
       by_kind : (kind : Kind) → (kind ≡ P → (0 < rank_of to) × (rank_of to < 7)) → FitsPromotion (is_pawn kind && (rank_of to == last_rank man.side)) None
-      by_kind P inside = by_rank man.side (inside refl)
-      by_kind Q inside = tt
-      by_kind R inside = tt
-      by_kind B inside = tt
-      by_kind N inside = tt
-      by_kind K inside = tt
+      by_kind kind inside = grind arith
 
   -- a man that went so came by that move
   pub went_comes : (target : Option ℕ) → IsAdmissible q → Went q man to from → FitsTarget (men_before q.men man to from) (other_side q.side) target → IsSettled (setup_before q man to from target)
