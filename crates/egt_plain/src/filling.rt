@@ -164,7 +164,7 @@ fn filled(
 ///
 /// # Errors
 ///
-/// Those of `indexes`, and `Entry` where two codes have one index and different entries.
+/// What `indexes` refuses, and `Entry` where two codes have one index and different entries.
 pub fn columns_of(
     alloc: Global,
     tables: &PlainTables,
@@ -186,7 +186,7 @@ pub fn columns_of(
 ///
 /// # Errors
 ///
-/// Those of `columns_of`.
+/// What `columns_of` refuses.
 pub fn reach_of(alloc: Global, tables: &PlainTables, class: u8) -> Result<Vec<u16>, Unlike> {
     let indexes = indexes(alloc, class)?;
     let Some(asked) = Class::new(class) else {
@@ -200,7 +200,7 @@ pub fn reach_of(alloc: Global, tables: &PlainTables, class: u8) -> Result<Vec<u1
 ///
 /// # Errors
 ///
-/// Those of `columns_of`.
+/// What `columns_of` refuses.
 pub fn table_of(alloc: Global, tables: &PlainTables, class: u8) -> Result<Table, Unlike> {
     let Some(asked) = Class::new(class) else {
         return Err(Unlike::Position);
@@ -220,7 +220,7 @@ pub fn table_of(alloc: Global, tables: &PlainTables, class: u8) -> Result<Table,
 ///
 /// # Errors
 ///
-/// Those of `columns_of`.
+/// What `columns_of` refuses.
 pub fn whole_table_of(alloc: Global, tables: &PlainTables, class: u8) -> Result<Table, Unlike> {
     let table = table_of(alloc, tables, class)?;
     let nears = Nears::from_entries(reach_of(alloc, tables, class)?);
