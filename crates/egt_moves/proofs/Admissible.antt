@@ -22,8 +22,7 @@ len_left p man to ok = elim (left_cases p man to ok) [
 ]
   where
     shorter : (b : Bool) (l n : ℕ) → l ≡ cond b (n - 1) n → l ≤ n
-    shorter true l n e = omega arith
-    shorter false l n e = omega arith
+    shorter b l n e = grind arith
 
 -- once the man is lifted there is room for it on its new square
 pub len_lifted : (p : Setup) (man : Man) (from to : ℕ) → IsAdmissible p → man.side ≡ p.side → Stands p.men from man → map.len (map.remove (men_left p man to) from) < 4
@@ -43,16 +42,14 @@ len_after p man m ok mine stands =
     bound (map.contains_key (map.remove left m.from) m.to) _ _ (map.len-insert nat_cmp_total (map.remove left m.from) m.to (arriving man m.promo)) (omega arith)
   where
     bound : (b : Bool) (l n : ℕ) → l ≡ cond b n (n + 1) → n ≤ 3 → l ≤ 4
-    bound true l n e le = omega arith
-    bound false l n e le = omega arith
+    bound b l n e le = grind arith
 
 -- a king is not promoted
 pub no_promotion : (man : Man) (to : ℕ) (promo : Option Kind) → is_pawn man.kind ≡ false → FitsPromotion (promotes man to) promo → promo ≡ None
 no_promotion man to promo no_pawn fits = none promo (subst (λ b. FitsPromotion b promo) (ap (λ b. b && (rank_of to == last_rank man.side)) no_pawn) fits)
   where
     none : (o : Option Kind) → FitsPromotion false o → o ≡ None
-    none None f = refl
-    none (Some kind) f = absurd f
+    none o f = grind arith
 
 own_king_after : (p : Setup) (man : Man) (m : Move) (k : ℕ) → IsAdmissible p → Stands p.men m.from man → man.side ≡ p.side → Goes p man m.from m.to → FitsPromotion (promotes man m.to) m.promo → IsKingOn p.men p.side k → (s : ℕ) × IsKingOn (men_after p man m) p.side s
 own_king_after p man m k ok stands mine goes fits king = subst (λ side. IsKingOn p.men side k → (s : ℕ) × IsKingOn (men_after p man m) side s) mine (by_kind man.kind refl) king
@@ -93,17 +90,11 @@ Forward Black n from to = rank_of from ≡ rank_of to + n
 
 takes_forward : (F : ℕ → Type 0) (side : Side) (from to : ℕ) → OneOf (Rides F 1 from to) (pawn_steps side) → Forward side 1 from to
 unfolding Forward
-takes_forward F White from to (inl r) = let a = r.moves in let b = r.within in let h = r.away.along in omega arith
-takes_forward F White from to (inr (inl r)) = let a = r.moves in let b = r.within in let h = r.away.along in omega arith
-takes_forward F White from to (inr (inr none)) = absurd none
-takes_forward F Black from to (inl r) = let a = r.moves in let b = r.within in let h = r.away.along in omega arith
-takes_forward F Black from to (inr (inl r)) = let a = r.moves in let b = r.within in let h = r.away.along in omega arith
-takes_forward F Black from to (inr (inr none)) = absurd none
+takes_forward F side from to h = grind arith
 
 pub advances_forward : (F : ℕ → Type 0) (side : Side) (from to : ℕ) (a : Advances F side from to) → Forward side a.rides.count from to
 unfolding Forward
-advances_forward F White from to a = let h = a.rides.away.along in omega arith
-advances_forward F Black from to a = let h = a.rides.away.along in omega arith
+advances_forward F side from to a = grind arith
 
 -- the steps of a pawn that takes
 pub pawn_reaches : (p : Setup) (man : Man) (from to : ℕ) → PawnTakes p man from to → OneOf (Rides (IsFree p.men) 1 from to) (pawn_steps man.side)
@@ -119,19 +110,17 @@ pawn_forward p man from to pawn (inr (inl advance)) = (advance.advances.rides.co
 pawn_forward p man from to pawn (inr (inr takes)) =
     (1, omega arith, takes_forward_of p man from to takes)
 
--- so it arrives on no first rank
+-- a pawn that goes forward arrives on no first rank
 rank_between : (side : Side) (n from to : ℕ) → to < 64 → (0 < rank_of from) × (rank_of from < 7) → 0 < n → Forward side n from to → rank_of to ≢ last_rank side → (0 < rank_of to) × (rank_of to < 7)
 unfolding Forward
-rank_between White n from to to_in h some f not_last = let a = h.0 in (omega arith, omega arith)
-rank_between Black n from to to_in h some f not_last = let a = h.1 in (omega arith, omega arith)
+rank_between side n from to to_in h some f not_last = grind arith
 
 -- a pawn that arrives as one is not promoted
 pub arrived_pawn : (man : Man) (to : ℕ) (promo : Option Kind) → FitsPromotion (promotes man to) promo → (arriving man promo).kind ≡ P → (man.kind ≡ P) × (promotes man to ≡ false)
 arrived_pawn man to None fits pawn = (pawn, by_test (promotes man to) fits)
   where
     by_test : (b : Bool) → FitsPromotion b None → b ≡ false
-    by_test true none = absurd none
-    by_test false _ = refl
+    by_test b none = grind arith
 arrived_pawn man to (Some kind) fits pawn = absurd (by_test (promotes man to) fits)
   where
     by_test : (b : Bool) → FitsPromotion b (Some kind) → ⊥
@@ -154,12 +143,7 @@ pawns_after p man m stands goes fits ok s other there pawn = elim (after_cases p
 ]
 
 pub pawn_told : (kind : Kind) → is_pawn kind ≡ true → kind ≡ P
-pawn_told P e = refl
-pawn_told Q e = absurd (false≢true e)
-pawn_told R e = absurd (false≢true e)
-pawn_told B e = absurd (false≢true e)
-pawn_told N e = absurd (false≢true e)
-pawn_told K e = absurd (false≢true e)
+pawn_told kind e = grind arith
 
 -- two ranks lie between
 pub two_ranks_told : (s t : ℕ) → is_two_ranks s t ≡ true → (rank_of t ≡ rank_of s + 2) ⊎ (rank_of s ≡ rank_of t + 2)
@@ -173,10 +157,7 @@ two_ranks_told s t e = elim (eqb_tells (rank_of t) (rank_of s + 2)) [
 
 pub two_forward : (side : Side) (n from to : ℕ) → Forward side n from to → (rank_of to ≡ rank_of from + 2) ⊎ (rank_of from ≡ rank_of to + 2) → n ≡ 2
 unfolding Forward
-two_forward White n from to f (inl e) = omega arith
-two_forward White n from to f (inr e) = absurd (omega arith)
-two_forward Black n from to f (inl e) = absurd (omega arith)
-two_forward Black n from to f (inr e) = omega arith
+two_forward side n from to f h = grind arith
 
 -- a pawn that advances two squares begins on its original rank
 pub from_home : (side : Side) (from : ℕ) → 2 ≤ farthest_advance side from → rank_of from ≡ home_rank side

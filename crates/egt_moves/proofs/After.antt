@@ -8,6 +8,7 @@ use Rattle.egt_moves.specs.Prelude.{IsInCheck, Setup, IsAdmissible, IsKingOn, si
 use Rattle.egt_moves.specs.Prelude.{is_pawn, IsOfficer, FitsPromotion, arriving, is_target, takes_in_passing, men_left}
 use Rattle.egt_moves.specs.Prelude.{men_after}
 use Rattle.std.specs.FinMap as map
+use Rattle.std.proofs.Common.{arith}
 pub use Rattle.egt_board.specs.Placement.{one_man}
 pub use Rattle.egt_moves.specs.DecidedMoves.{goes_on_board}
 
@@ -134,23 +135,13 @@ MayBecome None = Unit {0}
 MayBecome (Some kind) = IsOfficer kind
 
 pub may_become : (b : Bool) (promo : Option Kind) → FitsPromotion b promo → MayBecome promo
-may_become true None fits = absurd fits
-may_become true (Some kind) fits = fits
-may_become false None fits = tt
-may_become false (Some kind) fits = absurd fits
+may_become b promo fits = grind arith
 
 pub not_king_of : (man : Man) (promo : Option Kind) (side : Side) → MayBecome promo → man.kind ≢ K → king_of side ≢ arriving man promo
-not_king_of man None side may not_king e = not_king (ap (λ (m : Man). m.kind) (sym e))
-not_king_of man (Some K) side may not_king e = may
-not_king_of man (Some P) side may not_king e = may
-not_king_of man (Some Q) side may not_king e = let kinds : K ≡ Q = ap (λ (m : Man). m.kind) e in cc
-not_king_of man (Some R) side may not_king e = let kinds : K ≡ R = ap (λ (m : Man). m.kind) e in cc
-not_king_of man (Some B) side may not_king e = let kinds : K ≡ B = ap (λ (m : Man). m.kind) e in cc
-not_king_of man (Some N) side may not_king e = let kinds : K ≡ N = ap (λ (m : Man). m.kind) e in cc
+not_king_of man promo side may not_king e = grind arith
 
 pub arriving_side : (man : Man) (promo : Option Kind) → (arriving man promo).side ≡ man.side
-arriving_side man None = refl
-arriving_side man (Some kind) = refl
+arriving_side man promo = grind arith
 
 kings_are_no_pawns : (side other : Side) → king_of side ≢ pawn_of other
 kings_are_no_pawns side other e = let kinds : K ≡ P = ap (λ (m : Man). m.kind) e in cc

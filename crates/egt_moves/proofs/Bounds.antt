@@ -78,8 +78,7 @@ module _ {S : Type 0} (a : Arena S) where
 
   -- what a value says of forced mate
   pub win_mates : (n : ℕ) (p : S) → HasValue a p (Win n) → MatesWithin a n p
-  win_mates zero p v = absurd v
-  win_mates (suc n) p v = v.0
+  win_mates n p v = grind arith
 
   pub loss_mated : (n : ℕ) (p : S) → HasValue a p (Loss n) → IsMatedWithin a n p
   loss_mated zero p v = v

@@ -14,11 +14,7 @@ pub record Chosen (from to : ℕ) (old new : List Move) (n : ℕ) : Type 0 where
 
 -- the kinds in their order
 pub officer_place : (n : ℕ) (other : Kind) → n < 4 → promotion_place (Some (get_or (Q ∷ R ∷ B ∷ N ∷ []) n other)) ≡ n + 1
-officer_place zero other less = refl
-officer_place (suc zero) other less = refl
-officer_place (suc (suc zero)) other less = refl
-officer_place (suc (suc (suc zero))) other less = refl
-officer_place (suc (suc (suc (suc n)))) other less = absurd (omega arith)
+officer_place n other less = grind arith
 
 -- a number tells the promotion
 same_place : (a b : Option Kind) → promotion_place a ≡ promotion_place b → a ≡ b
@@ -32,12 +28,7 @@ same_place None (Some K) e = absurd (omega arith)
 same_place (Some a) None e = absurd (some_place a e)
   where
     some_place : (kind : Kind) → promotion_place (Some kind) ≡ 0 → ⊥
-    some_place Q h = omega arith
-    some_place R h = omega arith
-    some_place B h = omega arith
-    some_place N h = omega arith
-    some_place P h = omega arith
-    some_place K h = omega arith
+    some_place kind h = grind arith
 same_place (Some a) (Some b) e = sym (ap kind_of_place refl ∙ back a) ∙ ap kind_of_place e ∙ back b
   where
     kind_of_place : ℕ → Option Kind
@@ -49,12 +40,7 @@ same_place (Some a) (Some b) e = sym (ap kind_of_place refl ∙ back a) ∙ ap k
     kind_of_place _ = Some K
 
     back : (kind : Kind) → kind_of_place (promotion_place (Some kind)) ≡ Some kind
-    back Q = refl
-    back R = refl
-    back B = refl
-    back N = refl
-    back P = refl
-    back K = refl
+    back kind = grind arith
 
 pub Chosen-more : (from to : ℕ) (old now : List Move) (n : ℕ) (kind : Kind) → promotion_place (Some kind) ≡ n + 1 → ((m : Move) → Contains old m → place_of m < (from * 64 + to) * 8) → Chosen from to old now n
     → Chosen from to old (now ++ record { from = from; to = to; promo = Some kind } ∷ []) (n + 1)
@@ -90,13 +76,7 @@ Chosen-more from to old now n kind place before chosen = record {
 
 -- all four: what a pawn may become
 four : (promo : Option Kind) → FitsPromotion true promo ↔ ((0 < promotion_place promo) × (promotion_place promo ≤ 4))
-four None = (λ none. absurd none, λ h. absurd (omega (arith, h.0)))
-four (Some Q) = (λ _. (omega arith, omega arith), λ _. tt)
-four (Some R) = (λ _. (omega arith, omega arith), λ _. tt)
-four (Some B) = (λ _. (omega arith, omega arith), λ _. tt)
-four (Some N) = (λ _. (omega arith, omega arith), λ _. tt)
-four (Some P) = (λ none. absurd none, λ h. absurd (omega (arith, h.1)))
-four (Some K) = (λ none. absurd none, λ h. absurd (omega (arith, h.1)))
+four promo = grind arith
 
 pub Chosen-all : (from to : ℕ) (old new : List Move) → Chosen from to old new 4 → (m : Move) → Contains new m ↔ (Contains old m ⊎ ((m.from ≡ from) × (m.to ≡ to) × FitsPromotion true m.promo))
 Chosen-all from to old new chosen m = (
@@ -118,8 +98,7 @@ plain_choice from to old m = (
 )
   where
     none : (o : Option Kind) → FitsPromotion false o → None ≡ o
-    none None f = refl
-    none (Some kind) f = absurd f
+    none o f = grind arith
 
     is_plain : (m : Move) → m.from ≡ from → m.to ≡ to → FitsPromotion false m.promo → plain from to ≡ m
     is_plain m e f g = λ i. record { from = sym e i; to = sym f i; promo = none m.promo g i }

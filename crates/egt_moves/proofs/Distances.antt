@@ -44,16 +44,14 @@ module _ {S : Type 0} (a : Arena S) where
 
   -- what a zeroing distance says
   pub zeroing_win : (n : ℕ) (p : S) → HasZeroing a p (Win n) → ZeroesWinningWithin a n p
-  zeroing_win zero p h = absurd h
-  zeroing_win (suc n) p h = h.1
+  zeroing_win n p h = grind arith
 
   pub zeroing_loss : (n : ℕ) (p : S) → HasZeroing a p (Loss n) → ZeroesLosingWithin a n p
   zeroing_loss zero p h = h
   zeroing_loss (suc n) p h = h.1
 
   pub zeroing_won : (n : ℕ) (p : S) → HasZeroing a p (Win n) → IsWon a p
-  zeroing_won zero p h = absurd h
-  zeroing_won (suc n) p h = h.0
+  zeroing_won n p h = grind arith
 
   pub zeroing_lost : (n : ℕ) (p : S) → HasZeroing a p (Loss n) → IsLost a p
   zeroing_lost zero p h = (zero, h)

@@ -9,11 +9,7 @@ use Rattle.egt_moves.proofs.Fitting.{shows_loss, shows_win, fitting_is_true, fit
 use Rattle.egt_moves.proofs.Distances.{zeroes_at_once, zeroes_losing_more, zeroes_winning_more, zeroes_is_won, zeroing_win, zeroing_loss, zeroing_win_is_least, zeroing_loss_is_least, same_kind, zeroing_shows_loss, zeroing_shows_win}
 
 kind_of_loss : (v w : Value) (i : ℕ) → SameKind v w → v ≡ Loss i → (j : ℕ) × (w ≡ Loss j)
-kind_of_loss (Win m) w i k e = absurd (cc)
-kind_of_loss (Loss m) (Win n) i k e = absurd k
-kind_of_loss (Loss m) (Loss n) i k e = (n, refl)
-kind_of_loss (Loss m) Draw i k e = absurd k
-kind_of_loss Draw w i k e = absurd (cc)
+kind_of_loss v w i k e = grind arith
 
 module _ {S : Type 0} (a : Arena S) where
   -- a value that shows a loss is lost
@@ -108,12 +104,10 @@ module _ {S : Type 0} (a : Arena S) (Own : S → Type 0) (e z : S → Value) (ju
               zeroing_beside (WinReached a z k) next (true_win_reached a z k) p q own m t.0 h.1 (omega (arith, t.2))
 
   mated_now : (n : ℕ) (p : S) → FitsZeroing a e z p (Loss n) → n ≤ zero → a.Checkmate p
-  mated_now zero p f le = f
-  mated_now (suc n) p f le = absurd (omega arith)
+  mated_now n p f le = grind arith
 
   no_win_now : (n : ℕ) (p : S) → FitsZeroing a e z p (Win n) → n ≤ zero → ⊥
-  no_win_now zero p f le = f
-  no_win_now (suc n) p f le = omega arith
+  no_win_now n p f le = grind arith
 
   -- a distance that fits is reached
   mutual
@@ -166,8 +160,7 @@ module _ {S : Type 0} (a : Arena S) (Own : S → Type 0) (e z : S → Value) (ju
           ⊎_elim g.0 none (h.1 q m).1
 
   no_loss_now : (n : ℕ) (p : S) → FitsZeroing a e z p (Loss n) → zero < n → ¬ (a.Checkmate p)
-  no_loss_now zero p f lt c = omega arith
-  no_loss_now (suc n) p f lt c = judged.ends p c f.0.0 f.0.1
+  no_loss_now n p f lt c = grind arith
 
   -- and there is no sooner one
   mutual
@@ -270,7 +263,7 @@ module _ {S : Type 0} (a : Arena S) (ends : Ends a) (known : Successors a) (e z 
       go (inl lt) = let same : k ≡ suc n = omega arith in inr (subst (Gives a Win e z p s.0 s.1) same g)
       go (inr few) = inl (within few)
 
-  -- so, where not each step goes on within n, some step gives n + 1
+  -- where not each step goes on within n, some step gives n + 1
   some_gives_more : (n : ℕ) → HasMove a p → ((q : S) (m : a.Move p q) → IsWon a q × (a.Zeroes p q m ⊎ ZeroesWinningWithin a (suc n) q)) → ¬ (ZeroesLosingWithin a (suc n) p) → (q : S) × (m : a.Move p q) × Gives a Win e z p q m (suc n)
   some_gives_more n some each not_within = go (each_or_some_step a known p (λ s. a.Zeroes p s.0 s.1 ⊎ ZeroesWinningWithin a n s.0) (λ s. Gives a Win e z p s.0 s.1 (suc n)) choose)
     where

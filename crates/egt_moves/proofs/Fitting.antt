@@ -24,19 +24,11 @@ module _ {S : Type 0} (a : Arena S) (ends : Ends a) where
 
   -- where an entry fits, checkmate shows nothing but a loss in 0
   fits_at_mate : (e : S → Value) (p : S) (v : Value) → Fits a e p v → a.Checkmate p → v ≡ Loss zero
-  fits_at_mate e p (Win zero) h c = absurd h
-  fits_at_mate e p (Win (suc n)) h c = absurd (ends p c h.0.0 h.0.1)
-  fits_at_mate e p (Loss zero) h c = refl
-  fits_at_mate e p (Loss (suc n)) h c = absurd (ends p c h.0.0 h.0.1)
-  fits_at_mate e p Draw h c = absurd (⊎_elim (λ (s : IsStalemate a p). s.1 c) (λ (s : SomeMove a p (λ q. e q ≡ Draw)). ends p c s.0 s.1) h.1)
+  fits_at_mate e p v h c = grind arith
 
   -- beside a successor that shows a loss in j, an entry that fits shows a win, of at most j + 1
   fits_at_loss : (e : S → Value) (p q : S) (v : Value) (j : ℕ) → Fits a e p v → a.Move p q → e q ≡ Loss j → (n : ℕ) × (v ≡ Win n) × (n ≤ suc j)
-  fits_at_loss e p q (Win zero) j h m l = absurd h
-  fits_at_loss e p q (Win (suc n)) j h m l = (suc n, refl, omega (arith, h.1 q m j l))
-  fits_at_loss e p q (Loss zero) j h m l = absurd (ends p h q m)
-  fits_at_loss e p q (Loss (suc n)) j h m l = let t = h.1 q m in absurd (let x : Win t.0 ≡ Loss j = sym t.1 ∙ l in cc)
-  fits_at_loss e p q Draw j h m l = absurd (h.0 q m j l)
+  fits_at_loss e p q v j h m l = grind arith
 
 module _ {S : Type 0} (a : Arena S) (e : S → Value) where
   -- a win that the entry shows, of at most k, is forced within k
@@ -85,12 +77,10 @@ module _ {S : Type 0} (a : Arena S) (Own : S → Type 0) (e : S → Value) (judg
           beside (WinReached a e k) next (true_win_reached a e k) p q own m t.0 t.1 (omega (arith, t.2))
 
   mated_now : (n : ℕ) (p : S) → Fits a e p (Loss n) → n ≤ zero → a.Checkmate p
-  mated_now zero p f le = f
-  mated_now (suc n) p f le = absurd (omega arith)
+  mated_now n p f le = grind arith
 
   no_win_now : (n : ℕ) (p : S) → Fits a e p (Win n) → n ≤ zero → ⊥
-  no_win_now zero p f le = f
-  no_win_now (suc n) p f le = omega arith
+  no_win_now n p f le = grind arith
 
   -- a win or loss that fits is reached
   mutual
@@ -189,9 +179,7 @@ module _ {S : Type 0} (a : Arena S) (ends : Ends a) where
       go (inr le) = le
 
 is_draw_or_not : (v : Value) → (v ≢ Draw) ⊎ (v ≡ Draw)
-is_draw_or_not (Win n) = inl (λ e. cc)
-is_draw_or_not (Loss n) = inl (λ e. cc)
-is_draw_or_not Draw = inr refl
+is_draw_or_not v = grind arith
 
 module _ {S : Type 0} (a : Arena S) (ends : Ends a) (known : Successors a) where
   -- true values fit

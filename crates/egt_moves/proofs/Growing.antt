@@ -1,12 +1,11 @@
 -- The list of moves as it grows.
-use Rattle.std.proofs.Common.{◌≡◌, ◌≢◌, ℕ, ◌+◌, ◌*◌, ◌<◌, ◌≤◌, ◌↔◌, ◌⊎◌, List, length, Bool, true, false, Option, Some}
+use Rattle.std.proofs.Common.{◌≡◌, ◌≢◌, ℕ, ◌+◌, ◌*◌, ◌<◌, ◌≤◌, ◌↔◌, ◌⊎◌, List, length, Bool, Option, Some}
 use Rattle.std.proofs.Common.{None, arith, refl, sym, ap, ◌∙◌, inl, inr, subst}
-use Rattle.egt_moves.specs.Prelude.{bit_at, Contains, cases_eq, cases_lt, and_parts, Kind, Q, R, B, N, P, K, Man}
-use Rattle.egt_moves.specs.Prelude.{SquareSet, Stands, Has, size_of, IsInCheck, Setup, Move, Goes, is_pawn, promotes}
+use Rattle.egt_moves.specs.Prelude.{bit_at, Contains, cases_eq, cases_lt, Kind, P, K, Man}
+use Rattle.egt_moves.specs.Prelude.{SquareSet, Stands, Has, size_of, IsInCheck, Setup, Move, Goes, promotes}
 use Rattle.egt_moves.specs.Prelude.{FitsPromotion, IsLegal, men_after, after, plain, IsSafeGoal, most_goals}
 use Rattle.egt_moves.specs.Prelude.{most_choices, most_moves, place_of, promotion_place, IsInOrder, one_man}
 use Rattle.egt_moves.proofs.After.{not_king_of, may_become, check_whatever}
-use Rattle.egt_moves.proofs.Admissible.{pawn_told}
 use Rattle.egt_board.proofs.Bits.{not_both}
 
 -- the legal moves of a man go to its targets, promote as they must, and leave the king safe
@@ -29,8 +28,7 @@ promoted_pawn : (man : Man) (to : ℕ) (kind : Kind) → FitsPromotion (promotes
 promoted_pawn man to kind fits = by_test (promotes man to) refl fits
   where
     by_test : (b : Bool) → promotes man to ≡ b → FitsPromotion b (Some kind) → man.kind ≡ P
-    by_test true e f = pawn_told man.kind (and_parts (is_pawn man.kind) _ e).0
-    by_test false e f = absurd f
+    by_test b e f = grind arith
 
 -- the king is safe whatever a pawn becomes
 pub same_safety : (p : Setup) (man : Man) (from to : ℕ) (promo : Option Kind) → man.side ≡ p.side → FitsPromotion (promotes man to) promo
@@ -45,13 +43,7 @@ same_safety p man from to (Some kind) mine fits =
 
 -- a number below the next square's
 pub promotion_small : (promo : Option Kind) → promotion_place promo < 8
-promotion_small None = omega arith
-promotion_small (Some Q) = omega arith
-promotion_small (Some R) = omega arith
-promotion_small (Some B) = omega arith
-promotion_small (Some N) = omega arith
-promotion_small (Some P) = omega arith
-promotion_small (Some K) = omega arith
+promotion_small promo = grind arith
 
 -- the legal moves from this square to the squares that are no longer left have been added
 pub record Lists (p : Setup) (man : Man) (from : ℕ) (old new : List Move) (left : SquareSet) : Type 0 where
@@ -81,12 +73,7 @@ Lists-none p man from old left stands ordered before mine safe few = record {
         not_both (bit_at left.bits m.to) w.2 ((safe m.to).1 (subst (λ s. IsSafeGoal p man s m.to) w.0 (goes_there, safe_there)))
 
     room_first : (kind : Kind) (n l : ℕ) → n ≤ most_goals kind → l + most_choices kind * n ≤ l + most_moves kind
-    room_first Q n l le = omega arith
-    room_first R n l le = omega arith
-    room_first B n l le = omega arith
-    room_first N n l le = omega arith
-    room_first P n l le = omega arith
-    room_first K n l le = omega arith
+    room_first kind n l le = grind arith
 
 -- the first square that is left, whether its moves are legal or not
 pub record Added (p : Setup) (man : Man) (from s : ℕ) (old new : List Move) : Type 0 where
@@ -141,12 +128,7 @@ Lists-more p man from s old now new left left' stands s_in has least gone others
     ]
 
     room_less : (kind : Kind) (n' n l l' o : ℕ) → n' + 1 ≡ n → l' ≤ l + most_choices kind → l + most_choices kind * n ≤ o + most_moves kind → l' + most_choices kind * n' ≤ o + most_moves kind
-    room_less Q n' n l l' o e a b = omega arith
-    room_less R n' n l l' o e a b = omega arith
-    room_less B n' n l l' o e a b = omega arith
-    room_less N n' n l l' o e a b = omega arith
-    room_less P n' n l l' o e a b = omega arith
-    room_less K n' n l l' o e a b = omega arith
+    room_less kind n' n l l' o e a b = grind arith
 
     there : (m : Move) → Contains new m → Contains old m ⊎ ((m.from ≡ from) × IsLegal p m × (bit_at left'.bits m.to ≡ 0))
     there m h = elim ((added.more m).0 h) [
@@ -181,12 +163,7 @@ pub Lists-room : (p : Setup) (man : Man) (from : ℕ) (old now : List Move) (lef
 Lists-room p man from old now left left' size room lists = enough man.kind (size_of left') (size_of left) (length now) (length old) size room lists.room
   where
     enough : (kind : Kind) (n' n l o : ℕ) → n' + 1 ≡ n → o + most_moves kind ≤ 64 → l + most_choices kind * n ≤ o + most_moves kind → l + most_choices kind ≤ 64
-    enough Q n' n l o e a b = omega arith
-    enough R n' n l o e a b = omega arith
-    enough B n' n l o e a b = omega arith
-    enough N n' n l o e a b = omega arith
-    enough P n' n l o e a b = omega arith
-    enough K n' n l o e a b = omega arith
+    enough kind n' n l o e a b = grind arith
 
 -- no square is left
 pub Lists-all : (p : Setup) (man : Man) (from : ℕ) (old new : List Move) (left : SquareSet) → Lists p man from old new left → ((t : ℕ) → bit_at left.bits t ≡ 0)

@@ -44,7 +44,7 @@ module _ {S : Type 0} (a : Arena S) where
         (s.0, s.1, (u.0, s.2, u.2), (λ z. s.3.0 (u.3.0 z), λ z. u.3.1 (s.3.1 z)));
   }
 
-  -- so any number of steps of a likeness is one
+  -- any number of steps of a likeness is a likeness
   pub alike_chain : (R : S → S → Type 0) → Alike a R → (n : ℕ) → Alike a (Chain R n)
   alike_chain R like zero = alike_same
   alike_chain R like (suc n) = alike_then R (Chain R n) like (alike_chain R like n)

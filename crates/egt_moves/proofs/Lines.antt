@@ -2,6 +2,7 @@
 use Rattle.std.proofs.Common.{ℕ, zero, suc, ◌⊎◌, inl, inr}
 use Rattle.egt_moves.specs.Arena.{Arena, Win, Loss, NoMove, SomeMove, EachMove, MatesWithin, CannotMateWithin, IsMatedWithin, AvoidsMateFor, HasValue}
 use Rattle.egt_moves.proofs.Bounds.{not_mated}
+use Rattle.std.proofs.Common.{arith}
 
 module _ {S : Type 0} (a : Arena S) where
   -- what is mated within k after a step of one that cannot mate within k is a loss in k
@@ -31,5 +32,4 @@ module _ {S : Type 0} (a : Arena S) where
       go (suc n) (inr l) d = from d.1
         where
           from : NoMove a p ⊎ SomeMove a p (CannotMateWithin a n) → SomeMove a p (λ q. HasValue a q (Win (suc n)))
-          from (inl none) = absurd (none l.0.0 l.0.1)
-          from (inr s) = (s.0, s.1, (l.1 s.0 s.1, s.2))
+          from h = grind arith

@@ -15,8 +15,7 @@ Contains-cases : {X : Type 0} (x y : X) (xs : List X) → Contains (x ∷ xs) y 
 Contains-cases x y xs h = go h.0 h.1 h.2
   where
     go : (k : ℕ) → k < length (x ∷ xs) → slice_index_or (x ∷ xs) k y ≡ y → (x ≡ y) ⊎ Contains xs y
-    go zero lt e = inl e
-    go (suc k) lt e = inr (k, omega arith, e)
+    go k lt e = grind arith
 
 Contains-none : {A : Type 0} (m : Move) → Contains [] m → A
 Contains-none m h = absurd (omega (arith, h.1))
@@ -199,7 +198,7 @@ unfolding moves_of all_moves
 in_moves_of p m ok legal = filter-Contains (is_legal p) (moves_below 64) m
     (in_below 64 m (ok.on_board m.from legal.1.man legal.1.stands) (goes_on_board p legal.1.man m.from m.to legal.1.goes)) (tells_where (decided_legal p m) legal)
 
--- so a list in order of exactly the legal moves is that list
+-- a list in order of exactly the legal moves is moves_of
 pub moves_of-is : (p : Setup) (ms : List Move) → IsAdmissible p → IsInOrder ms → ((m : Move) → Contains ms m ↔ IsLegal p m) → ms ≡ moves_of p
 moves_of-is p ms ok ordered legal = in_order_same ms (moves_of p) ordered (moves_of-ordered p)
     (λ m h. in_moves_of p m ok ((legal m).0 h)) (λ m h. (legal m).1 (moves_of-legal p m h))
@@ -213,5 +212,4 @@ leads_played p q m = (there (decided_legal p m), back (decided_legal p m))
     there (inr illegal) leads = absurd (illegal (q, leads))
 
     back : (d : Decided (IsLegal p m)) → led_to d ≡ Some q → Leads p m q
-    back (inl legal) e = let both : Some legal.0 ≡ Some q = e in let same : legal.0 ≡ q = cc in subst (Leads p m) same legal.1
-    back (inr illegal) e = let bad : None ≡ Some q = e in absurd (cc)
+    back d e = grind arith

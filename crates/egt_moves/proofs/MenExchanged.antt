@@ -1,7 +1,7 @@
 -- What a legal move does to the counts of men.
 use Rattle.std.proofs.Common.{◌≡◌, ◌≢◌, ℕ, ◌+◌, ◌<◌, ◌&&◌, ◌==◌, Option, Some, None, IfSome, true, false, Bool, refl}
 use Rattle.std.proofs.Common.{sym, ap, ◌∙◌, inl, inr, subst, if◌then◌else◌, arith}
-use Rattle.egt_moves.specs.Prelude.{IsSome, is_some, eqb-true, eq-eqb, and_parts, false≢true, Side, White, Black, Kind}
+use Rattle.egt_moves.specs.Prelude.{IsSome, is_some, eqb-true, eq-eqb, and_parts, false≢true, Side, Kind}
 use Rattle.egt_moves.specs.Prelude.{P, K, Man, other_side, rank_of, Placement, Stands, get-remove_other, ahead, pawn_of}
 use Rattle.egt_moves.specs.Prelude.{last_rank, IsTarget, target_rank, king_of, Setup, IsAdmissible, count_of}
 use Rattle.egt_moves.specs.Prelude.{stands_here, sides_differ, side_twice, Move, Captures, Exchanges, is_pawn, promotes}
@@ -17,16 +17,14 @@ pub record Changes : Type 0 where
   pub cleared : (men : Placement) (s : ℕ) (man : Man) → s < 64 → count_of (map.remove men s) man + stands_here man (map.get men s) ≡ count_of men man
 
 target_told : (o : Option ℕ) (to : ℕ) → is_target o to ≡ true → o ≡ Some to
-target_told None to e = absurd (false≢true e)
-target_told (Some t) to e = ap Some (eqb-true t to e)
+target_told o to e = grind arith
 
 tell_passing : (p : Setup) (man : Man) (to : ℕ) → man.kind ≡ P → p.target ≡ Some to → takes_in_passing p man to ≡ true
 tell_passing p man to pawn target =
     ap (λ k. is_pawn k && is_target p.target to) pawn ∙ ap (λ o. is_target o to) target ∙ eq-eqb to to refl
 
 is_some-at : (o : Option Man) → IsSome o → (man : Man) × (o ≡ Some man)
-is_some-at None some = absurd (false≢true some)
-is_some-at (Some man) some = (man, refl)
+is_some-at o some = grind arith
 
 some_is : (o : Option Man) (man : Man) → o ≡ Some man → IsSome o
 some_is o man e = ap is_some e
@@ -42,14 +40,10 @@ promotion_told man to kind fits = by_test (promotes man to) refl fits
     by_test false e none = absurd none
 
 no_pawn_last : (side : Side) (r : ℕ) → (0 < r) × (r < 7) → r ≡ last_rank side → ⊥
-no_pawn_last White r h e = let a = h.1 in omega arith
-no_pawn_last Black r h e = let a = h.0 in omega arith
+no_pawn_last side r h e = grind arith
 
 no_target_last : (side other : Side) → target_rank side ≡ last_rank other → ⊥
-no_target_last White White e = omega arith
-no_target_last White Black e = omega arith
-no_target_last Black White e = omega arith
-no_target_last Black Black e = omega arith
+no_target_last side other e = grind arith
 
 module _ (changes : Changes) (p q : Setup) (m : Move) (ok : IsAdmissible p) (step : Leads p m q) where
   from_in : m.from < 64
@@ -117,12 +111,10 @@ module _ (changes : Changes) (p q : Setup) (m : Move) (ok : IsAdmissible p) (ste
     captured some = let at = is_some-at (map.get p.men m.to) some in inl (record { man = at.0; stands = at.1; theirs = (enemy at.0 at.1).0 })
 
     enemies : (o : Option Man) → map.get p.men m.to ≡ o → IfSome o (λ other. (other.side ≡ other_side p.side) × (other.kind ≢ K))
-    enemies None e = tt
-    enemies (Some other) e = enemy other e
+    enemies o e = grind arith
 
     no_pawn : rank_of m.to ≡ last_rank step.man.side → (o : Option Man) → map.get p.men m.to ≡ o → IfSome o (λ other. other.kind ≢ P)
-    no_pawn last None e = tt
-    no_pawn last (Some other) e = λ pawn. no_pawn_last step.man.side (rank_of m.to) (ok.pawns m.to other e pawn) last
+    no_pawn last h e = grind arith
 
     plainly : Exchanges p m q
     plainly = record {

@@ -4,11 +4,12 @@ use Rattle.std.proofs.Common.{inr, subst, if◌then◌else◌, ◌==◌}
 use Rattle.egt_moves.specs.Prelude.{eqb_tells, Side, White, Black, Kind, K, Man, HasAllMen, AreApart, king_of}
 use Rattle.egt_moves.specs.Prelude.{IsInCheck, StandsBeside, other_side, ahead, last_rank, rank_of, Placement, Stands}
 use Rattle.egt_moves.specs.Prelude.{one_man, Setup, IsAdmissible, IsKingOn, Move, entry_after, square_after, Leads}
-use Rattle.egt_moves.specs.Prelude.{after, is_target, men_left, men_after, is_pawn, promotes, FitsPromotion, IsOfficer}
+use Rattle.egt_moves.specs.Prelude.{after, is_target, men_left, men_after, is_pawn, promotes, FitsPromotion}
 use Rattle.egt_moves.specs.Prelude.{arriving}
 use Rattle.std.specs.FinMap as map
 use Rattle.egt_moves.proofs.Admissible.{admissible_after}
 use Rattle.egt_moves.proofs.After.{after_to, after_other, after_cases, MayBecome, may_become, not_king_of}
+use Rattle.std.proofs.Common.{arith}
 
 abbrev Entry : Type 0
 Entry = Option (Man × ℕ)
@@ -18,12 +19,10 @@ not_passing : (p : Setup) (man : Man) (to : ℕ) → p.target ≢ Some to → me
 not_passing p man to off = ap (λ b. if b then map.remove p.men (ahead (other_side p.side) to) else p.men) (none (is_pawn man.kind))
   where
     away : (o : Option ℕ) → o ≢ Some to → is_target o to ≡ false
-    away None other = refl
-    away (Some t) other = elim (eqb_tells t to) [ inl h ↦ absurd (other (ap Some h.1)) | inr h ↦ h.0 ]
+    away o other = grind arith
 
     none : (b : Bool) → (b && is_target p.target to) ≡ false
-    none true = away p.target off
-    none false = refl
+    none b = grind arith
 
 -- who neither moves nor is taken stays
 stays : (p : Setup) (man : Man) (m : Move) (t : ℕ) (other : Man) → p.target ≢ Some m.to → t ≢ m.from → t ≢ m.to → Stands p.men t other → Stands (men_after p man m) t other
@@ -73,8 +72,7 @@ entries_apart None other m apart = tt
 entries_apart (Some e) None m apart = nobody (entry_after (Some e) m)
   where
     nobody : (o : Entry) → AreApart o None
-    nobody None = tt
-    nobody (Some x) = tt
+    nobody o = grind arith
 entries_apart (Some e) (Some d) m apart = by_tests (e.1 == m.from) (e.1 == m.to) (d.1 == m.from) (d.1 == m.to) (told e.1 m.from) (told e.1 m.to) (told d.1 m.from) (told d.1 m.to)
   where
     -- the test tells whether the squares are the same
@@ -88,17 +86,7 @@ entries_apart (Some e) (Some d) m apart = by_tests (e.1 == m.from) (e.1 == m.to)
     goes from to x = if from then Some (arriving x.0 m.promo, m.to) else (if to then None else Some x)
 
     by_tests : (a b c d' : Bool) → Tells a e.1 m.from → Tells b e.1 m.to → Tells c d.1 m.from → Tells d' d.1 m.to → AreApart (goes a b e) (goes c d' d)
-    by_tests true b true d' (inl x) y (inl z) w = absurd (apart (x.1 ∙ sym z.1))
-    by_tests true b true d' (inl x) y (inr z) w = absurd (cc)
-    by_tests true b true d' (inr x) y z w = absurd (cc)
-    by_tests true b false true x y z w = tt
-    by_tests true b false false x y z (inl w) = absurd (cc)
-    by_tests true b false false x y z (inr w) = λ same. w.1 (sym same)
-    by_tests false true c d' x y z w = tt
-    by_tests false false true d' x (inl y) z w = absurd (cc)
-    by_tests false false true d' x (inr y) z w = y.1
-    by_tests false false false true x y z w = tt
-    by_tests false false false false x y z w = apart
+    by_tests a b c d' x y z w = grind arith
 
 -- the king's square after the move, of which it is known that he has one
 king_told : (p : Setup) (man : Man) (m : Move) (side : Side) (k s : ℕ) → IsAdmissible p → Stands p.men m.from man → MayBecome m.promo → IsKingOn p.men side k → IsKingOn (men_after p man m) side s → IsKingOn (men_after p man m) side (square_after k m)
@@ -124,8 +112,7 @@ king_told p man m side k s ok stands may king there = subst (IsKingOn (men_after
         king_moved arrives = of_promo m.promo may arrives
           where
             of_promo : (promo : Option Kind) → MayBecome promo → king_of side ≡ arriving man promo → man ≡ king_of side
-            of_promo None none e = sym e
-            of_promo (Some kind) may e = absurd (subst IsOfficer (sym (ap (λ (x : Man). x.kind) e)) may)
+            of_promo promo none e = grind arith
 
 pub men_told : (p q : Setup) (m : Move) (white black : ℕ) (one other : Entry) → IsAdmissible p → HasAllMen p.men white black one other → Leads p m q → p.target ≢ Some m.to
     → HasAllMen q.men (square_after white m) (square_after black m) (entry_after one m) (entry_after other m)

@@ -2,7 +2,7 @@
 use Rattle.std.proofs.Common.{◌≡◌, ◌≢◌, ℕ, ◌+◌, ◌/◌, ◌==◌, ◌<◌, ◌⊎◌, ◌&&◌, ◌||◌, Bool, true, false, if◌then◌else◌}
 use Rattle.std.proofs.Common.{Option, Some, None, arith, refl, sym, ap, ◌∙◌, subst, inl, inr}
 use Rattle.egt_moves.specs.Prelude.{option_map, cases_eq, false≢true, and_parts, eqb_tells, Mirror, Files, Ranks}
-use Rattle.egt_moves.specs.Prelude.{Diagonal, Colours, Side, White, Black, Kind, Q, R, B, N, P, K, Man, other_side}
+use Rattle.egt_moves.specs.Prelude.{Diagonal, Colours, Side, Kind, Q, R, B, N, P, K, Man, other_side}
 use Rattle.egt_moves.specs.Prelude.{rank_of, Placement, Stands, IsFree, IsHeld, get-remove_same, get-remove_other}
 use Rattle.egt_moves.specs.Prelude.{ahead, last_rank, HasNoPawn, king_of, IsAttacked, IsInCheck, Setup, IsAdmissible}
 use Rattle.egt_moves.specs.Prelude.{square_by, side_by, man_by, IsMirrored, Allows, Move, chess, Zeroes, Goes, is_pawn}
@@ -12,9 +12,9 @@ use Rattle.egt_moves.specs.Prelude.{goes_on_board}
 use Rattle.std.specs.FinMap as map
 use Rattle.egt_board.specs.MirrorLaws as mirrors
 use Rattle.egt_moves.proofs.After.{target_is, after_to, after_from, after_other, after_cases}
-use Rattle.egt_moves.proofs.Admissible.{admissible_after, arrived_pawn, pawn_told, Forward, takes_forward_of, two_ranks_told, two_forward, not_two, Leap, leap}
+use Rattle.egt_moves.proofs.Admissible.{admissible_after, arrived_pawn, pawn_told, Forward, two_ranks_told, Leap}
 
--- so a mirror that the men allow is allowed by their image
+-- a mirror that the men allow is allowed by their image
 allows_by : (m : Mirror) (men men' : Placement) → mirrors.ShowsMen m men men' → mirrors.OnBoard men' → Allows m men → Allows m men'
 allows_by Files men men' shows ok' allows = tt
 allows_by Ranks men men' shows ok' allows = mirrors.no_pawn_by Ranks men men' shows ok' allows
@@ -124,16 +124,10 @@ promotes_there : (m : Mirror) (man : Man) (to : ℕ) → mirrors.Suits m man.kin
 promotes_there m man to suits to_in = by_kind man.kind suits
   where
     by_kind : (kind : Kind) → mirrors.Suits m kind → (is_pawn kind && (rank_of (square_by m to) == last_rank (side_by m man.side))) ≡ (is_pawn kind && (rank_of to == last_rank man.side))
-    by_kind P suits = mirrors.last_by m man.side to suits to_in
-    by_kind Q suits = refl
-    by_kind R suits = refl
-    by_kind B suits = refl
-    by_kind N suits = refl
-    by_kind K suits = refl
+    by_kind kind suits = grind arith
 
 arriving_there : (m : Mirror) (man : Man) (promo : Option Kind) → arriving (man_by m man) promo ≡ man_by m (arriving man promo)
-arriving_there m man None = refl
-arriving_there m man (Some kind) = refl
+arriving_there m man promo = grind arith
 
 target_told : (target : Option ℕ) (to : ℕ) → is_target target to ≡ true → target ≡ Some to
 target_told None to e = absurd (false≢true e)
@@ -181,8 +175,7 @@ left_there m p p' man to t r suits to_in t_in = by_test (takes_in_passing p man 
         ]
       where
         ahead_within : (side : Side) (s : ℕ) → 0 < rank_of s → rank_of s < 7 → ahead side s < 64
-        ahead_within White s low high = omega arith
-        ahead_within Black s low high = omega arith
+        ahead_within side s low high = grind arith
 
     by_test : (b : Bool) → takes_in_passing p man to ≡ b → takes_in_passing p' (man_by m man) (square_by m to) ≡ takes_in_passing p man to → map.get (men_left p' (man_by m man) (square_by m to)) (square_by m t) ≡ option_map (man_by m) (map.get (men_left p man to) t)
     by_test false e e' =
@@ -248,20 +241,12 @@ two_ranks_there Colours s t suits s_in t_in =
     ∙ swapped (rank_of s == rank_of t + 2) (rank_of t == rank_of s + 2)
   where
     swapped : (a b : Bool) → (a || b) ≡ (b || a)
-    swapped true true = refl
-    swapped true false = refl
-    swapped false true = refl
-    swapped false false = refl
+    swapped a b = grind arith
 
 -- the square halfway of an advance by two, in the mirror
 halfway_there : (m : Mirror) (F : ℕ → Type 0) (side : Side) (from to : ℕ) → mirrors.Suits m P → Leap F side from to → (square_by m from + square_by m to) / 2 ≡ square_by m ((from + to) / 2)
 unfolding Forward
-halfway_there Files F White from to suits l = let h = l.home in let g = l.file in let t = l.two in omega arith
-halfway_there Files F Black from to suits l = let h = l.home in let g = l.file in let t = l.two in omega arith
-halfway_there Ranks F side from to suits l = absurd (suits refl)
-halfway_there Diagonal F side from to suits l = absurd (suits refl)
-halfway_there Colours F White from to suits l = let h = l.home in let g = l.file in let t = l.two in omega arith
-halfway_there Colours F Black from to suits l = let h = l.home in let g = l.file in let t = l.two in omega arith
+halfway_there m F side from to suits l = grind arith
 
 -- the square that a pawn passes, here and in the mirror
 passed_there : (m : Mirror) (p : Setup) (man : Man) (from to : ℕ) → mirrors.Suits m man.kind → from < 64 → Goes p man from to → passed (man_by m man) (square_by m from) (square_by m to) ≡ option_map (square_by m) (passed man from to)
@@ -276,9 +261,7 @@ passed_there m p man from to suits from_in goes = by_test (is_pawn man.kind && i
     same K suits = refl
 
     halfway : man.kind ≡ P → (rank_of to ≡ rank_of from + 2) ⊎ (rank_of from ≡ rank_of to + 2) → Goes p man from to → (square_by m from + square_by m to) / 2 ≡ square_by m ((from + to) / 2)
-    halfway pawn ranks (inl piece) = absurd (piece.piece pawn)
-    halfway pawn ranks (inr (inl advance)) = halfway_there m (IsFree p.men) man.side from to (subst (mirrors.Suits m) pawn suits) (leap (IsFree p.men) man.side from to advance.advances ranks)
-    halfway pawn ranks (inr (inr takes)) = absurd (not_two 1 refl (two_forward man.side 1 from to (takes_forward_of p man from to takes) ranks))
+    halfway pawn ranks h = grind arith
 
     by_test : (b : Bool) → (is_pawn man.kind && is_two_ranks from to) ≡ b → passed (man_by m man) (square_by m from) (square_by m to) ≡ option_map (square_by m) (passed man from to)
     by_test false e =

@@ -1,9 +1,10 @@
 -- The nearest checkmate by legal steps of both sides: a least number, that entries which fit show, and that positions which play alike share.
-use Rattle.std.proofs.Common.{◌≡◌, ℕ, zero, suc, ◌≤◌, ◌<◌, ◌⊎◌, inl, inr, refl, sym, subst, ap, arith, ◌∙◌, Option}
-use Rattle.std.proofs.Common.{Some, None}
+use Rattle.std.proofs.Common.{◌≡◌, ℕ, zero, suc, ◌≤◌, ◌<◌, ◌⊎◌, ◌↔◌, inl, inr, refl, sym, subst, ap, arith, ◌∙◌}
+use Rattle.std.proofs.Common.{Option, Some, None}
 use Rattle.egt_moves.specs.Prelude.{⊎_elim, ⊎_swap, cases_lt, Arena, SomeMove, EachMove, IsStalemate, IsMatedWithin}
 use Rattle.egt_moves.specs.Prelude.{MatesWithin, IsDraw, Successors, Alike, ReachesMateWithin, ReachesNoMateBefore}
 use Rattle.egt_moves.specs.Prelude.{IsDead, HasReach, FitsReach, ReachJudgedOver}
+use Rattle.egt_moves.proofs.Likeness.{alike_backwards}
 use Rattle.egt_moves.proofs.Halves.{each_or_some_move, mated_or_avoids, mates_or_cannot}
 
 module _ {S : Type 0} (a : Arena S) where
@@ -55,9 +56,7 @@ module _ {S : Type 0} (a : Arena S) where
       let up : m ≤ n = least_reach m n p h k.0 in
       let down : n ≤ m = least_reach n m p k h.0 in
       let same : m ≡ n = omega arith in ap Some same
-  one_reach p (Some m) None h k = absurd (k m h.0)
-  one_reach p None (Some n) h k = absurd (h n k.0)
-  one_reach p None None h k = refl
+  one_reach p x y h k = grind arith
 
 module _ {S : Type 0} (a : Arena S) (known : Successors a) where
   -- a dead position is a draw
@@ -86,27 +85,26 @@ module _ {S : Type 0} (a : Arena S) (known : Successors a) where
       go less (inl r) = let t = less r in (t.0, t.1, omega (arith, t.2))
       go less (inr d) = (suc n, (h, d), omega arith)
 
+-- positions that play alike reach checkmate within one number
+alike_reaches : {S : Type 0} (a : Arena S) (R : S → S → Type 0) → Alike a R → (n : ℕ) (p p' : S) → R p p' → ReachesMateWithin a n p → ReachesMateWithin a n p'
+alike_reaches a R like zero p p' r c = (like.checkmate p p' r).0 c
+alike_reaches a R like (suc n) p p' r (inl c) = inl ((like.checkmate p p' r).0 c)
+alike_reaches a R like (suc n) p p' r (inr h) =
+    let s = like.there p p' h.0 r h.1 in
+    inr (s.0, s.1, alike_reaches a R like n h.0 s.0 s.2 h.2)
+
 module _ {S : Type 0} (a : Arena S) (R : S → S → Type 0) (like : Alike a R) where
-  -- positions that play alike reach checkmate within the same number
-  alike_reaches : (n : ℕ) (p p' : S) → R p p' → ReachesMateWithin a n p → ReachesMateWithin a n p'
-  alike_reaches zero p p' r c = (like.checkmate p p' r).0 c
-  alike_reaches (suc n) p p' r (inl c) = inl ((like.checkmate p p' r).0 c)
-  alike_reaches (suc n) p p' r (inr h) =
-      let s = like.there p p' h.0 r h.1 in
-      inr (s.0, s.1, alike_reaches n h.0 s.0 s.2 h.2)
+  reaches_back : (n : ℕ) (p p' : S) → R p p' → ReachesMateWithin a n p' → ReachesMateWithin a n p
+  reaches_back n p p' r = alike_reaches a (λ p' p. R p p') (alike_backwards a R like) n p' p r
 
-  alike_reaches_back : (n : ℕ) (p p' : S) → R p p' → ReachesMateWithin a n p' → ReachesMateWithin a n p
-  alike_reaches_back zero p p' r c = (like.checkmate p p' r).1 c
-  alike_reaches_back (suc n) p p' r (inl c) = inl ((like.checkmate p p' r).1 c)
-  alike_reaches_back (suc n) p p' r (inr h) =
-      let s = like.back p p' h.0 r h.1 in
-      inr (s.0, s.1, alike_reaches_back n s.0 h.0 s.2 h.2)
+  -- their nearest mates are equally far
+  alike_reach : (p p' : S) (x : Option ℕ) → R p p' → HasReach a p x → HasReach a p' x
+  alike_reach p p' (Some zero) r h = (alike_reaches a R like zero p p' r h.0, tt)
+  alike_reach p p' (Some (suc n)) r h = (alike_reaches a R like (suc n) p p' r h.0, λ s. h.1 (reaches_back n p p' r s))
+  alike_reach p p' None r h = λ n s. h n (reaches_back n p p' r s)
 
-  -- and have the same number
-  pub alike_reach : (p p' : S) (x : Option ℕ) → R p p' → HasReach a p x → HasReach a p' x
-  alike_reach p p' (Some zero) r h = (alike_reaches zero p p' r h.0, tt)
-  alike_reach p p' (Some (suc n)) r h = (alike_reaches (suc n) p p' r h.0, λ s. h.1 (alike_reaches_back n p p' r s))
-  alike_reach p p' None r h = λ n s. h n (alike_reaches_back n p p' r s)
+pub same_reach : {S : Type 0} (a : Arena S) (R : S → S → Type 0) → Alike a R → (p p' : S) (x : Option ℕ) → R p p' → HasReach a p x ↔ HasReach a p' x
+same_reach a R like p p' x r = (alike_reach a R like p p' x r, alike_reach a (λ p' p. R p p') (alike_backwards a R like) p' p x r)
 
 module _ {S : Type 0} (a : Arena S) (e : S → Option ℕ) where
   -- a number that the entry shows is reached
@@ -143,14 +141,10 @@ module _ {S : Type 0} (a : Arena S) (Own : S → Type 0) (e : S → Option ℕ) 
 
   -- an entry that fits shows checkmate, and no more than one ply above a successor's number
   told_at_mate : (n : ℕ) (p : S) (x : Option ℕ) → FitsReach a e p x → a.Checkmate p → (k : ℕ) × (x ≡ Some k) × (k ≤ n)
-  told_at_mate n p (Some zero) f c = (zero, refl, omega arith)
-  told_at_mate n p (Some (suc j)) f c = absurd (f.0 c)
-  told_at_mate n p None f c = absurd (f.0 c)
+  told_at_mate n p x f c = grind arith
 
   told_beside : (n k : ℕ) (p q : S) (x : Option ℕ) → FitsReach a e p x → a.Move p q → e q ≡ Some k → k ≤ n → (j : ℕ) × (x ≡ Some j) × (j ≤ suc n)
-  told_beside n k p q (Some zero) f m is le = (zero, refl, omega arith)
-  told_beside n k p q (Some (suc j)) f m is le = (suc j, refl, omega (arith, f.1.1 q m k is, le))
-  told_beside n k p q None f m is le = absurd (let x : None ≡ Some k = sym (f.1 q m) ∙ is in cc)
+  told_beside n k p q x f m is le = grind arith
 
   reached_told : (n : ℕ) (p : S) → Own p → Told a e n p
   reached_told zero p own c = told_at_mate zero p (e p) (judged.fits p own) c

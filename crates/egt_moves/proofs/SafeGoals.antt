@@ -1,7 +1,7 @@
 -- The squares to which legal moves go.
 use Rattle.std.proofs.Common.{◌≡◌, ◌≢◌, ◌↔◌, ℕ, ◌-◌, ◌<◌, ◌≤◌, Bool, true, false, cond, ◌&&◌, min, arith, Option, Some}
-use Rattle.std.proofs.Common.{None, refl, sym, ap, ◌∙◌, subst, inl, inr}
-use Rattle.egt_moves.specs.Prelude.{bit_at, eqb_tells, Side, Kind, Q, R, B, N, P, K, Man, other_side, Placement, Stands}
+use Rattle.std.proofs.Common.{None, refl, sym, ap, ◌∙◌, subst}
+use Rattle.egt_moves.specs.Prelude.{bit_at, Side, Kind, Q, P, K, Man, other_side, Placement, Stands}
 use Rattle.egt_moves.specs.Prelude.{ahead, IsAttacked, IsInCheck, IsKeptFrom, Setup, IsAdmissible, IsKingOn, size_of}
 use Rattle.egt_moves.specs.Prelude.{sides_differ, Move, Goes, is_pawn, promotes, FitsPromotion, men_after, plain}
 use Rattle.egt_moves.specs.Prelude.{is_target, takes_in_passing, IsLegalTarget, IsSafeGoal, king_square}
@@ -14,13 +14,7 @@ pub not_passing : (p : Setup) (man : Man) (t : ℕ) → (man.kind ≡ P → p.ta
 not_passing p man t none = by_kind man.kind p.target none
   where
     by_kind : (k : Kind) (o : Option ℕ) → (k ≡ P → o ≡ Some t → ⊥) → (is_pawn k && is_target o t) ≡ false
-    by_kind P None none = refl
-    by_kind P (Some s) none = elim (eqb_tells s t) [ inl here ↦ absurd (none refl (ap Some here.1)) | inr apart ↦ apart.0 ]
-    by_kind Q o none = refl
-    by_kind R o none = refl
-    by_kind B o none = refl
-    by_kind N o none = refl
-    by_kind K o none = refl
+    by_kind k o none = grind arith
 
 -- the man is lifted and put down
 plain_after : (p : Setup) (man : Man) (from t : ℕ) → takes_in_passing p man t ≡ false → men_after p man (plain from t) ≡ map.insert (map.remove p.men from) t man
@@ -112,8 +106,7 @@ changed_bit p man from t target safe set e is tried =
     subst (λ s. (bit_at set s ≡ 1) ↔ (¬ IsInCheck (men_after p man (plain from s)) p.side)) (sym e) (go safe is tried)
   where
     go : (b : Bool) → bit_at set target ≡ cond b 1 0 → (b ≡ true) ↔ (¬ IsInCheck (men_after p man (plain from target)) p.side) → (bit_at set target ≡ 1) ↔ (¬ IsInCheck (men_after p man (plain from target)) p.side)
-    go true one told = (λ _. told.0 refl, λ _. one)
-    go false none told = (λ one. absurd (omega arith), λ safe. let bad : false ≡ true = told.1 safe in absurd (cc))
+    go b one told = grind arith
 
 pub same_target : (t s : ℕ) → Some t ≡ Some s → t ≡ s
 same_target t s e = cc

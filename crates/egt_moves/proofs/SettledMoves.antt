@@ -1,5 +1,5 @@
 -- A target that no pawn stands ready to take changes no move.
-use Rattle.std.proofs.Common.{◌≡◌, ◌≢◌, ℕ, ◌≤◌, ◌==◌, ◌⊎◌, ◌↔◌, Bool, true, false, if◌then◌else◌, Option, Some, None}
+use Rattle.std.proofs.Common.{◌≡◌, ◌≢◌, ℕ, ◌≤◌, ◌==◌, ◌⊎◌, ◌↔◌, Bool, if◌then◌else◌, Option, Some, None}
 use Rattle.std.proofs.Common.{IfSome, arith, sym, ap, ◌∙◌, subst, inl, inr}
 use Rattle.egt_moves.specs.Prelude.{cases_eq, Side, White, Black, P, Man, other_side, rank_of, Stands, IsFree, Rides}
 use Rattle.egt_moves.specs.Prelude.{OneOf, pawn_steps, pawn_of, ahead, home_rank, farthest_advance, Advances, IsBeside}
@@ -13,19 +13,13 @@ use Rattle.egt_moves.proofs.Likeness.{alike_by_steps}
 
 -- a pawn that takes on the target stands beside the pawn that advanced
 takes_beside : (F : ℕ → Type 0) (side : Side) (from to : ℕ) → OneOf (Rides F 1 from to) (pawn_steps side) → rank_of to ≡ target_rank side → IsBeside from (ahead (other_side side) to)
-takes_beside F White from to (inl r) e = let a = r.moves in let b = r.within in let h = r.away.along in let g = r.away.across in (omega arith, inr (omega arith))
-takes_beside F White from to (inr (inl r)) e = let a = r.moves in let b = r.within in let h = r.away.along in let g = r.away.across in (omega arith, inl (omega arith))
-takes_beside F White from to (inr (inr none)) e = absurd none
-takes_beside F Black from to (inl r) e = let a = r.moves in let b = r.within in let h = r.away.along in let g = r.away.across in (omega arith, inr (omega arith))
-takes_beside F Black from to (inr (inl r)) e = let a = r.moves in let b = r.within in let h = r.away.along in let g = r.away.across in (omega arith, inl (omega arith))
-takes_beside F Black from to (inr (inr none)) e = absurd none
+takes_beside F side from to h e = grind arith
 
 pub farthest_two : (side : Side) (s : ℕ) → farthest_advance side s ≤ 2
 farthest_two side s = by_test (rank_of s == home_rank side)
   where
     by_test : (b : Bool) → (if b then 2 else 1) ≤ 2
-    by_test true = omega arith
-    by_test false = omega arith
+    by_test b = grind arith
 
 -- a pawn that advances to the target comes from the square of the pawn that advanced
 pub advances_from : (F : ℕ → Type 0) (side : Side) (from to : ℕ) → Advances F side from to → rank_of to ≡ target_rank side → from ≡ ahead (other_side side) to
@@ -91,17 +85,15 @@ goes_with p man from to (inr (inr takes)) = inr (inr (record {
   ];
 }))
 
--- so none is taken in passing
+-- where no pawn stands ready to take there, none is taken in passing
 same_left : (p : Setup) (man : Man) (from to : ℕ) → IsAdmissible p → ¬ IsSettled p → Stands p.men from man → man.side ≡ p.side → Goes p man from to → men_left p man to ≡ men_left (untargeted p) man to
 same_left p man from to ok unsettled stands mine goes = here (left_cases p man to ok) ∙ sym (there (left_cases (untargeted p) man to (untargeted_admissible p ok)))
   where
     here : (men_left p man to ≡ p.men) ⊎ Passing p man to → men_left p man to ≡ p.men
-    here (inl same) = same
-    here (inr passing) = absurd (not_to_target p man from to ok unsettled stands mine passing.pawn goes passing.target)
+    here h = grind arith
 
     there : (men_left (untargeted p) man to ≡ p.men) ⊎ Passing (untargeted p) man to → men_left (untargeted p) man to ≡ p.men
-    there (inl same) = same
-    there (inr passing) = let bad : None ≡ Some to = passing.target in absurd (cc)
+    there h = grind arith
 
 same_after : (p : Setup) (man : Man) (m : Move) → IsAdmissible p → ¬ IsSettled p → Stands p.men m.from man → man.side ≡ p.side → Goes p man m.from m.to → after p man m ≡ after (untargeted p) man m
 same_after p man m ok unsettled stands mine goes =
@@ -159,12 +151,15 @@ keeps_steps = record {
     same_zeroes p p' m u = subst (λ x. (Zeroes p m → Zeroes x m) × (Zeroes x m → Zeroes p m)) (sym u.without) (λ z. z, λ z. z)
 
 -- a position and its settled form play alike
-pub settled_alike : Alike chess (λ p q. (p ≡ q) ⊎ Untargets p q)
+-- the one is the other, or lacks its target
+abbrev pub Settled : Setup → Setup → Type 0
+Settled p q = (p ≡ q) ⊎ Untargets p q
+
+pub settled_alike : Alike chess Settled
 settled_alike = alike_by_steps chess Untargets keeps_steps
 
-pub settles : (p q : Setup) → IsAdmissible p → SettlesTo p q → (p ≡ q) ⊎ Untargets p q
-settles p q ok (inl settled) = inl (sym settled.1)
-settles p q ok (inr unsettled) = inr (record { ok = ok; unsettled = unsettled.0; without = unsettled.1 })
+pub settles : (p q : Setup) → IsAdmissible p → SettlesTo p q → Settled p q
+settles p q ok h = grind arith
 
 pub same_leads : (p q r : Setup) (m : Move) → IsAdmissible p → SettlesTo p q → Leads p m r ↔ Leads q m r
 same_leads p q r m ok s = elim (settles p q ok s) [

@@ -1,5 +1,5 @@
 -- Positions that play alike are worth the same, and have the same fitting entries.
-use Rattle.std.proofs.Common.{ℕ, zero, suc, ◌⊎◌, inl, inr}
+use Rattle.std.proofs.Common.{ℕ, zero, suc, ◌⊎◌, ◌↔◌, inl, inr}
 use Rattle.egt_moves.specs.Prelude.{⊎_map, Arena, Value, Win, Loss, Draw, HasMove, NoMove, SomeMove, IsMatedWithin}
 use Rattle.egt_moves.specs.Prelude.{MatesWithin, AvoidsMateFor, CannotMateWithin, IsWon, IsLost, IsDraw, HasValue}
 use Rattle.egt_moves.specs.Prelude.{ZeroesLosingWithin, ZeroesWinningWithin, HasZeroing, Alike}
@@ -88,3 +88,11 @@ module _ {S : Type 0} (a : Arena S) (R : S → S → Type 0) (like : Alike a R) 
     λ z. h.2 (alike_zeroes_losing a (λ x y. R y x) (alike_backwards a R like) n p' p r z),
   )
   alike_zeroing p p' Draw r h = alike_draw a R like p p' r h
+
+module _ {S : Type 0} (a : Arena S) (R : S → S → Type 0) (like : Alike a R) where
+  -- positions that play alike have one value, and one zeroing distance
+  pub same_worth : (p p' : S) (v : Value) → R p p' → HasValue a p v ↔ HasValue a p' v
+  same_worth p p' v r = (alike_value a R like p p' v r, alike_value a (λ p' p. R p p') (alike_backwards a R like) p' p v r)
+
+  pub same_distance : (p p' : S) (v : Value) → R p p' → HasZeroing a p v ↔ HasZeroing a p' v
+  same_distance p p' v r = (alike_zeroing a R like p p' v r, alike_zeroing a (λ p' p. R p p') (alike_backwards a R like) p' p v r)

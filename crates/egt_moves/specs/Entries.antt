@@ -46,7 +46,7 @@ module _ {S : Type 0} (a : Arena S) where
     pub over : (p q : S) → Own p → a.Move p q → Own q ⊎ HasValue a q (e q)
     pub fits : (p : S) → Own p → Fits e p (e p)
 
-  -- the same of the zeroing column beside it
+  -- the zeroing column z beside e: a step out of the class leads to where z is known to be true, and each entry fits and is of e's kind
   pub record ZeroingJudgedOver (Own : S → Type 0) (e z : S → Value) : Type 0 where
     pub over : (p q : S) → Own p → a.Move p q → Own q ⊎ HasZeroing a q (z q)
     pub kind : (p : S) → Own p → SameKind (e p) (z p)

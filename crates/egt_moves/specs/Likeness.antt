@@ -26,7 +26,7 @@ module _ {S : Type 0} (a : Arena S) where
     pub checkmate : (p : S) → Good p → a.Checkmate p → a.Checkmate (f p)
     pub step : (p q : S) → Good p → (m : a.Move p q) → (m' : a.Move (f p) (f q)) × (a.Zeroes p q m ↔ a.Zeroes (f p) (f q) m')
 
-  -- the same steps lead on from positions that T relates, and both are checkmate or neither is
+  -- positions that T relates have their steps in common, and both are checkmate or neither is
   pub record KeepsSteps (T : S → S → Type 0) : Type 0 where
     pub checkmate : (p p' : S) → T p p' → a.Checkmate p ↔ a.Checkmate p'
     pub there : (p p' q : S) → T p p' → (m : a.Move p q) → (m' : a.Move p' q) × (a.Zeroes p q m ↔ a.Zeroes p' q m')

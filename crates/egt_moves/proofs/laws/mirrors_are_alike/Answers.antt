@@ -1,7 +1,7 @@
 use Rattle.std.specs.Prelude.{◌≡◌, refl}
 use Rattle.egt_moves.specs.Prelude.{Setup, IsAdmissible, chess}
-use Rattle.egt_moves.proofs.Likeness.{alike_backwards, alike_by_mirror}
-use Rattle.egt_moves.proofs.Worth.{alike_value, alike_zeroing}
+use Rattle.egt_moves.proofs.Likeness.{alike_by_mirror}
+use Rattle.egt_moves.proofs.Worth.{same_worth, same_distance}
 use Rattle.egt_moves.proofs.laws.mirrors_are_alike.Goals as goal
 
 -- q is the image of p, an admissible position
@@ -9,15 +9,7 @@ abbrev Image : (Setup → Setup) → Setup → Setup → Type 0
 Image f p q = IsAdmissible p × (q ≡ f p)
 
 pub returns-clause-values : goal.returns-clause-values
-returns-clause-values c f mirror p good v =
-    let like = alike_by_mirror chess IsAdmissible f mirror in (
-      alike_value chess (Image f) like p (f p) v (good, refl),
-      alike_value chess (λ q p. Image f p q) (alike_backwards chess (Image f) like) (f p) p v (good, refl),
-    )
+returns-clause-values c f mirror p good v = same_worth chess (Image f) (alike_by_mirror chess IsAdmissible f mirror) p (f p) v (good, refl)
 
 pub returns-clause-distances : goal.returns-clause-distances
-returns-clause-distances c f mirror p good v =
-    let like = alike_by_mirror chess IsAdmissible f mirror in (
-      alike_zeroing chess (Image f) like p (f p) v (good, refl),
-      alike_zeroing chess (λ q p. Image f p q) (alike_backwards chess (Image f) like) (f p) p v (good, refl),
-    )
+returns-clause-distances c f mirror p good v = same_distance chess (Image f) (alike_by_mirror chess IsAdmissible f mirror) p (f p) v (good, refl)

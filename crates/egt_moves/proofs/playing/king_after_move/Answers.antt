@@ -1,29 +1,23 @@
-use Rattle.std.proofs.Common.{◌≡◌, ℕ, false, true, ◌&&◌, Option, Some, None, refl, sym, ap, ◌∙◌, subst, ◌==◌}
-use Rattle.egt_moves.specs.Prelude.{false≢true, rank_of, last_rank, the_type, Side, White, Black, Kind, K, Man}
+use Rattle.std.proofs.Common.{◌≡◌, ℕ, false, true, ◌&&◌, Option, None, sym, ap, ◌∙◌, subst, ◌==◌}
+use Rattle.egt_moves.specs.Prelude.{rank_of, last_rank, the_type, Side, Kind, K, Man}
 use Rattle.egt_moves.specs.Prelude.{other_side, IsKingOn, is_pawn, promotes, FitsPromotion, men_after}
 use denote.Enum.Bare.{sameb}
 use Rattle.egt_moves.proofs.After.{king_moves, king_stays, other_king_stays, may_become}
 use Rattle.egt_moves.proofs.playing.king_after_move.Goals as goal
+use Rattle.std.proofs.Common.{arith}
 
 like : (a b : Side) → sameb the_type a b ≡ true → a ≡ b
-like White White e = refl
-like Black Black e = refl
-like White Black e = absurd (false≢true e)
-like Black White e = absurd (false≢true e)
+like a b e = grind arith
 
 unlike : (a b : Side) → sameb the_type a b ≡ false → other_side a ≡ b
-unlike White White e = absurd (false≢true (sym e))
-unlike Black Black e = absurd (false≢true (sym e))
-unlike White Black e = refl
-unlike Black White e = refl
+unlike a b e = grind arith
 
 -- a king becomes nothing
 none_for_king : (man : Man) (to : ℕ) (promo : Option Kind) → man.kind ≡ K → FitsPromotion (promotes man to) promo → promo ≡ None
 none_for_king man to promo is_king fits = go promo (subst (λ k. FitsPromotion (is_pawn k && (rank_of to == last_rank man.side)) promo) is_king fits)
   where
     go : (o : Option Kind) → FitsPromotion false o → o ≡ None
-    go None h = refl
-    go (Some kind) h = absurd h
+    go o h = grind arith
 
 pub returns-in-K : goal.returns-in-K
 returns-in-K c =
