@@ -1,22 +1,24 @@
 -- Tables with the entries of a row's squares put anew.
 use Rattle.std.proofs.Common.{◌≡◌, ◌≢◌, ◌∙◌, ℕ, ◌+◌, ◌*◌, ◌-◌, ◌%◌, ◌<◌, ◌==◌, if◌then◌else◌, Bool, true, false, List}
-use Rattle.std.proofs.Common.{arith, refl, sym, ap, inl, inr, slice_index, subst}
-use Rattle.egt_fill.specs.Prelude.{cases_eq, nat_tests, Has, SquareSet, IsVoid, code_of, kind_digits, kind_less}
+use Rattle.std.proofs.Common.{arith, refl, sym, ap, inl, inr, replicate, slice_index, subst}
+use Rattle.egt_fill.specs.Prelude.{cases_eq, get_or-replicate, nat_tests, Has, SquareSet, IsVoid, code_of, kind_digits, kind_less}
 use Rattle.egt_fill.specs.Prelude.{number_in, size_of, byte_score, reach_score, TableValue, near_entry, entry_at}
 use Rattle.egt_fill.specs.Prelude.{reach_at, Metric, Mate, Zeroing, IsPutIn, IsToldAt, AreAlike, IsKnown, column_of}
-use Rattle.egt_fill.specs.Prelude.{table_in, IsRightEndOf, IsLaneIn, HasBytes, column_score, Part, if_not, if_same}
+use Rattle.egt_fill.specs.Prelude.{table_in, IsRightEndOf, IsLaneIn, HasBytes, column_score, Part, if_not}
 use Rattle.egt_fill.specs.Prelude.{near_at, AreOfEnd, IsEndScore, IsLaneOf, IsMendedAt, IsPutAt, Shelf}
 use Rattle.egt_table.specs.declared.column.Column.TheVariants as columns
 use Rattle.egt_check.specs.declared.part.Part.TheVariants as parts
 use Rattle.egt_fill.proofs.PutEntries.{stays}
 
--- what differs nowhere is the same
-pub same_there : (x y w n : ℕ) → n ≡ (if x == y then 0 else w) → n ≡ 0 → w ≢ 0 → x ≡ y
-same_there x y w n is none some = elim (cases_eq x y) [ inl same ↦ same | inr other ↦ absurd (some (sym (is ∙ if_not x y 0 w other) ∙ none)) ]
-
--- what differs from 0 alone is 0
-pub none_within : (x y w n : ℕ) → n ≡ (if x == y then 0 else w) → w ≡ 0 → n ≡ 0
-none_within x y w n is none = elim (cases_eq x y) [ inl same ↦ is ∙ if_same x y 0 w same | inr other ↦ is ∙ if_not x y 0 w other ∙ none ]
+-- rows are the same where the set of the squares at which they differ has none
+pub same_there : (x y b n bit : ℕ) → b < 64 → n ≡ (if x == y then 0 else slice_index (replicate 64 1) b) → bit ≡ (if n == 0 then 0 else 1) → bit ≡ 0 → x ≡ y
+same_there x y b n bit b_in differs is none = elim (cases_eq x y) [
+  | inl same ↦ same
+  | inr other ↦
+      let one : n ≡ 1 = differs ∙ if_not x y 0 (slice_index (replicate 64 1) b) other ∙ get_or-replicate 64 b 1 0 b_in in
+      let has = is ∙ if_not n 0 0 1 (λ e. omega (arith, one, e)) in
+      absurd (omega (arith, has, none))
+]
 
 -- ---- bytes stay
 

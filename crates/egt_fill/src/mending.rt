@@ -18,7 +18,6 @@ use egt_check::part::{Part, column_of};
 use egt_check::row_judging::{due_in, first_of};
 use egt_index::laws::{codes_tell_turned_men, numbers_stand_for_codes};
 use egt_index::{ShelfMen, code_of, size};
-use egt_lanes::row::greater;
 use egt_lanes::score::due;
 use egt_lanes::sets::lanes_of;
 use egt_lanes::{Block, Row};
@@ -34,19 +33,17 @@ pub(crate) struct Shelf {
     pub(crate) passed: bool,
 }
 
-/// Puts the entries with these scores at the shelf's codes with the last man on these squares, where the mask is not 0.
+/// Puts the entries with these scores at the shelf's codes with the last man on these squares.
 /// False where no entries have them that tell one result, and where a code is no index: then all stays as it is.
 fn put_lanes(
     table: &mut Found,
     part: Part,
     shelf: &Shelf,
     lanes: SquareSet,
-    mask: Row,
     scores: Row,
     clocks: Row,
 ) -> bool
     requires shelf { IsShelf table.old.class shelf.now }
-    requires mask { IsMaskOf lanes mask }
     requires there { HasColumn (column_of part) table.old }
     requires bytes { HasBytes (table_in part table.old) }
     ensures mended { IsMendedAt part (IsLaneOf table.old.class shelf.now lanes) table.old table.new }
@@ -62,18 +59,17 @@ fn put_lanes(
         shelf.number,
         shelf.side,
         lanes,
-        mask,
+        mask_of(lanes),
         scores,
         clocks,
     )
 }
 
-/// Of each square where the zeroing column, which is put with the mate column, is not due to these scores what `within` has there, else 0.
-fn wrong_clocks(table: &Found, part: Part, shelf: &Shelf, clocks: Row, within: Row) -> Row
+/// The squares at which the zeroing column, which is put with the mate column, is not due to these scores.
+fn wrong_clocks(table: &Found, part: Part, shelf: &Shelf, clocks: Row) -> SquareSet
     requires shelf { IsShelf table.now.class shelf.now }
-    ensures due { (digit : ℕ) → digit < kind_digits shelf.now.men.last.kind → slice_index result (digit + kind_less shelf.now.men.last.kind) ≡ 0 → slice_index within (digit + kind_less shelf.now.men.last.kind) ≢ 0 →
+    ensures { (digit : ℕ) → digit < kind_digits shelf.now.men.last.kind → bit_at result.bits (digit + kind_less shelf.now.men.last.kind) ≡ 0 →
         part ≡ parts.Values → score_at table.now Zeroing (code_of table.now.class (number_in table.now.class shelf.now.number shelf.now.side digit)) ≡ slice_index clocks (digit + kind_less shelf.now.men.last.kind) }
-    ensures within { (s : ℕ) → s < 64 → slice_index within s ≡ 0 → slice_index result s ≡ 0 }
 {
     codes_tell_turned_men();
     match part {
@@ -85,9 +81,9 @@ fn wrong_clocks(table: &Found, part: Part, shelf: &Shelf, clocks: Row, within: R
                 shelf.side,
                 shelf.passed,
             );
-            unlike(own, clocks, within)
+            lanes_of(unlike(own, clocks, Row::splat(1)))
         }
-        Part::Reach => Row::splat(0),
+        Part::Reach => SquareSet::EMPTY,
     }
 }
 
@@ -117,7 +113,7 @@ fn see_end(
     };
     let lanes = SquareSet::EMPTY.with(square);
     let scores = Row::splat(score);
-    put_lanes(table, part, shelf, lanes, mask_of(lanes), scores, scores)
+    put_lanes(table, part, shelf, lanes, scores, scores)
 }
 
 /// Sees that the entries tell checkmate and stalemate at the shelf's codes with the last man on these squares, and puts those of checkmate where they do not.
@@ -157,8 +153,8 @@ pub(crate) enum Mended {
     Untold,
 }
 
-/// The last man's squares at which the entries of a row are not due to the greatest scores of the moves, as a mask and as a set, and those at which there is no
-/// move and that `ended` lacks.
+/// The last man's squares at which the entries of a row are not due to the greatest scores of the moves, and those at which
+/// there is no move and that `ended` lacks.
 fn row_seen(
     table: &Found,
     part: Part,
@@ -166,11 +162,10 @@ fn row_seen(
     scores: Row,
     zeroing: Row,
     ended: SquareSet,
-) -> (Row, SquareSet, SquareSet)
+) -> (SquareSet, SquareSet)
     requires shelf { IsShelf table.now.class shelf.now }
     requires there { HasColumn (column_of part) table.now }
-    ensures mask { IsMaskOf result.1 result.0 }
-    ensures seen { IsRowSeen part table.now shelf.now scores zeroing ended result.1 result.2 }
+    ensures { IsRowSeen part table.now shelf.now scores zeroing ended result.0 result.1 }
 {
     codes_tell_turned_men();
     let own = table.row(
@@ -180,14 +175,12 @@ fn row_seen(
         shelf.side,
         shelf.passed,
     );
-    // A row's scores are 0 where there is no move, and its own entries where there is no position.
-    let within = unlike(scores, Row::splat(0), own);
-    let wrong = greater(
-        unlike(own, due_in(part, scores), within),
-        wrong_clocks(table, part, shelf, due(zeroing), within),
-    );
-    let ends = lanes_of(own).without(lanes_of(scores)).without(ended);
-    (wrong, lanes_of(wrong), ends)
+    // Each comparison of rows becomes a set at once: LLVM takes one that it keeps across a branch apart, square by square.
+    let there = lanes_of(own);
+    let moving = there.common(lanes_of(scores));
+    let mates = lanes_of(unlike(own, due_in(part, scores), Row::splat(1)));
+    let wrong = mates.union(wrong_clocks(table, part, shelf, due(zeroing)));
+    (wrong.common(moving), there.without(moving).without(ended))
 }
 
 /// Puts what is due to the greatest scores of the moves at the shelf's codes that are indexes. Where there is no move, the entries tell checkmate or stalemate
@@ -211,7 +204,7 @@ pub(crate) fn mend_row(
 {
     numbers_stand_for_codes();
     let _class = table.class();
-    let (wrong, lanes, ends) = row_seen(table, part, shelf, scores, zeroing, *ended);
+    let (lanes, ends) = row_seen(table, part, shelf, scores, zeroing, *ended);
     if lanes.is_empty() && ends.is_empty() {
         return Mended::Due;
     }
@@ -229,7 +222,6 @@ pub(crate) fn mend_row(
         part,
         shelf,
         lanes,
-        wrong,
         due_in(part, scores),
         due(zeroing),
     ) {
