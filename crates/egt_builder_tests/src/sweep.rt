@@ -3,6 +3,7 @@ mod builds;
 mod damaged;
 mod figures;
 mod games;
+mod looks;
 mod migrates;
 mod nearest;
 mod orders;
