@@ -1,11 +1,11 @@
 //! A call made where a growth of memory may be refused, and made again: `scripts/refusals` refuses the growths one by one.
-use crate::folder::below;
 use crate::growing::{
     Answer, Answered, Build, Expand, Growing, Line, Migrate, Nearest, NewLibrary, NewRounds, Read,
     Solve, Write,
 };
 use egt_check::Library;
 use egt_class::{Class, by_name};
+use egt_commands::descent::descendants;
 use egt_fen::{Fen, read};
 use egt_graph::{Ranks, Rounds};
 use egt_sweep::{MateGame, ReachGame, build};
@@ -217,7 +217,7 @@ pub fn refuse(rt: &HostRuntime, call: &str, class: &str, stage: Stage) -> io::Re
         ),
         _ => {}
     }
-    let mut wanted = below(class);
+    let mut wanted = descendants(class);
     wanted[usize::from(class.number())] = matches!(call, "read" | "line" | "migrate" | "answer");
     let mut library = Library::new(rt.alloc())?;
     if !fill(rt.alloc(), &wanted, &mut library) {

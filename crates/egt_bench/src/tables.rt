@@ -1,8 +1,9 @@
 //! One class a run: how long its table is built and checked, beside those that it rests on, which are read from the files of a
 //! folder, and how much memory was in use at most.
-use crate::folder::{load_below, save};
 use egt_check::{Library, check};
 use egt_class::{Class, by_name, name};
+use egt_commands::loading::load_below;
+use egt_commands::saving::save;
 use egt_index::size;
 use egt_sweep::build;
 use egt_table::Table;
@@ -73,7 +74,10 @@ fn bench_class(rt: &HostRuntime, folder: &str, class: Class, library: &Library) 
         Some(table) => {
             time_check(rt, &table, library)?;
             print_memory(rt)?;
-            save(rt, folder, &table)
+            match save(rt, folder, &table) {
+                Ok(()) => Ok(()),
+                Err(fault) => println!(rt; "{fault}"),
+            }
         }
         None => println!(rt; "no table"),
     }
@@ -84,9 +88,8 @@ pub fn bench_table(rt: &HostRuntime, folder: &str, class: &str) -> io::Result<()
     let Some(class) = by_name(class) else {
         return println!(rt; "no class");
     };
-    let mut library = Library::new(rt.alloc())?;
-    if !load_below(rt, folder, class, &mut library)? {
-        return println!(rt; "a table was refused");
+    match load_below(rt, folder, class) {
+        Ok(library) => bench_class(rt, folder, class, &library),
+        Err(fault) => println!(rt; "{fault}"),
     }
-    bench_class(rt, folder, class, &library)
 }

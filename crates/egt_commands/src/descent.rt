@@ -16,7 +16,7 @@ fn mark_children(marks: &mut [bool; 36], class: Class)
 }
 
 /// For each class, by number, whether captures and promotions, one after another, lead from this class to it.
-pub(crate) fn descendants(class: Class) -> [bool; 36]
+pub fn descendants(class: Class) -> [bool; 36]
     ensures { (d : ℕ) → IsMarked result d ↔ Descends class d }
 {
     children_have_smaller_numbers();

@@ -1,7 +1,7 @@
 //! Samples of all classes with no folder of tables: those of the first six classes are built.
 
-use crate::games::{mate_game_agrees, zero_game_agrees};
-use crate::samples::{Held, agree};
+use crate::agree::games::{mate_game_agrees, zero_game_agrees};
+use crate::agree::samples::{Held, agree};
 use egt_check::Library;
 use egt_class::Class;
 use egt_sweep::build;
@@ -38,7 +38,7 @@ fn walks_agree(library: &Library, class: Class) -> bool {
         && (class.number() >= FEW || agree(Held::Entries, library, class, 1).is_ok())
 }
 
-/// Whether so are its games, as far as their children's tables are there.
+/// Whether the class's games are the plain ones, as far as their children's tables are there.
 fn games_agree(alloc: Global, library: &Library, class: Class) -> bool {
     let walks = step(class, 23, 3_989);
     (class.number() >= WITHOUT_PAWNS || mate_game_agrees(class, library, walks).is_ok())

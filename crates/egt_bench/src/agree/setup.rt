@@ -1,5 +1,6 @@
 //! A plain board: what stands on each of the 64 squares, by number. What the men do is walked out step by step.
 use egt_board::{Kind, Man, Position, Side};
+use egt_plain::steps::{stepped, steps_of};
 
 /// The men, the side to move, and the square that a pawn has just passed.
 #[derive(Clone, Copy)]
@@ -17,61 +18,17 @@ pub fn has(squares: &[bool; 64], square: u8) -> bool {
     }
 }
 
-/// Steps of files and ranks; 255 is one back.
-const ROOK_STEPS: [(u8, u8); 4] = [(0, 1), (1, 0), (0, 255), (255, 0)];
-
-const BISHOP_STEPS: [(u8, u8); 4] = [(1, 1), (1, 255), (255, 1), (255, 255)];
-
-const ALL_STEPS: [(u8, u8); 8] = [
-    (0, 1),
-    (1, 0),
-    (0, 255),
-    (255, 0),
-    (1, 1),
-    (1, 255),
-    (255, 1),
-    (255, 255),
-];
-
-const KNIGHT_STEPS: [(u8, u8); 8] = [
-    (1, 2),
-    (2, 1),
-    (255, 2),
-    (254, 1),
-    (1, 254),
-    (2, 255),
-    (255, 254),
-    (254, 255),
-];
-
-/// The ways in which a pawn captures.
+/// The ways in which a pawn captures, by files and ranks; 255 is one back.
 const WHITE_PAWN_STEPS: [(u8, u8); 2] = [(1, 1), (255, 1)];
 
 const BLACK_PAWN_STEPS: [(u8, u8); 2] = [(1, 255), (255, 255)];
 
-/// The steps by which a man captures, and how often he may repeat one (FIDE Laws of Chess 2023, articles 3.2 to 3.8).
-fn steps_of(man: Man) -> (&'static [(u8, u8)], u8) {
-    match man.kind {
-        Kind::Q => (&ALL_STEPS, 7),
-        Kind::R => (&ROOK_STEPS, 7),
-        Kind::B => (&BISHOP_STEPS, 7),
-        Kind::N => (&KNIGHT_STEPS, 1),
-        Kind::K => (&ALL_STEPS, 1),
-        Kind::P => match man.side {
-            Side::White => (&WHITE_PAWN_STEPS, 1),
-            Side::Black => (&BLACK_PAWN_STEPS, 1),
-        },
-    }
-}
-
-/// The square one step away, if there is one.
-fn stepped(square: u8, step: (u8, u8)) -> Option<u8> {
-    let file = (square % 8).wrapping_add(step.0);
-    let rank = (square / 8).wrapping_add(step.1);
-    if file < 8 && rank < 8 {
-        Some(8 * rank + file)
-    } else {
-        None
+/// The steps by which a man captures, and how often he may repeat one.
+fn capturing_steps(man: Man) -> (&'static [(u8, u8)], u8) {
+    match (man.kind, man.side) {
+        (Kind::P, Side::White) => (&WHITE_PAWN_STEPS, 1),
+        (Kind::P, Side::Black) => (&BLACK_PAWN_STEPS, 1),
+        (kind, _) => steps_of(kind),
     }
 }
 
@@ -139,7 +96,7 @@ impl Setup {
 
     /// The squares that the man attacks from there (article 3.1.3).
     pub fn attacked_from(&self, man: Man, from: u8) -> [bool; 64] {
-        let (steps, times) = steps_of(man);
+        let (steps, times) = capturing_steps(man);
         let mut squares = [false; 64];
         for step in steps {
             self.walk(from, *step, times, &mut squares);
@@ -246,7 +203,7 @@ impl Setup {
         false
     }
 
-    /// The same, without a target where no pawn may take there.
+    /// The setup, without a target where no pawn may take there.
     pub fn settled(&self) -> Setup {
         let mut settled = *self;
         if !self.has_taker() {

@@ -1,8 +1,8 @@
 //! Tables with entries changed at random: what the checker names of each, against the rules asked plainly.
-use crate::codes::{Spelled, spelling};
-use crate::judged::{Change, Changed, SpelledOtherwise};
-use crate::steps::steps;
-use crate::tables::entry_at;
+use crate::agree::codes::{Spelled, spelling};
+use crate::agree::judged::{Change, Changed, SpelledOtherwise};
+use crate::agree::steps::steps;
+use crate::agree::tables::entry_at;
 use egt_check::{Library, Reject, Rule, check};
 use egt_class::Class;
 use egt_graph::{Nears, Ranks};

@@ -3,11 +3,11 @@ ghost use Rattle.std.specs.Prelude.{IfOk};
 ghost use Rattle.egt_entries.specs.Tables.{table_at};
 ghost use Rattle.egt_sweep.specs.MateColumn.{AreMateRanks};
 
-use crate::codes::{Spelled, spelling};
-use crate::rule::{Value, said_by};
-use crate::setup::Setup;
-use crate::steps::{Step, steps};
-use crate::tables::mate_value;
+use crate::agree::codes::{Spelled, spelling};
+use crate::agree::rule::{Value, said_by};
+use crate::agree::setup::Setup;
+use crate::agree::steps::{Step, steps};
+use crate::agree::tables::mate_value;
 use arrayvec::ArrayVec;
 use egt_board::Position;
 use egt_check::{Library, Metric};
@@ -255,7 +255,8 @@ fn zero_game_over<'x>(
     }
 }
 
-/// The same over the ranks of the class's game of mates, which is solved for it; 0 where there is no game.
+/// At how many codes the class's game of zeroing moves is the plain one, over the ranks of its game of mates, which is solved for it; the first
+/// code at which it differs, and 0 where there is no game.
 pub fn zero_game_agrees(
     alloc: Global,
     class: Class,

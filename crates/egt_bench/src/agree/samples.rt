@@ -1,8 +1,8 @@
 //! Samples of a class's codes: every so many of them.
-use crate::codes::{Spelled, spelling};
-use crate::moves::moves_agree;
-use crate::tables::entries_agree;
-use crate::unmoves::unmoves_agree;
+use crate::agree::codes::{Spelled, spelling};
+use crate::agree::moves::moves_agree;
+use crate::agree::tables::entries_agree;
+use crate::agree::unmoves::unmoves_agree;
 use egt_board::Position;
 use egt_check::Library;
 use egt_class::Class;

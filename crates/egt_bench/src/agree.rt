@@ -1,16 +1,6 @@
-//! Holds what is fast against plain forms that walk the board. `egt_agree DIR CLASS` reads the tables of the class and
-//! of those below it from a folder and prints a line: that the entries of the class's codes are what those of the
-//! positions after each legal move give, and that what codes spell, legal moves, moves backwards and both games over the
-//! class are the plain ones; or the first code at which one of them differs, and then its status is 1. All codes of
-//! classes of two and three men are asked, and of the others every so many.
-//! `egt_agree sampled` asks the same of fewer codes, with no folder, and prints that they agree.
-//! `egt_agree solved DIR CLASS` solves both games over the class by counters, which takes a while for four men, and holds their ranks against its table.
-//! `egt_agree damaged DIR CLASS` changes entries of the class's table at random, and holds what the checker names against the rules asked plainly.
-#![tactic(auto)]
-
+//! What is fast against plain forms that walk the board. All codes of classes of two and three men are asked, and of the others every so many.
 mod codes;
 mod damaged;
-mod folder;
 mod games;
 mod judged;
 mod moves;
@@ -26,13 +16,12 @@ mod unmoves;
 use damaged::damaged_agrees;
 use egt_check::Library;
 use egt_class::{Class, by_name, name};
-use folder::library_of;
+use egt_commands::loading::load_whole;
 use games::{mate_game_agrees, zero_game_agrees};
 use sampled::samples_agree;
 use samples::{Held, agree};
 use solved::solved_agrees;
-use std::process::ExitCode;
-use std::{env, io};
+use std::io;
 
 /// The steps between the codes of a class of four men. They are odd, so that either side moves, with a target and without, and primes, so
 /// that no digit keeps to few values.
@@ -122,19 +111,19 @@ fn print_damaged(rt: &HostRuntime, class: Class, library: &Library) -> io::Resul
 
 /// What is done with the class.
 #[derive(Clone, Copy)]
-enum Task {
+pub enum Task {
     Compare,
     Solve,
     Damage,
 }
 
 /// Reads the tables of the class of that name and of those below it, and does the task; whether all agrees.
-fn run(rt: &HostRuntime, folder: &str, class: &str, task: Task) -> io::Result<bool> {
+pub fn run(rt: &HostRuntime, folder: &str, class: &str, task: Task) -> io::Result<bool> {
     let Some(class) = by_name(class) else {
         println!(rt; "no class")?;
         return Ok(false);
     };
-    let Some(library) = library_of(rt, folder, class)? else {
+    let Ok(library) = load_whole(rt, folder, class) else {
         println!(rt; "a table was refused")?;
         return Ok(false);
     };
@@ -146,30 +135,11 @@ fn run(rt: &HostRuntime, folder: &str, class: &str, task: Task) -> io::Result<bo
 }
 
 /// Compares the samples, and prints a line; whether they agree.
-fn print_sampled(rt: &HostRuntime) -> io::Result<bool> {
+pub fn print_sampled(rt: &HostRuntime) -> io::Result<bool> {
     let agrees = samples_agree(rt.alloc()) == Some(true);
     println!(rt;
         "samples of all classes {}",
         if agrees { "agree" } else { "differ" }
     )?;
     Ok(agrees)
-}
-
-fn main(rt: HostRuntime) -> io::Result<ExitCode> {
-    let mut given = Vec::new(rt.alloc());
-    for word in env::args(&rt)? {
-        given.push(word)?;
-    }
-    let mut words = Vec::new(rt.alloc());
-    for word in &given {
-        words.push(word.as_str())?;
-    }
-    let agrees = match words.as_slice() {
-        [_, "sampled"] => print_sampled(&rt)?,
-        [_, folder, class] => run(&rt, folder, class, Task::Compare)?,
-        [_, "solved", folder, class] => run(&rt, folder, class, Task::Solve)?,
-        [_, "damaged", folder, class] => run(&rt, folder, class, Task::Damage)?,
-        _ => true,
-    };
-    Ok(ExitCode::from(if agrees { 0 } else { 1 }))
 }

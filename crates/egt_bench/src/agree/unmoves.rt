@@ -1,5 +1,5 @@
 //! Moves backwards: those of the product against all positions before that there can be, each man tried on each square.
-use crate::setup::Setup;
+use crate::agree::setup::Setup;
 use egt_board::{Kind, Man, Position, Side};
 use egt_unmoves::{Unmove, unmoves};
 

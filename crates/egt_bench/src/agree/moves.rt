@@ -1,5 +1,5 @@
 //! Legal moves: those of the product against those that are found by trying each man on each square.
-use crate::setup::Setup;
+use crate::agree::setup::Setup;
 use arrayvec::ArrayVec;
 use egt_board::{Kind, Man, Position, Square, SquareSet};
 use egt_moves::{Move, Standing, legal_moves, legal_targets, legal_targets_of, play, standing};

@@ -1,7 +1,7 @@
 //! What codes spell (`docs/CLASSES.md`): digits are taken off one by one, and each image of the position is tried for a
 //! lesser code.
-use crate::setup::Setup;
-use crate::unmoves::is_settled_position;
+use crate::agree::setup::Setup;
+use crate::agree::unmoves::is_settled_position;
 use arrayvec::ArrayVec;
 use egt_board::{Kind, Man, Position, Side};
 use egt_class::{Class, name, of};
@@ -227,7 +227,7 @@ fn turned(square: u8, turn: u8) -> u8 {
 }
 
 impl Placed {
-    /// The same after a turn.
+    /// The men and the side as a turn leaves them.
     fn turned(&self, turn: u8) -> Placed {
         let exchanged = turn / 8 == 1;
         let side_of = |side: Side| if exchanged { side.other() } else { side };

@@ -1,36 +1,18 @@
 //! Entries of tables: those of a class against what the entries of the positions after each legal move give.
-ghost use Rattle.std.specs.Prelude.{◌≡◌, true};
-ghost use Rattle.egt_table.specs.Table.{HasColumn};
-
-use crate::codes::{Spelled, spelling};
-use crate::rule::{Value, best, entry, nearest, said_by};
-use crate::setup::Setup;
-use crate::steps::{Step, steps};
+use crate::agree::codes::{Spelled, spelling};
+use crate::agree::rule::{Value, best, entry, nearest, said_by};
+use crate::agree::setup::Setup;
+use crate::agree::steps::{Step, steps};
 use arrayvec::ArrayVec;
 use egt_board::Position;
 use egt_check::{Library, Metric};
 use egt_class::Class;
-use egt_index::size;
-use egt_table::{Column, Table};
-
-/// Whether the column is there.
-fn has(table: &Table, column: Column) -> bool
-    ensures { result ≡ true → HasColumn column table.now }
-{
-    match column {
-        Column::Mate | Column::Zeroing => true,
-        Column::Reach => table.has_reach(),
-    }
-}
+use egt_plain::shelf::entry_of;
+use egt_table::Column;
 
 /// The entry of an index in the table of a class, where the column is there.
 pub fn entry_at(library: &Library, column: Column, class: Class, index: u32) -> Option<u16> {
-    let table = library.get(class)?;
-    if has(table, column) && index < size(table.class()) {
-        Some(table.entry(column, index))
-    } else {
-        None
-    }
+    entry_of(library.get(class)?, column, index)
 }
 
 /// What the mate entry says of where a move leads.
@@ -38,8 +20,8 @@ pub fn mate_value(library: &Library, step: &Step) -> Option<Value> {
     said_by(entry_at(library, Column::Mate, step.class, step.index)?)
 }
 
-/// The same of the zeroing entry, with no plies left where the move has zeroed; none where both entries do not say the same but for
-/// plies.
+/// What the zeroing entry says of where a move leads, with no plies left where the move has zeroed; none where the mate entry says
+/// another outcome.
 fn zeroing_value(library: &Library, step: &Step) -> Option<Value> {
     let mate = mate_value(library, step)?;
     let zeroing = said_by(entry_at(library, Column::Zeroing, step.class, step.index)?)?;

@@ -1,9 +1,9 @@
 //! The rules of entries (`docs/RULES.md`), asked plainly of a table with some entries changed.
-use crate::codes::{Spelled, spelling};
-use crate::rule::{Value, said_by};
-use crate::setup::Setup;
-use crate::steps::{Step, steps};
-use crate::tables::entry_at;
+use crate::agree::codes::{Spelled, spelling};
+use crate::agree::rule::{Value, said_by};
+use crate::agree::setup::Setup;
+use crate::agree::steps::{Step, steps};
+use crate::agree::tables::entry_at;
 use arrayvec::ArrayVec;
 use egt_board::Position;
 use egt_check::{Library, Rule};
