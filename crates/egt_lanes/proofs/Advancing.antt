@@ -1,7 +1,7 @@
 -- Rows raised by a pawn's advances.
 use Rattle.std.proofs.Common.{◌≡◌, ℕ, ◌<◌, ◌≤◌, ◌==◌, ◌⊎◌, if◌then◌else◌, Bool, true, false, eqb, cond, max, List}
 use Rattle.std.proofs.Common.{get_or, refl, ap, ◌∙◌, subst, inl, inr, arith, eqb-true}
-use Rattle.egt_lanes.specs.Prelude.{cases_eq, eqb-false, false≢true, bit_at, Rides, Advances, forward, home_rank}
+use Rattle.egt_lanes.specs.Prelude.{cases_eq, eqb-false, bit_at, Rides, Advances, forward, home_rank}
 use Rattle.egt_lanes.specs.Prelude.{rank_of, Away, Side, White, Black, Step, AdvancesBy, IsRaised}
 use Rattle.egt_lanes.proofs.Raising.{raised_again, raised_among, raised_as, raised_by_none, raised_is}
 use Rattle.egt_lanes.proofs.Rays.{IsRidden}
@@ -17,12 +17,10 @@ kept_or_none bits t v w is = go (eqb (bit_at bits t) 1) refl
 
 -- so many squares are at most one or two
 one_goes : (home : Bool) (n : ℕ) → n ≤ 1 → n ≤ cond home 2 1
-one_goes true n few = omega (arith, few)
-one_goes false n few = few
+one_goes home n few = grind arith
 
 two_go : (home : Bool) → home ≡ true → 2 ≤ cond home 2 1
-two_go true is = omega arith
-two_go false is = absurd (false≢true is)
+two_go home is = grind arith
 
 same_count : (side : Side) (n m s t : ℕ) → Away (forward side) n s t → Away (forward side) m s t → n ≡ m
 same_count White n m s t a b = let one = a.along in let other = b.along in omega (arith, one, other)
@@ -105,8 +103,7 @@ one_or_two_squares F side s t r = elim (one_or_two r.rides.count r.rides.moves (
 ]
   where
     few : (home : Bool) (n : ℕ) → n ≤ cond home 2 1 → n ≤ 2
-    few true n within = within
-    few false n within = omega (arith, within)
+    few home n within = grind arith
 
 pub by_either : (F : ℕ → Type 0) (side : Side) (s low mid high : ℕ) (g : ℕ → ℕ) → IsRaised low (λ t. AdvancesBy 1 F side s t) g mid → IsRaised mid (λ t. AdvancesBy 2 F side s t) g high → IsRaised low (λ t. Advances F side s t) g high
 by_either F side s low mid high g one two =

@@ -1,8 +1,8 @@
 -- Every second entry.
-use Rattle.std.proofs.Common.{Bool, true, false, ◌≡◌, ℕ, ◌+◌, ◌*◌, ◌-◌, ◌<◌, ◌≤◌, ◌⊎◌, nat_lt, if◌then◌else◌, eqb, T}
+use Rattle.std.proofs.Common.{Bool, ◌≡◌, ℕ, ◌+◌, ◌*◌, ◌-◌, ◌<◌, ◌≤◌, ◌⊎◌, nat_lt, if◌then◌else◌, eqb, T}
 use Rattle.std.proofs.Common.{List, ◌++◌, length, get_or, sym, ap, ◌∙◌, inl, inr, arith}
 use Rattle.egt_lanes.specs.Prelude.{cases_lt, get_or-map, get_or_append_left, get_or-append_right, nat_tests, Side}
-use Rattle.egt_lanes.specs.Prelude.{White, Black, side_number}
+use Rattle.egt_lanes.specs.Prelude.{side_number}
 use lib.Lanes.{pick_l}
 use Rattle.egt_lanes.proofs.Tests.{passes_below, agreed}
 
@@ -28,8 +28,7 @@ joined_at low high entries n k j long first second k_in below above = elim (case
 ]
 
 pub side_number-small : (side : Side) → side_number side < 2
-side_number-small White = omega arith
-side_number-small Black = omega arith
+side_number-small side = grind arith
 
 -- where the entries of a square of the ranks 2 to 7 lie among those of two loads of which the second begins at 32; else 64
 abbrev pub pawn_place : ℕ → ℕ
@@ -45,8 +44,7 @@ pub pawn_place-edge : (s : ℕ) → (s < 8) ⊎ (56 ≤ s) → pawn_place s ≡ 
 pawn_place-edge s edge = grind (arith, nat_tests)
 
 pub bit-small : (b : Bool) → (if b then 1 else 0) < 2
-bit-small true = omega arith
-bit-small false = omega arith
+bit-small b = grind arith
 
 -- a rank down from the ranks 2 to 7; else 64
 abbrev pub target_place : ℕ → ℕ

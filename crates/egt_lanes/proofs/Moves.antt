@@ -56,9 +56,7 @@ beyond-leads Down n s s_in = go (ltb s (8 * n)) refl
 beyond-leads Still n s s_in = λ h. (refl, refl)
 
 further_is : (way : Way) (n n' a a' b b' : ℕ) → n ≡ n' → a ≡ a' → b ≡ b' → Further way n a b → Further way n' a' b'
-further_is Up n n' a a' b b' p q r h = omega arith
-further_is Down n n' a a' b b' p q r h = omega arith
-further_is Still n n' a a' b b' p q r h = omega arith
+further_is way n n' a a' b b' p q r h = grind arith
 
 -- along the rank to u, and from there along the file to t
 pub away_by : (d : Step) (s u t : ℕ) → t < 64 → Further d.files d.wide (file_of s) (file_of u) → rank_of u ≡ rank_of s

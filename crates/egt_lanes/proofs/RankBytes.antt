@@ -1,5 +1,5 @@
 -- The bits of a set, as bytes of ranks.
-use Rattle.std.proofs.Common.{◌≡◌, ℕ, zero, suc, ◌*◌, ◌/◌, ◌%◌, ◌^◌, ◌<◌, Bool, true, false, eqb, bit_and, eqb-true}
+use Rattle.std.proofs.Common.{◌≡◌, ℕ, zero, suc, ◌*◌, ◌/◌, ◌%◌, ◌^◌, ◌<◌, Bool, false, eqb, bit_and}
 use Rattle.std.proofs.Common.{eq-eqb, refl, sym, ap, ◌∙◌, arith}
 use Rattle.egt_lanes.specs.Prelude.{bit_at, div-div-eq-div-mul, and_pow, bit_at_cat_low, bit_at-lt, div-add-mod'}
 use Rattle.egt_lanes.specs.Prelude.{pow_pos}
@@ -20,8 +20,7 @@ scaled : (b w : ℕ) → b < 2 → 0 < w → eqb (b * w) w ≡ eqb b 1
 scaled zero w b_in w_in = go (eqb (0 * w) w) refl
   where
     go : (t : Bool) → eqb (0 * w) w ≡ t → t ≡ false
-    go true e = absurd (omega (arith, eqb-true _ _ e))
-    go false e = refl
+    go t e = grind arith
 scaled (suc zero) w b_in w_in = eq-eqb (1 * w) w (omega arith)
 scaled (suc (suc b)) w b_in w_in = absurd (omega arith)
 

@@ -11,14 +11,10 @@ first_coordinate Down n w a b a_in b_in h = (b + n * w, omega arith, omega arith
 first_coordinate Still n w a b a_in b_in h = (a, a_in, refl, h)
 
 both_coordinates : (way : Way) (n w a m b : ℕ) → Further way (1 * w) a m → Further way (n * w) m b → Further way ((n + 1) * w) a b
-both_coordinates Up n w a m b p q = omega arith
-both_coordinates Down n w a m b p q = omega arith
-both_coordinates Still n w a m b p q = omega arith
+both_coordinates way n w a m b p q = grind arith
 
 same_coordinate : (way : Way) (n a b b' : ℕ) → Further way n a b → Further way n a b' → b ≡ b'
-same_coordinate Up n a b b' p q = omega arith
-same_coordinate Down n a b b' p q = omega arith
-same_coordinate Still n a b b' p q = omega arith
+same_coordinate way n a b b' p q = grind arith
 
 next_coordinate : (way : Way) (n a : ℕ) → a < 8 → ((b : ℕ) × (b < 8) × Further way n a b) ⊎ ((b : ℕ) → b < 8 → Further way n a b → ⊥)
 next_coordinate Up n a a_in = elim (cases_lt (a + n) 8) [ inl l ↦ inl (a + n, l, refl) | inr g ↦ inr (λ b b_in h. omega arith) ]

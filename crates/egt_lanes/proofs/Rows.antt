@@ -1,7 +1,7 @@
 -- What the operations on rows come to at one lane. A mask's lane is 255 or 0.
 use Rattle.std.proofs.Common.{T, inl, inr, ◌==◌, if◌then◌else◌, subst, ◌≡◌, ◌≢◌, ℕ, zero, suc, ◌+◌, ◌≤◌, ◌<◌, ◌-◌, ◌/◌}
 use Rattle.std.proofs.Common.{◌%◌, ◌^◌, Bool, true, false, not, cond, eqb, ltb, leb, max, List, [], ◌∷◌, map, length}
-use Rattle.std.proofs.Common.{get_or, replicate, bit_and, refl, sym, ap, ◌∙◌, arith, Fits, w8, ltb-true, ltb-false}
+use Rattle.std.proofs.Common.{get_or, replicate, bit_and, refl, sym, ap, ◌∙◌, arith, Fits, w8}
 use Rattle.std.proofs.Common.{eqb-true}
 use Rattle.egt_lanes.specs.Prelude.{length-map, and_mask, length-replicate, length-zip2, mask_l-mod, bit_mask_l}
 use Rattle.egt_lanes.specs.Prelude.{cases_eq, eqb-false, bit_at, byte_score, zeroing_score, due_score, reach_score}
@@ -39,8 +39,7 @@ greater_of : (a b : ℕ) → chosen (below a b) b a ≡ max a b
 greater_of a b = go (ltb a b) refl
   where
     go : (t : Bool) → ltb a b ≡ t → chosen (cond t 255 0) b a ≡ max a b
-    go true e = omega (arith, ltb-true _ _ e)
-    go false e = omega (arith, ltb-false _ _ e)
+    go t e = grind arith
 
 pub greater_at : (xs ys : List ℕ) (i : ℕ) → i < length xs → i < length ys → get_or (select (zip2 below xs ys) ys xs) i 0 ≡ max (get_or xs i 0) (get_or ys i 0)
 greater_at [] ys i p q = absurd (omega arith)
@@ -124,8 +123,7 @@ same_of : (a b x y : ℕ) → chosen (same a b) x y ≡ cond (eqb a b) x y
 same_of a b x y = go (eqb a b)
   where
     go : (t : Bool) → chosen (cond t 255 0) x y ≡ cond t x y
-    go true = refl
-    go false = refl
+    go t = grind arith
 
 pub same_at : (us ks xs ys : List ℕ) (i : ℕ) → i < length us → i < length ks → i < length xs → i < length ys
     → get_or (select (zip2 same us ks) xs ys) i 0 ≡ cond (eqb (get_or us i 0) (get_or ks i 0)) (get_or xs i 0) (get_or ys i 0)
@@ -156,13 +154,11 @@ set_at [] i p = absurd (omega arith)
 set_at (x ∷ xs) zero p = go (eqb x 0)
   where
     go : (t : Bool) → top 7 (cond (not t) 255 0) ≡ not t
-    go true = refl
-    go false = refl
+    go t = grind arith
 set_at (x ∷ xs) (suc i) p = set_at xs i (omega arith)
 
 one_unless : (b : Bool) → ◌≡◌ {A = ℕ} (cond (not b) 1 0) (cond b 0 1)
-one_unless true = refl
-one_unless false = refl
+one_unless b = grind arith
 
 pub lanes_bits : (xs : List ℕ) (i : ℕ) → length xs ≡ 64 → i < 64
     → bit_at (mask_l (map (top 7) (zip2 other xs (replicate 64 0))) % 2 ^ 64) i ≡ (if get_or xs i 0 == 0 then 0 else 1)

@@ -79,8 +79,7 @@ nth true k = 63 - k
 nth false k = k
 
 pub nth_is : (upward : Bool) (k : ℕ) → (if upward then 63 - k else k) ≡ nth upward k
-nth_is true k = refl
-nth_is false k = refl
+nth_is upward k = grind arith
 
 pub record IsSwept (kings : ℕ) (d : Step) (upward : Bool) (rows old out reached : List (List ℕ)) (k : ℕ) : Type 0 where
   pub out_long : length out ≡ 64
@@ -91,28 +90,23 @@ pub record IsSwept (kings : ℕ) (d : Step) (upward : Bool) (rows old out reache
 
 -- what comes next on the way is known
 pub next_is_past : (upward : Bool) (k n : ℕ) → k < 64 → n < 64 → IsAhead upward (nth upward k) n → IsPast upward k n
-next_is_past true k n k_in n_in ahead = omega arith
-next_is_past false k n k_in n_in ahead = ahead
+next_is_past upward k n k_in n_in ahead = grind arith
 
 pub past_or_here : (upward : Bool) (k a : ℕ) → k < 64 → a < 64 → IsPast upward (k + 1) a → (a ≡ nth upward k) ⊎ IsPast upward k a
 past_or_here true k a k_in a_in past = elim (cases_eq a (63 - k)) [ inl e ↦ inl e | inr other ↦ inr (omega arith) ]
 past_or_here false k a k_in a_in past = elim (cases_eq a k) [ inl e ↦ inl e | inr other ↦ inr (omega arith) ]
 
 pub here_is_past : (upward : Bool) (k : ℕ) → k < 64 → IsPast upward (k + 1) (nth upward k)
-here_is_past true k k_in = omega arith
-here_is_past false k k_in = omega arith
+here_is_past upward k k_in = grind arith
 
 pub past_more : (upward : Bool) (k a : ℕ) → IsPast upward k a → IsPast upward (k + 1) a
-past_more true k a past = omega arith
-past_more false k a past = omega arith
+past_more upward k a past = grind arith
 
 pub here_is_new : (upward : Bool) (k : ℕ) → k < 64 → ¬ IsPast upward k (nth upward k)
-here_is_new true k k_in past = omega arith
-here_is_new false k k_in past = omega arith
+here_is_new upward k k_in past = grind arith
 
 pub nth_in : (upward : Bool) (k : ℕ) → k < 64 → nth upward k < 64
-nth_in true k k_in = omega arith
-nth_in false k k_in = k_in
+nth_in upward k k_in = grind arith
 
 module _ (kings : ℕ) (d : Step) (upward : Bool) (rows old out reached : List (List ℕ)) (k : ℕ) (k_in : k < 64) (before : IsSwept kings d upward rows old out reached k) (s : ℕ) (is : s ≡ nth upward k) (row top : List ℕ)
     (found : (b : ℕ) → b < 64 → IsRaised 0 (λ t. Rides (IsOpen kings b) 7 s t d) (λ t. at rows t b) (get_or row b 0)) (raises : (b : ℕ) → b < 64 → get_or top b 0 ≡ max (at out s b) (get_or row b 0)) where
