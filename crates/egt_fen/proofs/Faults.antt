@@ -1,37 +1,14 @@
 -- A text has one first fault at most, and none where it spells a position.
-use Rattle.std.proofs.Common.{◌≡◌, ℕ, List, Result, Ok, Err, refl, sym, ap, ◌∙◌, subst}
+use Rattle.std.proofs.Common.{◌≡◌, ℕ, List, Result, Ok, Err, sym, ap, ◌∙◌, subst}
 use Rattle.egt_fen.specs.Prelude.{MatchResult, PosFault, MenCount, KingCount, PawnRank, EpMismatch, WaitingInCheck, Man}
 use Rattle.egt_fen.specs.Prelude.{Setup, IsAdmissible, FenFault, Fen, fault_of, Parts, parts_of, Spells, IsSetupFault}
 use Rattle.egt_fen.specs.Prelude.{IsFirstFault}
 use Rattle.egt_board.specs.Listed as listed
 use Rattle.egt_fen.proofs.Spelling.{parts_with, spelled_read, spelled_admits}
+use Rattle.std.proofs.Common.{arith}
 
 one_setup_fault : (list : List (Man × ℕ)) (p : Setup) (a b : PosFault) → listed.IsFirstFault a list p → listed.IsFirstFault b list p → a ≡ b
-one_setup_fault list p MenCount MenCount x y = refl
-one_setup_fault list p MenCount KingCount x y = absurd (x y.0)
-one_setup_fault list p MenCount PawnRank x y = absurd (x y.0)
-one_setup_fault list p MenCount EpMismatch x y = absurd (x y.0)
-one_setup_fault list p MenCount WaitingInCheck x y = absurd (x y.0)
-one_setup_fault list p KingCount MenCount x y = absurd (y x.0)
-one_setup_fault list p KingCount KingCount x y = refl
-one_setup_fault list p KingCount PawnRank x y = absurd (x.1 y.1)
-one_setup_fault list p KingCount EpMismatch x y = absurd (x.1 y.1)
-one_setup_fault list p KingCount WaitingInCheck x y = absurd (x.1 y.1)
-one_setup_fault list p PawnRank MenCount x y = absurd (y x.0)
-one_setup_fault list p PawnRank KingCount x y = absurd (y.1 x.1)
-one_setup_fault list p PawnRank PawnRank x y = refl
-one_setup_fault list p PawnRank EpMismatch x y = absurd (x.2 y.2)
-one_setup_fault list p PawnRank WaitingInCheck x y = absurd (x.2 y.2)
-one_setup_fault list p EpMismatch MenCount x y = absurd (y x.0)
-one_setup_fault list p EpMismatch KingCount x y = absurd (y.1 x.1)
-one_setup_fault list p EpMismatch PawnRank x y = absurd (y.2 x.2)
-one_setup_fault list p EpMismatch EpMismatch x y = refl
-one_setup_fault list p EpMismatch WaitingInCheck x y = absurd (x.3 y.3)
-one_setup_fault list p WaitingInCheck MenCount x y = absurd (y x.0)
-one_setup_fault list p WaitingInCheck KingCount x y = absurd (y.1 x.1)
-one_setup_fault list p WaitingInCheck PawnRank x y = absurd (y.2 x.2)
-one_setup_fault list p WaitingInCheck EpMismatch x y = absurd (y.3 x.3)
-one_setup_fault list p WaitingInCheck WaitingInCheck x y = refl
+one_setup_fault list p a b x y = grind arith
 
 pub one_fault : (text : List ℕ) (one other : FenFault) → IsFirstFault text one → IsFirstFault text other → one ≡ other
 one_fault text one other x y = at (parts_of text) x y

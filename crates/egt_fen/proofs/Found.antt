@@ -70,8 +70,7 @@ ranks-behind men (suc rank) q behind =
     ∙ ranks-behind men rank q (omega arith)
 
 or_none : (o : Option Man) → option_or o None ≡ o
-or_none None = refl
-or_none (Some man) = refl
+or_none o = grind arith
 
 ranks-at : (men : Placement) (rank q : ℕ) → q < 8 * rank + 8 → found q (listed_ranks men rank) ≡ placement.get men q
 ranks-at men zero q q_in = rank-at men 0 0 q refl (omega arith) (omega arith)
@@ -91,8 +90,7 @@ free_beyond : (men : Placement) (q : ℕ) → ((s : ℕ) (man : Man) → Stands 
 free_beyond men q on_board beyond = at (placement.get men q) refl
   where
     at : (o : Option Man) → placement.get men q ≡ o → placement.get men q ≡ None
-    at None e = e
-    at (Some man) e = absurd (let q_in = on_board q man e in omega arith)
+    at o e = grind arith
 
 -- the men of the eight ranks make the placement
 pub men_of-ranks : (men : Placement) → ((s : ℕ) (man : Man) → Stands men s man → s < 64) → board.men_of (listed_ranks men 7) ≡ men

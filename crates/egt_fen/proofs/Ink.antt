@@ -4,7 +4,7 @@ use Rattle.std.proofs.Common.{[], ◌∷◌, ◌++◌, length, get_or, take, fil
 use Rattle.egt_fen.specs.Prelude.{slice_split, onto_first, list_all, join_with_byte, is_ascii_digit, decimal, AllDigits}
 use Rattle.egt_fen.specs.Prelude.{digits_value, and_from, and_parts, ltb-true, lt-ltb, le-leb, ne_eqb, nat_tests}
 use Rattle.egt_fen.specs.Prelude.{list_all-append, decimal_is_IsNumeral, decimal_nonempty, length-decimal-le, Side}
-use Rattle.egt_fen.specs.Prelude.{White, Black, Kind, Q, R, B, N, P, K, Man, Placement, file_of, rank_of, letter_of}
+use Rattle.egt_fen.specs.Prelude.{White, Black, Kind, Man, Placement, file_of, rank_of, letter_of}
 use Rattle.egt_fen.specs.Prelude.{line_of, is_space, has_bytes, runs_of, counter_of, gap_text, squares_text, squares_of}
 use Rattle.egt_fen.specs.Prelude.{rank_text, ranks_text, placement_text, side_text, target_text}
 use Rattle.egt_fen.proofs.Digits.{IsDigit, digit_is}
@@ -26,18 +26,7 @@ gap_ink zero = refl
 gap_ink (suc n) = and_from (is_ink (49 + n)) true (lt-ltb 32 (49 + n) (omega arith)) refl
 
 letter_ink : (side : Side) (kind : Kind) → is_ink (letter_of (record { side = side; kind = kind })) ≡ true
-letter_ink White Q = refl
-letter_ink White R = refl
-letter_ink White B = refl
-letter_ink White N = refl
-letter_ink White P = refl
-letter_ink White K = refl
-letter_ink Black Q = refl
-letter_ink Black R = refl
-letter_ink Black B = refl
-letter_ink Black N = refl
-letter_ink Black P = refl
-letter_ink Black K = refl
+letter_ink side kind = grind arith
 
 squares_ink : (gap : ℕ) (squares : List (Option Man)) → list_all is_ink (squares_text gap squares) ≡ true
 squares_ink gap [] = gap_ink gap

@@ -1,7 +1,7 @@
 -- What a man's letter is not, and what a byte adds to a placement that is read from its front.
 use Rattle.std.proofs.Common.{◌≡◌, ℕ, ◌+◌, ◌-◌, ◌*◌, ◌<◌, Bool, true, false, cond, ◌&&◌, leb, ltb, List, [], ◌∷◌, ◌++◌}
 use Rattle.std.proofs.Common.{Option, Some, None, arith, refl, sym, ap, ◌∙◌}
-use Rattle.egt_fen.specs.Prelude.{option_map, is_some, false≢true, agree_below_at, le-leb, append_assoc, Man, man_of}
+use Rattle.egt_fen.specs.Prelude.{option_map, is_some, agree_below_at, le-leb, append_assoc, Man, man_of}
 use Rattle.egt_fen.specs.Prelude.{is_slash, width_of, on_square, men_left}
 
 -- neither a slash nor a digit is a letter
@@ -12,8 +12,7 @@ digit_no_letter : (c : ℕ) → c < 256 → (leb 49 c && leb c 56 && is_some (ma
 digit_no_letter c small = agree_below_at (λ b. leb 49 b && leb b 56 && is_some (man_of b)) (λ _. false) 256 c refl small
 
 not_both : (a b : Bool) → (a && b) ≡ false → b ≡ true → a ≡ false
-not_both true b e h = absurd (false≢true (sym e ∙ h))
-not_both false b e h = refl
+not_both a b e h = grind arith
 
 letter_slash : (c : ℕ) (man : Man) → c < 256 → man_of c ≡ Some man → is_slash c ≡ false
 letter_slash c man small e = not_both (is_slash c) (is_some (man_of c)) (slash_no_letter c small) (ap is_some e)

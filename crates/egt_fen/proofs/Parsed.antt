@@ -31,8 +31,7 @@ gap_is (suc (suc (suc (suc (suc (suc (suc zero))))))) n_in = record { slash = re
 gap_is (suc (suc (suc (suc (suc (suc (suc (suc n)))))))) n_in = absurd (omega arith)
 
 map_nothing : (o : Option Men) → option_map (λ men. men) o ≡ o
-map_nothing None = refl
-map_nothing (Some men) = refl
+map_nothing o = grind arith
 
 -- a digit passes its squares
 skip : (slash : Bool) (width n : ℕ) (o : Option Man) (rest : List ℕ) (rank file : ℕ) (after : Option Men)
@@ -75,8 +74,7 @@ man_read man rank file rest room =
     ∙ men_left-letter [] ((man, 8 * rank + file) ∷ []) (letter_of man) man rest rank file (8 * rank + file) is.0 is.1 room refl refl
 
 map_twice : (first : Man × ℕ) (row : Men) (o : Option Men) → option_map (λ men. first ∷ men) (option_map (λ men. row ++ men) o) ≡ option_map (λ men. (first ∷ row) ++ men) o
-map_twice first row None = refl
-map_twice first row (Some men) = refl
+map_twice first row o = grind arith
 
 -- the rest of a rank, behind so many files and a run of empty squares
 squares_read : (squares : List (Option Man)) (gap rank file : ℕ) (rest : List ℕ) → file + gap + length squares ≡ 8

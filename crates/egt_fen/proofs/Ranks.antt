@@ -11,12 +11,10 @@ abbrev Men : Type 0
 Men = List (Man × ℕ)
 
 cond_and : {A : Type 0} (a b : Bool) (x y : A) → cond (a && b) x y ≡ cond a (cond b x y) y
-cond_and true b x y = refl
-cond_and false b x y = refl
+cond_and a b x y = grind arith
 
 cond_same : {A : Type 0} (a : Bool) (x : A) → cond a x x ≡ x
-cond_same true x = refl
-cond_same false x = refl
+cond_same a x = grind arith
 
 cond_swap : {A : Type 0} (a b : Bool) (x y : A) → cond a (cond b x y) y ≡ cond b (cond a x y) y
 cond_swap true b x y = refl

@@ -43,8 +43,7 @@ unfolding canonical
 fields_read fen = ap (λ line. named (runs_of line)) (line_of-words (fields_text fen) (words fen)) ∙ ap named (runs_of-words (fields_text fen) (words fen))
 
 side_read : (side : Side) → side_of (side_text side) ≡ Some side
-side_read White = refl
-side_read Black = refl
+side_read side = grind arith
 
 -- a target that can be written: none, or a square of the third or the sixth rank
 abbrev IsWritable : Option ℕ → Type 0

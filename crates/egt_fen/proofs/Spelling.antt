@@ -4,10 +4,10 @@ use Rattle.egt_fen.specs.Prelude.{IsOk, IsErr, Side, Man, setup_of, FitsBoard, S
 use Rattle.egt_fen.specs.Prelude.{Fields, fields_of, placement_of, side_of, castling_of, target_of, clocks_of, Parts}
 use Rattle.egt_fen.specs.Prelude.{◌>>=◌, expect, parts_of, Spells}
 use Rattle.egt_fen.specs.declared.fault.FenFault.TheVariants.{FieldCount, Placement, Colour, Castling, EpField, Counter}
+use Rattle.std.proofs.Common.{arith}
 
 pub not_both : {T E : Type 0} (r : Result T E) → IsErr r → IsOk r → ⊥
-not_both (Ok x) err ok = absurd (cc)
-not_both (Err e) err ok = absurd (cc)
+not_both r err ok = grind arith
 
 abbrev pub Read : Type 0
 Read = Result Parts FenFault

@@ -9,14 +9,7 @@ use Rattle.std.specs.FinMap as placement
 pub squares_of-at : (men : Placement) (rank file : ℕ) → file < 8 → get_or (squares_of men rank) file None ≡ placement.get men (8 * rank + file)
 unfolding squares_of
 squares_of-at men rank zero file_in = ap (placement.get men) (sym (add-zero (8 * rank)))
-squares_of-at men rank (suc zero) file_in = refl
-squares_of-at men rank (suc (suc zero)) file_in = refl
-squares_of-at men rank (suc (suc (suc zero))) file_in = refl
-squares_of-at men rank (suc (suc (suc (suc zero)))) file_in = refl
-squares_of-at men rank (suc (suc (suc (suc (suc zero))))) file_in = refl
-squares_of-at men rank (suc (suc (suc (suc (suc (suc zero)))))) file_in = refl
-squares_of-at men rank (suc (suc (suc (suc (suc (suc (suc zero))))))) file_in = refl
-squares_of-at men rank (suc (suc (suc (suc (suc (suc (suc (suc file)))))))) file_in = absurd (omega arith)
+squares_of-at men rank file file_in = grind arith
 
 pub length-squares_of : (men : Placement) (rank : ℕ) → length (squares_of men rank) ≡ 8
 unfolding squares_of
