@@ -44,8 +44,7 @@ pub record Gathered (men : Placement) (items : List (Man × ℕ)) (left : ℕ) :
   pub keys : (t : ℕ) → (bit_at left t ≡ 1) ↔ IsKey t (drop (length items) (placement.entries men))
 
 free_or_key : (o : Option Man) → (o ≡ None) ⊎ (is_some o ≡ true)
-free_or_key None = inl refl
-free_or_key (Some man) = inr refl
+free_or_key o = grind arith
 
 pub Gathered-none : (men : Placement) (left : ℕ) → ((t : ℕ) → (bit_at left t ≡ 0) ↔ IsFree men t) → ((t : ℕ) → bit_at left t < 2) → Gathered men [] left
 Gathered-none men left free small = record {

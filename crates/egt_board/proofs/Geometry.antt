@@ -4,9 +4,7 @@ use Rattle.egt_board.specs.Prelude.{mul-le-mul_right, Way, Up, Down, Still, Step
 
 -- a coordinate as many times 0 further is the same
 Further-zero : (w : Way) (by a : ℕ) → Further w (0 * by) a a
-Further-zero Up by a = omega arith
-Further-zero Down by a = omega arith
-Further-zero Still by a = refl
+Further-zero w by a = grind arith
 
 Further-more : (w : Way) (n by a b c : ℕ) → Further w (n * by) a b → Further w (1 * by) b c → Further w ((n + 1) * by) a c
 Further-more Up n by a b c p q = omega arith

@@ -82,8 +82,7 @@ taken (x ∷ xs) t = max (takes x t) (taken xs t)
 
 bit_if-small : (o : Option Man) → bit_if o < 2
 unfolding bit_if
-bit_if-small None = omega arith
-bit_if-small (Some man) = omega arith
+bit_if-small o = grind arith
 
 -- the slots take the squares on which men stand
 taken-found : (xs : List Slot) (t : ℕ) → taken xs t ≡ bit_if (map.find nat_cmp t (listed xs))

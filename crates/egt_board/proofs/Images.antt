@@ -73,16 +73,10 @@ Kept-on p q r first second = record {
 
 -- a mirror that keeps sides is a symmetry
 man_by-same : (m : Mirror) → IsKeepingSides m → (man : Man) → man_by m man ≡ man
-man_by-same Files keeps man = refl
-man_by-same Ranks keeps man = refl
-man_by-same Diagonal keeps man = refl
-man_by-same Colours keeps man = absurd keeps
+man_by-same m keeps man = grind arith
 
 side_by-same : (m : Mirror) → IsKeepingSides m → (side : Side) → side_by m side ≡ side
-side_by-same Files keeps side = refl
-side_by-same Ranks keeps side = refl
-side_by-same Diagonal keeps side = refl
-side_by-same Colours keeps side = absurd keeps
+side_by-same m keeps side = grind arith
 
 pub carried_of : (m : Mirror) (p q : Setup) → IsKeepingSides m → IsMirrored m p q → IsCarried (square_by m) p q
 carried_of m p q keeps is = record {
@@ -157,8 +151,7 @@ setup_if-is true m p keeps ok = carried_of m p (setup_by m p) keeps (setup_by-is
 setup_if-is false m p keeps ok = record { men = λ t t_in. refl; side = refl; target = same p.target; on_board = ok }
   where
     same : (o : Option ℕ) → o ≡ option_map (λ s. s) o
-    same None = refl
-    same (Some s) = refl
+    same o = grind arith
 
 setup_if-kept : (turns : Bool) (m : Mirror) (p : Setup) → IsAdmissible p → (turns ≡ true → Allows m p.men) → Kept p (setup_if turns m p)
 unfolding setup_if
@@ -175,8 +168,7 @@ carried_on f g p q r f_in first second = record {
 }
   where
     twice : (o : Option ℕ) → option_map g (option_map f o) ≡ option_map (λ s. g (f s)) o
-    twice None = refl
-    twice (Some s) = refl
+    twice o = grind arith
 
 -- each square is where f puts another
 unfoldable pub Onto : (ℕ → ℕ) → Type 0

@@ -1,7 +1,7 @@
 -- The men of a board beside its kings, chosen among the slots.
 use Rattle.std.proofs.Common.{◌≡◌, ◌≢◌, ◌⊎◌, ℕ, zero, suc, ◌<◌, Bool, true, false, cond, List, [], ◌∷◌, Option, Some}
 use Rattle.std.proofs.Common.{None, IfSome, arith, refl, sym, ap, ◌∙◌, subst, inl, inr, T}
-use Rattle.egt_board.specs.Prelude.{option_map, nat_cmp, below_all, false≢true, Kind, Q, R, B, N, P, K, Man, Side}
+use Rattle.egt_board.specs.Prelude.{option_map, nat_cmp, below_all, false≢true, Kind, K, Man, Side}
 use Rattle.egt_board.specs.Prelude.{White, Black, king_of, holds_king, without_king, AreBeside, Slot, listed, padded}
 use Rattle.egt_board.specs.Prelude.{placed, InOrder, AreKept, side_number, Placement, Stands, is_king_kind, first_half}
 use Rattle.egt_board.specs.Prelude.{second_half, HasKings}
@@ -59,12 +59,7 @@ row_of a b c d men kept is =
 
 -- who is in a slot with a king, and in one without
 kind_told : (k : Kind) → is_king_kind k ≡ true → k ≡ K
-kind_told K h = refl
-kind_told Q h = absurd (false≢true h)
-kind_told R h = absurd (false≢true h)
-kind_told B h = absurd (false≢true h)
-kind_told N h = absurd (false≢true h)
-kind_told P h = absurd (false≢true h)
+kind_told k h = grind arith
 
 king_held : (x : Slot) (s : ℕ) (man : Man) → holds_king x ≡ true → x ≡ Some (s, man) → man.kind ≡ K
 king_held x s man h e = kind_told man.kind (sym (ap holds_king e) ∙ h)
@@ -96,9 +91,7 @@ both_beside men x y all one other x_beside y_beside before from_first = record {
     of_slot (Some e) beside there = (there e.0 e.1 refl, none_held (Some e) e.0 e.1 beside refl)
 
     ordered : (x y : Slot) → Before x y → IfSome (entry_of x) (λ e. IfSome (entry_of y) (λ d. e.1 < d.1))
-    ordered None y before = tt
-    ordered (Some e) None before = tt
-    ordered (Some e) (Some d) before = before
+    ordered x y before = grind arith
 
     emptied : (x y : Slot) → (x ≡ None → y ≡ None) → entry_of x ≡ None → entry_of y ≡ None
     emptied None y from is = ap entry_of (from refl)
@@ -132,12 +125,7 @@ on_king men kings (Some e) h there = record {
 }
 
 on_two : (w b p q r : ℕ) → p < q → p < r → q < r → (p ≡ w) ⊎ (p ≡ b) → (q ≡ w) ⊎ (q ≡ b) → (r ≡ w) ⊎ (r ≡ b) → ⊥
-on_two w b p q r pq pr qr (inl e) (inl f) h = omega arith
-on_two w b p q r pq pr qr (inl e) (inr f) (inl g) = omega arith
-on_two w b p q r pq pr qr (inl e) (inr f) (inr g) = omega arith
-on_two w b p q r pq pr qr (inr e) (inr f) h = omega arith
-on_two w b p q r pq pr qr (inr e) (inl f) (inl g) = omega arith
-on_two w b p q r pq pr qr (inr e) (inl f) (inr g) = omega arith
+on_two w b p q r pq pr qr h h' h'' = grind arith
 
 -- no three slots have kings
 three_kings : (men : Placement) → HasKings men → (x y z : Slot) → ((s : ℕ) (man : Man) → x ≡ Some (s, man) → Stands men s man) → ((s : ℕ) (man : Man) → y ≡ Some (s, man) → Stands men s man)

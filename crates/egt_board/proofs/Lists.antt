@@ -1,6 +1,6 @@
 -- A list of men and the placement that it gives.
 use Rattle.std.proofs.Common.{◌≡◌, ◌≢◌, ℕ, zero, suc, ◌+◌, ◌<◌, ◌≤◌, List, [], ◌∷◌, ◌++◌, map, length, take, get_or}
-use Rattle.std.proofs.Common.{Some, None, Bool, true, false, cond, arith, refl, sym, ap, ◌∙◌, inl, inr, subst}
+use Rattle.std.proofs.Common.{Some, None, Bool, cond, arith, refl, sym, ap, ◌∙◌, inl, inr, subst}
 use Rattle.egt_board.specs.Prelude.{nat_cmp, nat_cmp_total, cases_eq, map-append, take-map, get_or-take, get_or-map}
 use Rattle.egt_board.specs.Prelude.{take_more, length-take, length-map, Man, Placement, entry_of, men_of, squares_of}
 use Rattle.egt_board.specs.Prelude.{FitsBoard}
@@ -99,8 +99,7 @@ len-from_entries (x ∷ es) =
     bound (placement.contains_key (placement.from_entries {R = nat_cmp} es) x.0) _ _ _ e ih
   where
     bound : (b : Bool) (l m n : ℕ) → l ≡ cond b m (m + 1) → m ≤ n → l ≤ suc n
-    bound true l m n e le = omega arith
-    bound false l m n e le = omega arith
+    bound b l m n e le = grind arith
 
 -- a list has no fewer men than its placement
 pub len-men_of : (xs : List (Man × ℕ)) → placement.len (men_of xs) ≤ length xs

@@ -1,8 +1,8 @@
 -- How many of each man stand on a board.
 use Rattle.std.proofs.Common.{◌≡◌, ◌≢◌, ℕ, zero, suc, ◌+◌, ◌*◌, ◌<◌, ◌⊎◌, List, [], ◌∷◌, map, Option, Some, None, cond}
 use Rattle.std.proofs.Common.{arith, add-zero, refl, ap, ◌∙◌, inl, inr, T, count_by}
-use Rattle.egt_board.specs.Prelude.{nat_cmp, below_all, cases_eq, sum_by-cons, eqb_tells, Side, White, Black, Kind, Q}
-use Rattle.egt_board.specs.Prelude.{R, B, N, P, K, Man, Placement, Stands, get-insert_same, get-insert_other}
+use Rattle.egt_board.specs.Prelude.{nat_cmp, below_all, cases_eq, sum_by-cons, eqb_tells, Side, White, Black, Kind}
+use Rattle.egt_board.specs.Prelude.{K, Man, Placement, Stands, get-insert_same, get-insert_other}
 use Rattle.egt_board.specs.Prelude.{get-remove_same, get-remove_other, king_of, IsKingOn, total, kind_number}
 use Rattle.egt_board.specs.Prelude.{side_number, man_number, stands_here, count_of, is_man, first_half, second_half}
 use Rattle.std.specs.FinMap as placement
@@ -77,12 +77,7 @@ men_counted men on_board man =
 
 -- men of one number are one man
 is_king : (kind : Kind) → kind_number kind ≡ 5 → kind ≡ K
-is_king Q e = absurd (omega arith)
-is_king R e = absurd (omega arith)
-is_king B e = absurd (omega arith)
-is_king N e = absurd (omega arith)
-is_king P e = absurd (omega arith)
-is_king K e = refl
+is_king kind e = grind arith
 
 king_number : (side other : Side) (kind : Kind) → 6 * side_number side + 5 ≡ 6 * side_number other + kind_number kind → let man : Man = record { side = other; kind = kind } in man ≡ king_of side
 king_number White White kind e = ap (λ k. record { side = White; kind = k }) (is_king kind (omega arith))
@@ -91,8 +86,7 @@ king_number Black White kind e = let few = kind_few kind in absurd (omega arith)
 king_number Black Black kind e = ap (λ k. record { side = Black; kind = k }) (is_king kind (omega arith))
 
 king_here : (side : Side) → stands_here (king_of side) (Some (king_of side)) ≡ 1
-king_here White = refl
-king_here Black = refl
+king_here side = grind arith
 
 one_king : (men : Placement) (side : Side) (s n : ℕ) → s < n → IsKingOn men side s → total (λ t. stands_here (king_of side) (placement.get men t)) n ≡ 1
 one_king men side s n s_in king =

@@ -1,5 +1,5 @@
 -- The search for a pawn on the first rank or the last.
-use Rattle.std.proofs.Common.{◌≡◌, ◌≢◌, ℕ, ◌<◌, ◌⊎◌, ◌↔◌, arith, Option, Some, None, true, sym, ap, ◌∙◌, inl, inr, refl}
+use Rattle.std.proofs.Common.{◌≡◌, ◌≢◌, ℕ, ◌<◌, ◌⊎◌, ◌↔◌, arith, Option, Some, None, true, sym, ap, ◌∙◌, inl, inr}
 use Rattle.std.proofs.Common.{subst}
 use Rattle.egt_board.specs.Prelude.{bit_at, is_some, cases_eq, Man, Placement, Stands, IsFree, IsBeside, MayStand}
 use Rattle.std.specs.FinMap as map
@@ -23,8 +23,7 @@ FitSoFar-init men rest small free = record {
 }
   where
     some : (o : Option Man) → (o ≡ None → ⊥) → is_some o ≡ true
-    some None h = absurd (h refl)
-    some (Some man) h = refl
+    some o h = grind arith
 
 -- one square less, on which no pawn stands but on the ranks between
 pub FitSoFar-less : (men : Placement) (rest rest' s : ℕ) → FitSoFar men rest → bit_at rest' s ≡ 0 → ((u : ℕ) → u ≢ s → bit_at rest' u ≡ bit_at rest u) → ((man : Man) → Stands men s man → MayStand man s) → FitSoFar men rest'

@@ -1,7 +1,8 @@
 -- Entries of a placement, found by their squares.
-use Rattle.std.proofs.Common.{◌≡◌, ◌≢◌, ◌<◌, ℕ, List, ◌∷◌, Some, Bool, true, false, cond, refl, ap, ltb, eqb, T}
+use Rattle.std.proofs.Common.{◌≡◌, ◌≢◌, ◌<◌, ℕ, List, ◌∷◌, Some, Bool, true, cond, refl, ap, ltb, eqb, T}
 use Rattle.egt_board.specs.Prelude.{ltb-true, nat_cmp, is_lt, Less, Equal, Greater, Man, tied, untied}
 use Rattle.std.specs.FinMap as map
+use Rattle.std.proofs.Common.{arith}
 
 pub find-here : (q k : ℕ) (man : Man) (es : List (ℕ × Man)) → q ≡ k → map.find nat_cmp q ((k, man) ∷ es) ≡ Some man
 find-here q k man es e = ap (λ b. cond b (Some man) (map.find nat_cmp q es)) (tied q k e)
@@ -18,5 +19,4 @@ lt_of_less a b = go (ltb a b) (eqb a b) refl
   where
     go : (l e : Bool) → ltb a b ≡ l → T (is_lt (cond l Less (cond e Equal Greater))) → a < b
     go true e is h = ltb-true a b is
-    go false true is h = absurd h
-    go false false is h = absurd h
+    go l e is h = grind arith

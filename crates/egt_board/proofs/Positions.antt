@@ -2,6 +2,7 @@
 use Rattle.std.proofs.Common.{true, false, ◌≡◌, ℕ, Option, Some, None, sym, subst, ◌⊎◌, inl, inr, refl}
 use Rattle.egt_board.specs.Prelude.{is_some, false≢true, Side, White, Black, other_side, Placement, IsKingOn, IsTarget}
 use Rattle.egt_board.specs.Prelude.{FitsTarget}
+use Rattle.std.proofs.Common.{arith}
 
 -- the king that waits, chosen by the side to move
 pub waiting_king : (men : Placement) (side : Side) (white black s : ℕ) → IsKingOn men White white → IsKingOn men Black black → ((side ≡ White) × (s ≡ black)) ⊎ ((side ≡ Black) × (s ≡ white)) → IsKingOn men (other_side side) s
@@ -18,8 +19,7 @@ pub fits_none : (men : Placement) (mover : Side) (target : Option ℕ) → targe
 fits_none men mover target is = subst (FitsTarget men mover) (sym is) tt
 
 pub none_of : {A : Type 0} (o : Option A) → is_some o ≡ false → o ≡ None
-none_of None e = refl
-none_of (Some x) e = absurd (false≢true (sym e))
+none_of o e = grind arith
 
 pub some_of : {A : Type 0} (o : Option A) → is_some o ≡ true → (x : A) × (o ≡ Some x)
 some_of None e = absurd (false≢true e)

@@ -1,5 +1,5 @@
 -- The one setup that a mirror makes of another.
-use Rattle.std.proofs.Common.{◌≡◌, ◌≢◌, ℕ, zero, suc, ◌+◌, ◌<◌, ◌≤◌, Bool, true, false, cond, Option, Some, None, arith}
+use Rattle.std.proofs.Common.{◌≡◌, ◌≢◌, ℕ, zero, suc, ◌+◌, ◌<◌, ◌≤◌, Bool, cond, Option, Some, None, arith}
 use Rattle.std.proofs.Common.{refl, sym, ap, ◌∙◌, subst, inl, inr}
 use Rattle.egt_board.specs.Prelude.{option_map, is_some, nat_cmp, nat_cmp_total, cases_eq, Mirror, Man, Placement}
 use Rattle.egt_board.specs.Prelude.{same_men, get-insert_same, get-insert_other, total, Setup, IsMirrored, square_by}
@@ -29,8 +29,7 @@ put_len m men s None = omega arith
 put_len m men s (Some man) = longer (map.contains_key men s) _ _ (map.len-insert nat_cmp_total men s (man_by m man))
   where
     longer : (b : Bool) (l n : ℕ) → l ≡ cond b n (n + 1) → l ≤ n + 1
-    longer true l n e = omega arith
-    longer false l n e = omega arith
+    longer b l n e = grind arith
 
 apart_by : (m : Mirror) (s t : ℕ) → s < 64 → t < 64 → t ≢ s → square_by m t ≢ square_by m s
 apart_by m s t s_in t_in other same = other (sym (square_by-twice m t t_in) ∙ ap (square_by m) same ∙ square_by-twice m s s_in)
@@ -79,8 +78,7 @@ held_few men =
     let size = map.len-entries men in omega arith
   where
     small : (o : Option Man) → one_if o ≤ 1
-    small None = omega arith
-    small (Some man) = omega arith
+    small o = grind arith
 
     key : (t : ℕ) (o : Option Man) → map.get men t ≡ o → one_if o ≡ 1 → IsKey t (map.entries men)
     key t None e one = absurd (omega arith)

@@ -58,16 +58,13 @@ or_find s None xs = refl
 or_find s (Some e) xs = one (eqb s e.0) ∙ ap (λ b. cond b (Some e.1) (map.find nat_cmp s (listed xs))) (sym (unsigned_tied s e.0))
   where
     one : (b : Bool) → option_or (cond b (Some e.1) None) (map.find nat_cmp s (listed xs)) ≡ cond b (Some e.1) (map.find nat_cmp s (listed xs))
-    one true = refl
-    one false = refl
+    one b = grind arith
 
 or_assoc : (p q r : Option Man) → option_or (option_or p q) r ≡ option_or p (option_or q r)
-or_assoc None q r = refl
-or_assoc (Some man) q r = refl
+or_assoc p q r = grind arith
 
 or_none : (p : Option Man) → p ≡ option_or p None
-or_none None = refl
-or_none (Some man) = refl
+or_none p = grind arith
 
 pub found_on : (s : ℕ) (a b c d : Slot) (men : Placement) → AreShown (a ∷ b ∷ c ∷ d ∷ []) men
     → option_or (option_or (option_or (man_on s a) (man_on s b)) (man_on s c)) (man_on s d) ≡ map.get men s
@@ -86,14 +83,10 @@ abbrev pub chosen_slot : ℕ → Slot → Slot → Slot → Slot → Slot
 chosen_slot s a b c d = cond (is_some (man_on s a) || is_some (man_on s b)) (cond (is_some (man_on s a)) a b) (cond (is_some (man_on s c)) c d)
 
 on_either : (s : ℕ) (first : Bool) (x y : Slot) → man_on s (cond first x y) ≡ cond first (man_on s x) (man_on s y)
-on_either s true x y = refl
-on_either s false x y = refl
+on_either s first x y = grind arith
 
 chosen_or : (x y z w : Option Man) → cond (is_some x || is_some y) (cond (is_some x) x y) (cond (is_some z) z w) ≡ option_or (option_or (option_or x y) z) w
-chosen_or (Some x) y z w = refl
-chosen_or None (Some y) z w = refl
-chosen_or None None (Some z) w = refl
-chosen_or None None None w = refl
+chosen_or x y z w = grind arith
 
 pub chosen_on : (s : ℕ) (a b c d : Slot) (men : Placement) → AreShown (a ∷ b ∷ c ∷ d ∷ []) men → man_on s (chosen_slot s a b c d) ≡ map.get men s
 chosen_on s a b c d men is =
@@ -147,9 +140,7 @@ put-below k man [] below = refl
 put-below k man (e ∷ es) below = go (nat_cmp k e.0) below
   where
     go : (o : Ordering) → T (is_lt o && below_all nat_cmp k es) → by_order o ((k, man) ∷ e ∷ es) ((e.0, man) ∷ es) (e ∷ map.put nat_cmp k man es) ≡ (k, man) ∷ e ∷ es
-    go Less h = refl
-    go Equal h = absurd h
-    go Greater h = absurd h
+    go o h = grind arith
 
 with_some : (n k : ℕ) (man : Man) (es : List (ℕ × Man)) → InOrder es → AreOnBoard es → k < 64 → length es < n
     → with_man (Some (k, man)) (padded n es) ≡ padded n (map.put nat_cmp k man es)
@@ -194,9 +185,7 @@ length_put k man [] = omega arith
 length_put k man (e ∷ es) = go (nat_cmp k e.0) (length_put k man es)
   where
     go : (o : Ordering) → length (map.put nat_cmp k man es) ≤ length es + 1 → length (by_order o ((k, man) ∷ e ∷ es) ((e.0, man) ∷ es) (e ∷ map.put nat_cmp k man es)) ≤ length (e ∷ es) + 1
-    go Less rest = omega arith
-    go Equal rest = omega arith
-    go Greater rest = omega arith
+    go o rest = grind arith
 
 pub shown_with : (xs : List Slot) (men : Placement) (k : ℕ) (man : Man) → AreShown xs men → map.len men < 4 → k < 64 → AreShown (with_man (Some (k, man)) xs) (map.insert men k man)
 shown_with xs men k man is room k_in =
@@ -244,8 +233,7 @@ others-below s (e ∷ es) below = go (nat_cmp s e.0) below (others-below s es)
   where
     go : (o : Ordering) → T (is_lt o && below_all nat_cmp s es) → (T (below_all nat_cmp s es) → others s es ≡ es) → cond (not (is_eq o)) (e ∷ others s es) (others s es) ≡ e ∷ es
     go Less h rest = ap (λ xs. e ∷ xs) (rest h)
-    go Equal h rest = absurd h
-    go Greater h rest = absurd h
+    go o h rest = grind arith
 
 left_on : (n s : ℕ) (es : List (ℕ × Man)) → InOrder es → length es ≤ n → without_man false s (padded n es) ≡ padded n (others s es)
 unfolding without_man others rest_of
@@ -271,8 +259,7 @@ find_others s t es =
     find-where_key nat_cmp (λ k. not (eq_by_cmp nat_cmp s k)) t (λ x e. ap (λ o. not (is_eq o)) (sym (alike_right nat_cmp_total t x s e))) es
 
 turned : {A : Type 0} (b : Bool) (x y : A) → cond (not b) x y ≡ cond b y x
-turned true x y = refl
-turned false x y = refl
+turned b x y = grind arith
 
 even_either_way : (s t : ℕ) → eq_by_cmp nat_cmp s t ≡ eq_by_cmp nat_cmp t s
 even_either_way s t = unsigned_tied s t ∙ elim (eqb_tells s t) [
@@ -301,8 +288,7 @@ length-others s [] = omega arith
 length-others s (e ∷ es) = go (not (eq_by_cmp nat_cmp s e.0)) (length-others s es)
   where
     go : (b : Bool) → length (others s es) ≤ length es → length (cond b (e ∷ others s es) (others s es)) ≤ length (e ∷ es)
-    go true rest = omega arith
-    go false rest = omega arith
+    go b rest = grind arith
 
 on_board_others : (s : ℕ) (es : List (ℕ × Man)) → AreOnBoard es → AreOnBoard (others s es)
 unfolding others
@@ -397,8 +383,7 @@ one_more : (men : Placement) (s : ℕ) (man : Man) → map.len (map.insert men s
 one_more men s man = by_key (map.contains_key men s) (map.len-insert nat_cmp_total men s man)
   where
     by_key : (b : Bool) → map.len (map.insert men s man) ≡ cond b (map.len men) (map.len men + 1) → map.len (map.insert men s man) ≤ map.len men + 1
-    by_key true e = omega arith
-    by_key false e = omega arith
+    by_key b e = grind arith
 
 pub shown_corners : AreShown (Some (0, king_of White) ∷ Some (63, king_of Black) ∷ None ∷ None ∷ []) corners
 unfolding with_man

@@ -11,10 +11,7 @@ use Rattle.egt_board.proofs.Sides.{kind_few}
 
 -- a total over the board may be taken in a mirror
 total_by : (m : Mirror) (f : ℕ → ℕ) → total (λ s. f (square_by m s)) 64 ≡ total f 64
-total_by Files f = omega arith
-total_by Ranks f = omega arith
-total_by Diagonal f = omega arith
-total_by Colours f = omega arith
+total_by m f = grind arith
 
 -- 1 where the numbers are the same
 abbrev one_where_same : ℕ → ℕ → ℕ

@@ -1,5 +1,5 @@
 -- A turn as mirrors, one after another.
-use Rattle.std.proofs.Common.{◌≡◌, ℕ, ◌/◌, ◌%◌, ◌==◌, Bool, true, false, Option, Some, None, arith, refl, sym, subst}
+use Rattle.std.proofs.Common.{◌≡◌, ℕ, ◌/◌, ◌%◌, ◌==◌, Bool, true, false, Option, arith, refl, sym, subst}
 use Rattle.std.proofs.Common.{inl, inr}
 use Rattle.egt_board.specs.Prelude.{option_map, eqb-true, Mirror, Files, Ranks, Diagonal, Colours, HasNoPawn, Setup}
 use Rattle.egt_board.specs.Prelude.{IsAdmissible, Allows, OnBoard, no_pawn_by, AreMirroredIf, ComesByMirrors, square_if}
@@ -73,8 +73,7 @@ carried_if true m p q keeps ok are = carried_of m p q keeps are.mirrored
 carried_if false m p q keeps ok same = subst (IsCarried (λ s. s) p) same (record { men = λ t t_in. refl; side = refl; target = stays p.target; on_board = ok })
   where
     stays : (o : Option ℕ) → o ≡ option_map (λ s. s) o
-    stays None = refl
-    stays (Some s) = refl
+    stays o = grind arith
 
 pub mirrors_turn : (n : ℕ) (flipped : Bool) (p q : Setup) → IsAdmissible p → ComesByMirrors n flipped p q → IsTurnedBy n flipped p q
 mirrors_turn n flipped p q ok comes = by_colours flipped comes.colours

@@ -1,5 +1,5 @@
 -- A position in a mirror.
-use Rattle.std.proofs.Common.{◌≡◌, ◌≢◌, ℕ, ◌+◌, ◌<◌, ◌≤◌, ◌↔◌, Bool, true, false, cond, Option, Some, None, arith, refl}
+use Rattle.std.proofs.Common.{◌≡◌, ◌≢◌, ℕ, ◌+◌, ◌<◌, ◌≤◌, ◌↔◌, Bool, true, cond, Option, Some, None, arith, refl}
 use Rattle.std.proofs.Common.{sym, ap, ◌∙◌, subst, inl, inr}
 use Rattle.egt_board.specs.Prelude.{bit_at, option_map, is_some, nat_cmp, nat_cmp_total, cases_eq, Mirror, Files, Ranks}
 use Rattle.egt_board.specs.Prelude.{Diagonal, Colours, Side, White, Black, Kind, P, K, Man, SquareSet, other_side}
@@ -57,12 +57,10 @@ free_by : (m : Mirror) (men men' : Placement) (s : ℕ) → ShowsMen m men men' 
 free_by m men men' s shows s_in free = shows s s_in ∙ ap (option_map (man_by m)) free
 
 pub ahead_within : (side : Side) (t : ℕ) → 0 < rank_of t → rank_of t < 7 → ahead side t < 64
-ahead_within White t low high = omega arith
-ahead_within Black t low high = omega arith
+ahead_within side t low high = grind arith
 
 rank_colours : (mover : Side) (t : ℕ) → rank_of t ≡ target_rank mover → rank_of (square_by Colours t) ≡ target_rank (other_side mover)
-rank_colours White t e = omega arith
-rank_colours Black t e = omega arith
+rank_colours mover t e = grind arith
 
 -- a target stays one
 target_by : (m : Mirror) (men men' : Placement) (mover : Side) (t : ℕ) → Allows m men → ShowsMen m men men' → IsTarget men mover t → IsTarget men' (side_by m mover) (square_by m t)
@@ -118,8 +116,7 @@ Turns-none m men rest free few = record {
 }
   where
     held : (o : Option Man) → (o ≡ None → ⊥) → is_some o ≡ true
-    held None h = absurd (h refl)
-    held (Some man) h = refl
+    held o h = grind arith
 
 pub Turns-more : (m : Mirror) (men board : Placement) (rest rest' : SquareSet) (s : ℕ) (man : Man) → s < 64 → OnBoard men → Has rest s → bit_at rest'.bits s ≡ 0 → ((t : ℕ) → t ≢ s → bit_at rest'.bits t ≡ bit_at rest.bits t) → size_of rest' + 1 ≡ size_of rest
     → Stands men s man → Turns m men board rest → Turns m men (map.insert board (square_by m s) (man_by m man)) rest'
@@ -145,5 +142,4 @@ Turns-more m men board rest rest' s man s_in ok has gone others size there turns
 }
   where
     longer : (b : Bool) (l n : ℕ) → l ≡ cond b n (n + 1) → l ≤ n + 1
-    longer true l n e = omega arith
-    longer false l n e = omega arith
+    longer b l n e = grind arith

@@ -66,12 +66,10 @@ square_of-within : (n s : ℕ) → s < 64 → square_of n s < 64
 square_of-within n s s_in = square_if-within (n / 4 == 1) Diagonal _ (square_if-within (n / 2 % 2 == 1) Ranks _ (square_if-within (n % 2 == 1) Files s s_in))
 
 same_man : (o : Option Man) → option_map (turned_man false) o ≡ o
-same_man None = refl
-same_man (Some man) = refl
+same_man o = grind arith
 
 map_twice : {A B C : Type 0} (f : A → B) (g : B → C) (o : Option A) → option_map g (option_map f o) ≡ option_map (λ a. g (f a)) o
-map_twice f g None = refl
-map_twice f g (Some a) = refl
+map_twice f g o = grind arith
 
 -- a turn sets each man where it takes it
 pub turned_sets : (n : ℕ) (flipped : Bool) (p q : Setup) → IsTurnedBy n flipped p q → IsSetBy n flipped p q
@@ -182,10 +180,7 @@ side_then Colours true side = side_by-twice Colours side
 
 number_then-small : (m : Mirror) (n : ℕ) → n < 8 → number_then m n < 8
 unfolding number_then
-number_then-small Files n less = omega arith
-number_then-small Ranks n less = omega arith
-number_then-small Diagonal n less = omega arith
-number_then-small Colours n less = omega arith
+number_then-small m n less = grind arith
 
 set_then : (m : Mirror) (n : ℕ) (flipped : Bool) (p r q : Setup) → n < 8 → IsAdmissible p → IsMirrored m p r → IsSetBy n flipped r q → IsSetBy (number_then m n) (flipped_then m flipped) p q
 set_then m n flipped p r q less ok first second = record {
@@ -221,8 +216,7 @@ pub turn_of_mirrors : (k : ℕ) (p q : Setup) → IsAdmissible p → Reflects k 
 turn_of_mirrors zero p q ok same = (0, false, omega arith, inr (omega arith), subst (IsTurnedBy 0 false p) same (record { men = λ t t_in. refl; side = refl; target = stays p.target; on_board = ok.on_board }))
   where
     stays : (o : Option ℕ) → o ≡ option_map (square_of 0) o
-    stays None = refl
-    stays (Some t) = refl
+    stays o = grind arith
 turn_of_mirrors (suc k) p q ok step =
     let are = step.1.1 in
     let rest = turn_of_mirrors k step.0 q are.there step.2 in

@@ -1,14 +1,14 @@
-use Rattle.std.proofs.Common.{◌≡◌, true, refl, sym, ◌∙◌, ap}
-use Rattle.egt_board.specs.Prelude.{false≢true, bit_at_ones, the_type, Side, White, Black}
+use Rattle.std.proofs.Common.{◌≡◌, true, sym, ◌∙◌, ap}
+use Rattle.egt_board.specs.Prelude.{false≢true, bit_at_ones, the_type, Side}
 use denote.Enum.Bare.{sameb}
 use Rattle.egt_board.proofs.safety.stops.Goals as goal
+use Rattle.std.proofs.Common.{arith}
 
 pub returns-in_default : goal.returns-in_default
 returns-in_default c = rw c.in_default.is (λ t t_in. (λ _. tt, λ _. bit_at_ones 64 t t_in))
 
 itself : (side : Side) → sameb the_type side side ≡ true
-itself White = refl
-itself Black = refl
+itself side = grind arith
 
 pub returns-else-eq : goal.returns-else-eq
 returns-else-eq c =

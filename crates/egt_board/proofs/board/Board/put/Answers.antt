@@ -1,4 +1,4 @@
-use Rattle.std.proofs.Common.{◌≡◌, ℕ, ◌-◌, ◌≤◌, Bool, true, false, cond, arith, refl, sym, ap, ◌∙◌, inl, inr}
+use Rattle.std.proofs.Common.{◌≡◌, ℕ, ◌-◌, ◌≤◌, Bool, cond, arith, refl, sym, ap, ◌∙◌, inl, inr}
 use Rattle.egt_board.specs.Prelude.{nat_cmp_total, cases_eq, Man, Placement, same_men, get-insert_same}
 use Rattle.egt_board.specs.Prelude.{get-insert_other, get-remove_same, get-remove_other}
 use Rattle.std.specs.FinMap as map
@@ -8,8 +8,7 @@ no_more : (m : Placement) (s : ℕ) → map.len (map.remove m s) ≤ map.len m
 no_more m s = of_test (map.contains_key m s) (map.len-remove nat_cmp_total m s)
   where
     of_test : (b : Bool) → map.len (map.remove m s) ≡ cond b (map.len m - 1) (map.len m) → map.len (map.remove m s) ≤ map.len m
-    of_test true e = omega (arith, e)
-    of_test false e = omega (arith, e)
+    of_test b e = grind arith
 
 in_place : (m : Placement) (s : ℕ) (man : Man) → map.insert (map.remove m s) s man ≡ map.insert m s man
 in_place m s man = same_men _ _ (λ q. elim (cases_eq q s) [

@@ -1,4 +1,4 @@
-use Rattle.std.proofs.Common.{◌≡◌, ℕ, ◌<◌, ◌/◌, ◌%◌, Bool, true, false, Option, Some, None, refl, ap, ◌∙◌, subst, inl}
+use Rattle.std.proofs.Common.{◌≡◌, ℕ, ◌<◌, ◌/◌, ◌%◌, Bool, true, false, Option, ap, ◌∙◌, subst, inl}
 use Rattle.std.proofs.Common.{inr, arith, ◌==◌}
 use Rattle.egt_board.specs.Prelude.{option_map, Mirror, Files, Ranks, Diagonal, Setup, square_by-within, IsCarried}
 use Rattle.egt_board.specs.Prelude.{IsTurned, square_if, square_of, eqb-true}
@@ -33,8 +33,7 @@ carried b1 b2 b3 p q r s one two three = record {
     within false m t t_in = t_in
 
     thrice : (o : Option ℕ) → option_map (square_if b3 Diagonal) (option_map (square_if b2 Ranks) (option_map (square_if b1 Files) o)) ≡ option_map (λ t. square_if b3 Diagonal (square_if b2 Ranks (square_if b1 Files t))) o
-    thrice None = refl
-    thrice (Some t) = refl
+    thrice o = grind arith
 
 pub returns : goal.returns
 returns c =
