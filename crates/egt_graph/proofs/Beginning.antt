@@ -93,8 +93,7 @@ not_lost_yet Draw = refl
 
 not_won_yet : (e : Exit) → not (is_won_before 0 e) ≡ true
 not_won_yet (Win k) = ap not (le-ltb k 0 (omega arith))
-not_won_yet (Loss k) = refl
-not_won_yet Draw = refl
+not_won_yet e = grind arith
 
 some_wait : {X Y : Type 0} (xs : List X) (ys : List Y) → (not (is_empty xs && is_empty ys) && eqb (length xs + length ys) 0) ≡ false
 some_wait [] [] = refl

@@ -12,13 +12,10 @@ use Rattle.egt_graph.proofs.Holding.{decided_shut, decided_again}
 
 known_all : (b w t : Bool) → (b ≡ true → w ≡ true) → t ≡ true → (b || (w && t)) ≡ w
 known_all true w t h e = sym (h refl)
-known_all false true t h e = e
-known_all false false t h e = refl
+known_all b w t h e = grind arith
 
 known_none : (b w t : Bool) → t ≡ false → (b || (w && t)) ≡ b
-known_none true w t e = refl
-known_none false true t e = e
-known_none false false t e = refl
+known_none b w t e = grind arith
 
 pub win_known_all : (g : Graph) (r : ℕ) (done : ℕ → Bool) (j : ℕ) → done j ≡ true → is_known_win g r done j ≡ mates_within g r j
 win_known_all g r done j h = known_all (mates_before g r j) (mates_within g r j) (done j) (mates_before_within g r j) h

@@ -1,5 +1,5 @@
 -- Entries that are due are the ranks and the numbers of the nearest mates: by the number in the entry each is reached, and by plies none is sooner.
-use Rattle.std.proofs.Common.{◌≡◌, ℕ, zero, suc, ◌+◌, ◌*◌, ◌<◌, ◌≤◌, ◌&&◌, true, false, not, List, [], ◌∷◌, Contains}
+use Rattle.std.proofs.Common.{◌≡◌, ℕ, zero, suc, ◌+◌, ◌*◌, ◌<◌, ◌≤◌, ◌&&◌, true, false, not, List, [], Contains}
 use Rattle.std.proofs.Common.{length, slice_index, Option, Some, None, refl, sym, ap, subst, ◌∙◌, inl, inr, arith}
 use Rattle.egt_graph.specs.Prelude.{list_any, list_all, option_map, and_from, and_parts, both_ways, cases_Bool}
 use Rattle.egt_graph.specs.Prelude.{false_from_ne_true, false≢true, lt-ltb, ltb-true, or_cases, or_from, or_left}
@@ -13,8 +13,7 @@ use Rattle.egt_graph.proofs.Nearby.{near_by_exit, near_by_move}
 use Rattle.egt_graph.proofs.Values.{mates_le, mated_le}
 
 not_empty : {X : Type 0} (xs : List X) (x : X) → Contains xs x → is_empty xs ≡ false
-not_empty [] x (k, lt, is) = absurd (omega (arith, lt))
-not_empty (y ∷ ys) x has = refl
+not_empty xs x has = grind arith
 
 none_there : {X : Type 0} (xs : List X) (x : X) → xs ≡ [] → Contains xs x → ⊥
 none_there xs x none has = both_ways (is_empty xs) (not_empty xs x has) (ap is_empty none)
@@ -66,10 +65,7 @@ entry_once (Win n) (Loss k) e = absurd (omega (arith, e))
 entry_once (Win n) Draw e = absurd (omega (arith, e))
 entry_once (Loss n) (Win k) e = absurd (omega (arith, e))
 entry_once (Loss n) (Loss k) e = ap Loss (let same : n ≡ k = omega (arith, e) in same)
-entry_once (Loss n) Draw e = absurd (omega (arith, e))
-entry_once Draw (Win k) e = absurd (omega (arith, e))
-entry_once Draw (Loss k) e = absurd (omega (arith, e))
-entry_once Draw Draw e = refl
+entry_once v w e = grind arith
 
 abbrev plies : Exit → ℕ
 plies (Win n) = n
@@ -114,16 +110,14 @@ module _ (g : Graph) (law : IsGame g) (entry : ℕ → ℕ) (are : AreDue values
       where
         of : (v : Exit) → entry j ≡ entry_of v → IsAsGood (Win n) v → mates_within g n j ≡ true
         of (Win k) is le = mates_le g j k n le ((before k (omega (arith, le))).won j (next_node j has) is)
-        of (Loss k) is le = absurd le
-        of Draw is le = absurd le
+        of v is le = grind arith
 
     exit_won : (n : ℕ) → IsBest values g entry i (Win n) → (e : Exit) → Contains (g.exits i) e → is_won_before (suc n) e ≡ true
     exit_won n best e has = of e (best.best e (inr (e, has, refl)))
       where
         of : (e : Exit) → IsAsGood (Win n) e → is_won_before (suc n) e ≡ true
         of (Win k) le = lt-ltb k (suc n) (omega (arith, le))
-        of (Loss k) le = absurd le
-        of Draw le = absurd le
+        of e le = grind arith
 
     lost_at : (n : ℕ) → ((k : ℕ) → k < n → Reached k) → (next : Exit) → IsBest values g entry i next → Loss n ≡ value_before next → mated_within g n i ≡ true
     lost_at n before (Loss k) best e = cc
@@ -171,8 +165,7 @@ module _ (g : Graph) (law : IsGame g) (entry : ℕ → ℕ) (are : AreDue values
     where
       of : (best : Exit) → IsAsGood best (Loss k) → entry i ≡ entry_of (value_before best) → Soon Win (suc k) i
       of (Loss n) le is = (suc n, omega (arith, le), is)
-      of (Win n) le is = absurd le
-      of Draw le is = absurd le
+      of best le is = grind arith
 
   -- where each is won within n
   soon_lost : (i n : ℕ) → IsNode g i → has_move g i ≡ true → ((v : Exit) → IsNext values g entry i v → (k : ℕ) × (k ≤ n) × (v ≡ Win k)) → Soon Loss (suc n) i
@@ -200,14 +193,12 @@ module _ (g : Graph) (law : IsGame g) (entry : ℕ → ℕ) (are : AreDue values
 
   won_exit : (n : ℕ) (e v : Exit) → e ≡ v → is_won_before (suc n) e ≡ true → (k : ℕ) × (k ≤ n) × (v ≡ Win k)
   won_exit n (Win k) v is t = (k, (let lt = ltb-true k (suc n) t in omega (arith, lt)), sym is)
-  won_exit n (Loss k) v is t = absurd (false≢true t)
-  won_exit n Draw v is t = absurd (false≢true t)
+  won_exit n e v is t = grind arith
 
   module _ (n : ℕ) (before : NoSooner n) (i : ℕ) (node : IsNode g i) where
     by_exit : (e : Exit) → Contains (g.exits i) e → is_lost_before (suc n) e ≡ true → Soon Win (suc n) i
     by_exit (Loss k) has is = later_won i k n (let lt = ltb-true k (suc n) is in omega (arith, lt)) (soon_won i k node (inr (Loss k, has, refl)))
-    by_exit (Win k) has is = absurd (false≢true is)
-    by_exit Draw has is = absurd (false≢true is)
+    by_exit e has is = grind arith
 
     sooner_won : mates_within g (suc n) i ≡ true → Soon Win (suc n) i
     sooner_won t = elim (or_cases (list_any (mated_within g n) (g.out i)) _ t) [
@@ -279,9 +270,7 @@ module _ (g : Graph) (law : IsGame g) (entry : ℕ → ℕ) (are : AreDue values
   entries_are_as_deep limit i node past = let (v, is, due) = are.due i node in deep limit i node v is past
 
 within_limit : (limit x : ℕ) (v : Exit) → x ≡ entry_of v → x ≤ 3 + 2 * limit → IsWithin limit v
-within_limit limit x (Win n) is le = omega (arith, is, le)
-within_limit limit x (Loss n) is le = omega (arith, is, le)
-within_limit limit x Draw is le = tt
+within_limit limit x v is le = grind arith
 
 pub entries_are_ranks : (g : Graph) → IsGame g → (entries : List ℕ) → length entries ≡ g.size → AreDue values g (slice_index entries) → (limit : ℕ) →
     ((i : ℕ) → IsNode g i → slice_index entries i ≤ 3 + 2 * limit) → AreRanks g limit entries
@@ -297,9 +286,7 @@ entries_are_ranks g law entries long are limit within = record {
 
 near_once : (x y : Option ℕ) → near_entry_of x ≡ near_entry_of y → x ≡ y
 near_once (Some n) (Some k) e = ap Some (let same : n ≡ k = omega (arith, e) in same)
-near_once (Some n) None e = absurd (omega (arith, e))
-near_once None (Some k) e = absurd (omega (arith, e))
-near_once None None e = refl
+near_once x y e = grind arith
 
 abbrev number : Option ℕ → ℕ
 number (Some n) = n
@@ -392,8 +379,7 @@ module _ (g : Graph) (law : IsGame g) (entry : ℕ → ℕ) (are : AreDue nears 
   entries_are_as_far i node past = let (x, is, due) = are.due i node in far i node x is past
 
 short : (x : Option ℕ) (n : ℕ) → n ≡ near_entry_of x → n ≤ 32002 → IsShort x
-short (Some k) n is le = omega (arith, is, le)
-short None n is le = tt
+short x n is le = grind arith
 
 pub entries_are_nears : (g : Graph) → IsGame g → (entries : List ℕ) → length entries ≡ g.size → AreDue nears g (slice_index entries) →
     ((i : ℕ) → IsNode g i → slice_index entries i ≤ 32002) → AreNears g entries

@@ -34,14 +34,10 @@ waited n (Win k) = elim (cases_order k n) [
 ]
 
 lost_is_loss : (n : ℕ) (e : Exit) → is_lost_before n e ≡ true → is_loss e ≡ true
-lost_is_loss n (Win k) h = h
-lost_is_loss n (Loss k) h = refl
-lost_is_loss n Draw h = h
+lost_is_loss n e h = grind arith
 
 won_is_win : (n : ℕ) (e : Exit) → is_won_before n e ≡ true → not (is_no_win e) ≡ true
-won_is_win n (Win k) h = refl
-won_is_win n (Loss k) h = h
-won_is_win n Draw h = h
+won_is_win n e h = grind arith
 
 short_win : (r : ℕ) (e : Exit) → HasShortDistance e → not (is_no_win e) ≡ true → is_won_before (suc (r + 32000)) e ≡ true
 short_win r (Win k) s h = lt-ltb k (suc (r + 32000)) (omega arith)
@@ -89,8 +85,7 @@ all_waits_are_wins : (a b c l : ℕ) → a + b ≡ l → b ≡ l + c → (a ≡ 
 all_waits_are_wins a b c l p q = (omega arith, omega arith)
 
 twice : (b : Bool) → not (not b) ≡ b
-twice true = refl
-twice false = refl
+twice b = grind arith
 
 twice_not : (xs : List Exit) → count_by (λ e. not (not (is_no_win e))) xs ≡ count_by is_no_win xs
 twice_not xs = count_same _ _ (λ e. twice (is_no_win e)) xs
@@ -180,8 +175,7 @@ some_above g law r done all es ws ls fs n e h i is =
 -- ---- where no node is open, none has a rank above r
 
 less_of : (n r : ℕ) → (n < suc r) ⊎ (suc r < n) → n ≤ suc r → n ≤ r
-less_of n r (inl a) b = omega arith
-less_of n r (inr a) b = absurd (omega arith)
+less_of n r h b = grind arith
 
 now_or_never : (g : Graph) (r : ℕ) (i : ℕ) (w l : ℕ) (f : Bool) (v : Exit) → Spells g (suc r) i v → is_open (suc r) (entry_at g (suc r) i) w l f ≡ false
     → (decided_within g r i ≡ true) ⊎ ((mates_within g (suc r) i ≡ false) × (mated_within g (suc r) i ≡ false) × (is_open (suc r) 1 w l f ≡ false))

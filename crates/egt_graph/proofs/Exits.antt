@@ -1,7 +1,7 @@
 -- Exits that fall due: those of number r count from the end of round r on.
-use Rattle.std.proofs.Common.{◌≡◌, ℕ, ◌+◌, ◌<◌, ◌≤◌, Bool, true, false, cond, not, ◌||◌, eqb, ltb, List, refl, sym, ap}
+use Rattle.std.proofs.Common.{◌≡◌, ℕ, ◌+◌, ◌<◌, ◌≤◌, Bool, true, cond, not, ◌||◌, eqb, ltb, List, refl, sym, ap}
 use Rattle.std.proofs.Common.{◌∙◌, inl, inr, arith, count_by}
-use Rattle.egt_graph.specs.Prelude.{list_any, false≢true, lt-ltb, le-ltb, le-leb, lt-leb, eq-eqb, ne_eqb, and_right}
+use Rattle.egt_graph.specs.Prelude.{list_any, lt-ltb, le-ltb, le-leb, lt-leb, eq-eqb, ne_eqb, and_right}
 use Rattle.egt_graph.specs.Prelude.{not_from_false, cases_order, Graph, is_empty, is_lost_before, is_won_before, outs}
 use Rattle.egt_graph.specs.Prelude.{leaves, has_moves, count_of, is_known_loss, waits_at, is_winning, is_win_of}
 use Rattle.egt_graph.specs.Prelude.{is_loss_of, is_win_from, later_at, Amid, Marks, TakesBack, Exit, Win, Loss, Draw}
@@ -23,9 +23,7 @@ lost_next r (Loss k) = below_next k r
 lost_next r Draw = refl
 
 loss_is_no_win : (r n : ℕ) (e : Exit) → is_loss_of r e ≡ true → not (is_won_before n e) ≡ true
-loss_is_no_win r n (Win k) h = absurd (false≢true h)
-loss_is_no_win r n (Loss k) h = refl
-loss_is_no_win r n Draw h = absurd (false≢true h)
+loss_is_no_win r n e h = grind arith
 
 pub waits_next : (r : ℕ) (e : Exit) → cond (not (is_won_before r e)) 1 0 ≡ cond (not (is_won_before (r + 1) e)) 1 0 + cond (is_win_of r e) 1 0
 waits_next r (Loss k) = refl
@@ -53,8 +51,7 @@ pub left_has_moves : (g : Graph) (p : Exit → Bool) (i : ℕ) → 0 < count_by 
 left_has_moves g p i h = not_from_false _ (and_right (is_empty (outs g i)) _ (counted_some p (leaves g i) h))
 
 or_group : (a b c : Bool) → (a || (b || c)) ≡ ((a || b) || c)
-or_group true b c = refl
-or_group false b c = refl
+or_group a b c = grind arith
 
 -- exits into positions that lose in r plies: their nodes win in one more
 pub lost_exits_mark : (g : Graph) (r : ℕ) (done : ℕ → Bool) (won : ℕ) (es ws xs es' : List ℕ)

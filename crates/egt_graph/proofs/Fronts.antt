@@ -12,8 +12,7 @@ filter_range_same p q a (suc n) h =
     ap₂ (λ b xs. cond b (a ∷ xs) xs) (h a (omega arith) (omega arith)) (filter_range_same p q (a + 1) n (λ k low high. h k (omega arith) (omega arith)))
 
 map_cond : (f : ℕ → ℕ) (b : Bool) (x : ℕ) (xs : List ℕ) → map f (cond b (x ∷ xs) xs) ≡ cond b (f x ∷ map f xs) (map f xs)
-map_cond f true x xs = refl
-map_cond f false x xs = refl
+map_cond f b x xs = grind arith
 
 -- numbers from a + b on are those from b on, a further
 pub filter_range_shift : (q : ℕ → Bool) (a b n : ℕ) → map (λ k. a + k) (filter (λ k. q (a + k)) (range_with_len b n)) ≡ filter q (range_with_len (a + b) n)

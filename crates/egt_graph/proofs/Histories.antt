@@ -93,8 +93,7 @@ step_next g limit v w s run some e = rw e (record {
 
 -- a run that has ended goes on no more
 no_more : (b : Bool) → false ≡ (b && false)
-no_more true = refl
-no_more false = refl
+no_more b = grind arith
 
 step_finished : (g : Graph) (limit : ℕ) (v w : State) → Sound g limit v → NoneAbove g v.round → w ≡ record v { phase = IsOver } → Stepped g limit v (Closed Finished) w
 step_finished g limit v w s none e = rw e (record {
@@ -131,8 +130,7 @@ step_close_over : (g : Graph) (limit : ℕ) (v w : State) (answer : Close) → S
 step_close_over g limit v w Next s over a same e = absurd (not_next a)
   where
     not_next : (Next ≡ Finished) ⊎ (Next ≡ TooDeep) → ⊥
-    not_next (inl q) = cc
-    not_next (inr q) = cc
+    not_next h = grind arith
 step_close_over g limit v w Finished s over a same e = stays g limit v w (Closed Finished) s e refl same (over_stays (is_running v.phase) false over) (λ b flag. refl)
 step_close_over g limit v w NotAll s over a same e = stays g limit v w (Closed NotAll) s e refl same (over_stays (is_running v.phase) true over) (λ b flag. refl)
 step_close_over g limit v w TooDeep s over a same e = stays g limit v w (Closed TooDeep) s e refl same (over_stays (is_running v.phase) false over) (λ b flag. refl)
@@ -158,13 +156,10 @@ record Went (g : Graph) (limit : ℕ) (v : State) (events : List Event) (w : Sta
   ticks : (b : ℕ) → b < blocks_of g.size → is_running w.phase ≡ true → slice_index_or w.posted b false ≡ ticked_after b (slice_index_or v.posted b false) events
 
 and_group : (a b c : Bool) → ((a && not b) && not c) ≡ (a && not (b || c))
-and_group true true c = refl
-and_group true false c = refl
-and_group false b c = refl
+and_group a b c = grind arith
 
 still : (a b : Bool) → (a && b) ≡ true → a ≡ true
-still true b h = refl
-still false b h = h
+still a b h = grind arith
 
 plus_nothing : (a : ℕ) → a ≡ a + 0
 plus_nothing a = omega arith
@@ -193,12 +188,10 @@ sound_begun g limit = record {
 
 -- a run goes on exactly where no event was its end
 ended : (running end : Bool) → running ≡ not end → running ≡ false → end ≡ true
-ended running true is f = refl
-ended running false is f = absurd (both_ways running f is)
+ended running end is f = grind arith
 
 going : (running end : Bool) → running ≡ not end → running ≡ true → end ≡ false
-going running true is t = absurd (both_ways running is t)
-going running false is t = refl
+going running end is t = grind arith
 
 posted_while : (g : Graph) (limit : ℕ) (events : List Event) (v : State) → Went g limit (begun g limit) events v → (b : ℕ) → b < blocks_of g.size
     → (p : Phase) → v.phase ≡ p → is_posted_in p v.posted b ≡ (list_any is_end events || ticked_after b false events)

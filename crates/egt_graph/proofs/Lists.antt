@@ -44,10 +44,7 @@ any_all_clash P p q clash xs each some all =
     let (x, has, t) = any_contains p xs some in clash x (All-contains P xs x each has) t (all_contains q xs x all has)
 
 or_swap : (a b c d : Bool) → ((a || b) || (c || d)) ≡ ((a || c) || (b || d))
-or_swap true b c d = refl
-or_swap false true true d = refl
-or_swap false true false d = refl
-or_swap false false c d = refl
+or_swap a b c d = grind arith
 
 pub any_or : {X : Type 0} (p q r : X → Bool) → ((x : X) → p x ≡ (q x || r x)) → (xs : List X) → list_any p xs ≡ (list_any q xs || list_any r xs)
 any_or p q r e [] = refl
@@ -102,8 +99,7 @@ some_counts p (x ∷ xs) = elim (cases_Bool (p x)) [
 ]
 
 pub counted_some : {X : Type 0} (p : X → Bool) (xs : List X) → 0 < count_by p xs → is_empty xs ≡ false
-counted_some p [] h = absurd (omega arith)
-counted_some p (x ∷ xs) h = refl
+counted_some p xs h = grind arith
 
 pub counted_contains : (x : ℕ) (xs : List ℕ) → 0 < count_of x xs → Contains xs x
 counted_contains x [] h = absurd (omega arith)

@@ -326,8 +326,7 @@ late_loss n Draw short gt = refl
 
 late_win : (n : ℕ) (e : Exit) → HasShortDistance e → 32000 < n → is_win_of n e ≡ false
 late_win n (Win k) short gt = ne_eqb k n (λ e. absurd (omega arith))
-late_win n (Loss k) short gt = refl
-late_win n Draw short gt = refl
+late_win n e short gt = grind arith
 
 over_at_last : (g : Graph) → IsGame g → (run : Nearing) → IsNearing g 32001 run
     → ((i : ℕ) → i < length run.entries.items → slice_index run.entries.items i ≢ 2 + 2 * 32001) → IsOver run 32000
@@ -357,8 +356,7 @@ found_more entries r k found h is = record {
 }
   where
     last : (i : ℕ) → Contains (k ∷ []) i → k ≡ i
-    last i (zero, lt, is) = is
-    last i (suc m, lt, is) = absurd (omega (arith, lt))
+    last i h = grind arith
 
 pub found_past : (entries : List ℕ) (r k : ℕ) (found : List ℕ) → AreFound entries r k found → slice_index entries k ≢ 2 + 2 * r → AreFound entries r (k + 1) found
 found_past entries r k found h ne = record {

@@ -106,19 +106,13 @@ known_not : (b w t : Bool) → b ≡ false → t ≡ false → (b || (w && t)) �
 known_not b w t p q = rw (p, q) (and_right_false w)
   where
     and_right_false : (v : Bool) → (v && false) ≡ false
-    and_right_false true = refl
-    and_right_false false = refl
+    and_right_false v = grind arith
 
 pub or_false : (b : Bool) → b ≡ (b || false)
-or_false true = refl
-or_false false = refl
+or_false b = grind arith
 
 or_turn : (a b c : Bool) → ((a || b) || c) ≡ ((a || c) || b)
-or_turn true b c = refl
-or_turn false true true = refl
-or_turn false true false = refl
-or_turn false false true = refl
-or_turn false false false = refl
+or_turn a b c = grind arith
 
 -- a lost node of the round: the nodes that lead to it win, and none of them has run out of moves to wait for
 pub lost_node_marks : (g : Graph) (law : IsGame g) (r : ℕ) (done : ℕ → Bool) (due won j : ℕ) (es ws es' : List ℕ)

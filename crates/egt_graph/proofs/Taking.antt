@@ -35,8 +35,7 @@ found_win g r i e win loss (Loses p a b) is q =
     let k = is ∙ found_entry g r i win loss (r + 1) (Loses p a b) ∙ p in absurd (omega arith)
 
 found_loss : (g : Graph) (r i e : ℕ) (win loss : Bool) → Found g r i → e ≡ decided (entry_at g r i) win loss (r + 1) → e ≢ 2 + 2 * r → mated_within g r i ≡ true
-found_loss g r i e win loss (Wins p a b) is q = absurd (q (is ∙ found_entry g r i win loss (r + 1) (Wins p a b) ∙ p))
-found_loss g r i e win loss (Loses p a b) is q = a
+found_loss g r i e win loss h is q = grind arith
 
 pub turn_won : (g : Graph) → IsGame g → (r block k : ℕ) (posted : List Bool) (nodes sources : List ℕ) (due won : ℕ) (es ws es' ws' : List ℕ)
     → IsTurn g r block k posted nodes sources → Amid g r (done_by posted nodes k) due won es ws → get_or es (get_or nodes k 0) 0 ≡ 2 + 2 * r
