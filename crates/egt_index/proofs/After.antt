@@ -62,8 +62,7 @@ all_after n flips p q (e ∷ list) n_in set all = (
 )
 
 after_to_list : (n : ℕ) (flips : Bool) (x : Entry) → map (turn_one n flips) (option_to_list x) ≡ option_to_list (entry_after n flips x)
-after_to_list n flips None = refl
-after_to_list n flips (Some e) = refl
+after_to_list n flips x = grind arith
 
 pub both_to_list : (n : ℕ) (flips : Bool) (x y : Entry) → map (turn_one n flips) (option_to_list x ++ option_to_list y) ≡ option_to_list (entry_after n flips x) ++ option_to_list (entry_after n flips y)
 both_to_list n flips None y = after_to_list n flips y
@@ -253,8 +252,7 @@ goes_from pawns high number men list apart sorted tells = record {
 }
 
 same_target : (f : ℕ → ℕ) (o : Option ℕ) → target_digit (option_map f o) ≡ target_digit o
-same_target f None = refl
-same_target f (Some t) = refl
+same_target f o = grind arith
 
 -- the digits of the squares make the least code
 pub code_stood : (c : ℕ) (p : Setup) (t : ℕ) (after : Stand) (high number code : ℕ) → ImageStood c p t after → high < king_base (has_pawns (material_of c)) → king_square (has_pawns (material_of c)) high ≡ after.white

@@ -97,8 +97,7 @@ own_kings c true stand p all = (all.3.1, all.1)
 own_kings c false stand p all = (all.1, all.3.1)
 
 pair_of : (flips : Bool) (w b : ℕ) → cond {A = ℕ} flips (64 * b + w) (64 * w + b) ≡ 64 * cond flips b w + cond flips w b
-pair_of true w b = refl
-pair_of false w b = refl
+pair_of flips w b = grind arith
 
 -- the kings on greater squares after the turn
 pub kept_by_kings : Facts → (c code t : ℕ) (stand : Stand) (p : Setup) (own image : ℕ) → IsAdmissible p → AllStand (eqb (t / 8) 1) p.men (list_of stand) → Spells c code p

@@ -173,8 +173,7 @@ index_there facts c flipped s ok settled is_of best = of_king (king_there flippe
     becomes false = refl
 
     cancels : (flipped : Bool) → differ flipped flipped ≡ false
-    cancels true = refl
-    cancels false = refl
+    cancels flipped = grind arith
 
     of_king : (k : ℕ) × Stands s.men k (king_of (cond flipped Black White)) → ⊥
     of_king king =

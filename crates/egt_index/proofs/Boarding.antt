@@ -35,8 +35,7 @@ apart_before (e ∷ list) more apart = (off_before e.1 list more apart.0, apart_
     off_before q (e ∷ list) more off = (off.0, off_before q list more off.1)
 
 pub one_at_most : (entry : Entry) → length (option_to_list entry) ≤ 1
-one_at_most None = omega arith
-one_at_most (Some e) = omega arith
+one_at_most entry = grind arith
 
 pub two_at_most : (x y : Entry) → length (option_to_list x ++ option_to_list y) ≤ 2
 two_at_most None y = let one = one_at_most y in omega arith

@@ -65,9 +65,7 @@ side_in flipped side = cond flipped (other_side side) side
 
 side_back : (flipped : Bool) (side : Side) → side_in flipped (side_in flipped side) ≡ side
 unfolding side_in
-side_back true White = refl
-side_back true Black = refl
-side_back false side = refl
+side_back flipped side = grind arith
 
 -- a class with pawns has no position without
 pub pawns_there : (c : ℕ) (flipped : Bool) (p : Setup) → IsOf c flipped p → has_pawns (material_of c) ≡ true → HasNoPawn p.men → ⊥
@@ -84,16 +82,10 @@ pawns_there c flipped p is_of has none =
     ]
 
 same_flip : (flipped turns : Bool) → turns ≡ flipped → differ flipped turns ≡ false
-same_flip true true e = refl
-same_flip false false e = refl
-same_flip true false e = absurd (false≢true e)
-same_flip false true e = absurd (false≢true (sym e))
+same_flip flipped turns e = grind arith
 
 other_flip : (flipped turns : Bool) → (turns ≡ flipped → ⊥) → differ flipped turns ≡ true
-other_flip true true not = absurd (not refl)
-other_flip false false not = absurd (not refl)
-other_flip true false not = refl
-other_flip false true not = refl
+other_flip flipped turns not = grind arith
 
 -- a turn's image is of the class in its colours exactly where the turn is in colours
 pub image_in_colours : Facts → (c : ℕ) (flipped : Bool) (p q : Setup) (t : ℕ) → c < 36 → IsAdmissible p → IsOf c flipped p → IsTurn t p q → IsInColours c flipped (eqb (t / 8) 1) → IsOf c false q

@@ -1,7 +1,7 @@
 -- A code spells one position, and is below the class's size.
-use Rattle.std.proofs.Common.{◌≡◌, ℕ, ◌<◌, Bool, true, false, cond, List, [], ◌∷◌, ◌++◌, Option, Some, None, arith}
+use Rattle.std.proofs.Common.{◌≡◌, ℕ, ◌<◌, Bool, true, false, cond, List, [], ◌∷◌, ◌++◌, Option, arith}
 use Rattle.std.proofs.Common.{refl, sym, ap, ◌∙◌, subst}
-use Rattle.egt_index.specs.Prelude.{Side, White, Black, side_number, men_of, Setup, Material, material_of, AreDigits}
+use Rattle.egt_index.specs.Prelude.{Side, side_number, men_of, Setup, Material, material_of, AreDigits}
 use Rattle.egt_index.specs.Prelude.{product, size_of, bases, men_bases, has_target, Spells, SpellsBy, men_at}
 use Rattle.egt_index.specs.Prelude.{target_digit, target_digits}
 use Rattle.egt_index.proofs.MixedDigits.{number_of-below, number_from-same}
@@ -28,12 +28,10 @@ parts_same (b ∷ bs) (d ∷ ds) (e ∷ es) x y here there same =
     conses h k = cc
 
 side_fits : (side : Side) → side_number side < 2
-side_fits White = omega arith
-side_fits Black = omega arith
+side_fits side = grind arith
 
 target_fits : (target : Option ℕ) → target_digit target < 2
-target_fits None = omega arith
-target_fits (Some t) = omega arith
+target_fits target = grind arith
 
 pub last_digits : (b : Bool) (side : Side) (target : Option ℕ) → AreDigits (2 ∷ cond b (2 ∷ []) []) (side_number side ∷ cond b (target_digit target ∷ []) [])
 last_digits true side target = (side_fits side, (target_fits target, tt))
@@ -50,10 +48,7 @@ unfolding size_of
 code_below c code p s = spells_below (material_of c) code p s
 
 pub side_told : (a b : Side) → side_number a ≡ side_number b → a ≡ b
-side_told White White e = refl
-side_told Black Black e = refl
-side_told White Black e = absurd (omega arith)
-side_told Black White e = absurd (omega arith)
+side_told a b e = grind arith
 
 -- what two positions of one code share
 pub record SameSpelling (m : Material) (p q : Setup) (digits others : List ℕ) : Type 0 where

@@ -1,11 +1,12 @@
 -- The tables of turns that bring a king home are right for each square.
 use Rattle.std.proofs.Common.{◌≡◌, ◌≢◌, ℕ, ◌+◌, ◌/◌, ◌%◌, ◌<◌, ◌⊎◌, ◌&&◌, ◌||◌, not, Bool, true, false, cond, ltb, eqb}
 use Rattle.std.proofs.Common.{Option, Some, None, IfSome, refl, sym, ap, ◌∙◌, inl, inr, subst, slice_index}
-use Rattle.egt_index.specs.Prelude.{and_parts, and_from, eqb-true, eq-eqb, ltb-true, lt-ltb, false≢true, turned_square}
+use Rattle.egt_index.specs.Prelude.{and_parts, and_from, eqb-true, eq-eqb, ltb-true, lt-ltb, turned_square}
 use Rattle.egt_index.specs.Prelude.{all_below, passes_below, king_square, symmetries, IsTurnWith, BringsHome, AreHome}
 use Rattle.egt_index.specs.Prelude.{king_base, FIRST, LAST}
 use Rattle.egt_index.proofs.Kings.{some_below, some_passes, has_digit}
 use Rattle.egt_index.proofs.Tested.{implied, one_of, not_both}
+use Rattle.std.proofs.Common.{arith}
 
 is_with : Bool → Bool → ℕ → Bool
 is_with pawns flips t = ltb t 16 && (same (eqb (t / 8) 1) flips && ltb (t % 8) (symmetries pawns))
@@ -63,10 +64,7 @@ with_told pawns flips t h =
     record { below = ltb-true t 16 both.0; flips_is = told (eqb (t / 8) 1) flips more.0; keeps = ltb-true _ _ more.1 }
   where
     told : (a b : Bool) → cond a b (not b) ≡ true → a ≡ b
-    told true true h = refl
-    told true false h = absurd (false≢true h)
-    told false true h = absurd (false≢true h)
-    told false false h = refl
+    told a b h = grind arith
 
 told_with : (pawns flips : Bool) (t : ℕ) → IsTurnWith pawns flips t → is_with pawns flips t ≡ true
 unfolding is_with
@@ -75,8 +73,7 @@ told_with pawns flips t h = and_from _ _ (lt-ltb t 16 h.below) (and_from _ _ (sa
     same : (a b : Bool) → a ≡ b → cond a b (not b) ≡ true
     same true true e = refl
     same true false e = sym e
-    same false true e = e
-    same false false e = refl
+    same a b e = grind arith
 
 away_told : (pawns flips : Bool) (king t d : ℕ) → is_away pawns flips king t ≡ true → d < king_base pawns → king_square pawns d ≢ turned_square (t % 8) flips king
 unfolding is_away

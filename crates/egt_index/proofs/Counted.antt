@@ -16,12 +16,7 @@ kind_at n = slice_index_or (Q ∷ R ∷ B ∷ N ∷ P ∷ K ∷ []) n Q
 
 kind_back : (kind : Kind) → kind_at (kind_number kind) ≡ kind
 unfolding kind_at
-kind_back Q = refl
-kind_back R = refl
-kind_back B = refl
-kind_back N = refl
-kind_back P = refl
-kind_back K = refl
+kind_back kind = grind arith
 
 -- men of one number are the same
 pub man_told : (man other : Man) → man_number man ≡ man_number other → man ≡ other

@@ -48,15 +48,13 @@ has_pawns_list c number list has spells = of_digits spells.digits are list_is
 told_digit : (passed : Bool) (side : Side) (list : List (Man × ℕ)) (target : Option ℕ) → IsTold passed side list target → target_digit target ≡ flag passed
 unfolding flag
 told_digit false side list target told = ap target_digit told
-told_digit true side list None told = absurd told
-told_digit true side list (Some t) told = refl
+told_digit passed side list target told = grind arith
 
 told_has : (m : Material) (passed : Bool) (side : Side) (list : List (Man × ℕ)) (target : Option ℕ) → (has_target m ≡ false → passed ≡ false) → IsTold passed side list target → HasTargetDigit m target
 told_has m passed side list target never told = of_test (has_target m) refl
   where
     none : (passed : Bool) → passed ≡ false → IsTold passed side list target → target ≡ None
-    none false e told = told
-    none true e told = absurd (false≢true (sym e))
+    none passed e told = grind arith
 
     of_test : (b : Bool) → has_target m ≡ b → HasTargetDigit m target
     of_test true is = inl is
@@ -92,8 +90,7 @@ pub record Parts (m : Material) (p : Setup) (digits : List ℕ) (high : ℕ) (si
 
 flag_fits : (passed : Bool) → flag passed < 2
 unfolding flag
-flag_fits true = omega arith
-flag_fits false = omega arith
+flag_fits passed = grind arith
 
 ends_fit : (b : Bool) (side : Side) (passed : Bool) → AreDigits (2 ∷ cond b (2 ∷ []) []) (side_number side ∷ cond b (flag passed ∷ []) [])
 ends_fit true side passed = ((last_digits true side None).0, (flag_fits passed, tt))
@@ -163,8 +160,7 @@ spelled_setup c code high side passed list target p ends spells told s = (subst 
         ap Some (sym (passed_square side p.men list t u men_is fits told (one has (other_side side))))
 
     none_told : (passed : Bool) → passed ≡ false → IsTold passed side list target → target ≡ None
-    none_told false e told = told
-    none_told true e told = absurd (false≢true (sym e))
+    none_told passed e told = grind arith
 
     target_is : (b : Bool) → has_target m ≡ b → HasTargetDigit m p.target → p.target ≡ target
     target_is true is has = with_target is passed (digits_has true is refl) target p.target refl told

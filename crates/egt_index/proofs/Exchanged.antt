@@ -9,6 +9,7 @@ use Rattle.egt_index.proofs.Counted.{man_told}
 use Rattle.egt_index.proofs.Standing.{turned_back}
 use Rattle.egt_index.proofs.Tested.{implied}
 use Rattle.egt_board.proofs.Parts.{heads, tails}
+use Rattle.std.proofs.Common.{arith}
 
 -- no man, or a man and the same of the other side
 is_pair : List Man → Bool
@@ -64,10 +65,7 @@ all_exchanged flips men w b (Some e) (Some d) pair h =
     )
 
 men_exchanged : (x y : Entry) → men_among (option_to_list (on_square_of x y) ++ option_to_list (on_square_of y x)) ≡ men_among (option_to_list x ++ option_to_list y)
-men_exchanged None None = refl
-men_exchanged None (Some d) = refl
-men_exchanged (Some e) None = refl
-men_exchanged (Some e) (Some d) = refl
+men_exchanged x y = grind arith
 
 -- the men beside the kings of those
 pair_stood : (c : ℕ) (flips : Bool) (men : Placement) (stand : Stand) → c < 36 → has_equal_sides c ≡ true → Stood c flips men (list_of stand) → is_pair (men_among (option_to_list stand.next ++ option_to_list stand.last)) ≡ true
@@ -86,10 +84,7 @@ stood_exchanged c flips men stand other c_in equal white black next last stood =
 }
 
 filled_both : (x y : Entry) → (x ≡ None → y ≡ None) → on_square_of x y ≡ None → on_square_of y x ≡ None
-filled_both None None filled none = refl
-filled_both None (Some d) filled none = absurd (let missing = filled refl in cc)
-filled_both (Some e) None filled none = refl
-filled_both (Some e) (Some d) filled none = absurd cc
+filled_both x y filled none = grind arith
 
 pub filled_exchanged : (stand other : Stand) → other.next ≡ on_square_of stand.next stand.last → other.last ≡ on_square_of stand.last stand.next → IsFilled stand → IsFilled other
 filled_exchanged stand other next last filled = λ none. last ∙ filled_both stand.next stand.last filled (sym next ∙ none)
@@ -106,8 +101,7 @@ pair_apart (Some e) (Some d) pair same = absurd (not_itself e.0 (man_told (man_b
     not_itself man e = of_side man.side (ap (λ (m : Man). m.side) e)
       where
         of_side : (side : Side) → side_by Colours side ≡ side → ⊥
-        of_side White h = cc
-        of_side Black h = cc
+        of_side side h = grind arith
 
 pub one_order : (c : ℕ) (stand : Stand) → c < 36 → has_equal_sides c ≡ true → men_among (list_of stand) ≡ men_in_order (material_of c)
     → men_among (option_to_list (on_square_of stand.next stand.last)) ≡ men_among (option_to_list (on_square_of stand.last stand.next)) → on_square_of stand.last stand.next ≡ on_square_of stand.next stand.last

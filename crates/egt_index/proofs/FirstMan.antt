@@ -1,11 +1,11 @@
 -- Codes of images that have their kings on the same squares, compared by the first man's.
-use Rattle.std.proofs.Common.{◌≡◌, ◌≢◌, ℕ, ◌+◌, ◌*◌, ◌/◌, ◌%◌, ◌<◌, Bool, true, false, cond, eqb, List, [], ◌∷◌, ◌++◌}
+use Rattle.std.proofs.Common.{◌≡◌, ◌≢◌, ℕ, ◌+◌, ◌*◌, ◌/◌, ◌%◌, ◌<◌, Bool, false, cond, eqb, List, [], ◌∷◌, ◌++◌}
 use Rattle.std.proofs.Common.{map, Some, None, arith, refl, sym, ap, ◌∙◌, inl, inr, subst, IfSome}
-use Rattle.egt_index.specs.Prelude.{IfMoved, Entry, Man, White, Black, king_of, side_number, men_of, Stands, IsSettled}
-use Rattle.egt_index.specs.Prelude.{Setup, IsAdmissible, KeepsPlay, turned_man, turned_square, Material, material_of}
-use Rattle.egt_index.specs.Prelude.{IsOf, Beats, HasFront, IsFirstOfTwo, Keeps, Spells, king_square, men_at, placed}
-use Rattle.egt_index.specs.Prelude.{square_of, target_digits, number_from, number_of, AreDigits, Facts, BringsHome}
-use Rattle.egt_index.specs.Prelude.{base_of, bases, king_base, men_bases, men_beside, has_pawns, has_target, list_of}
+use Rattle.egt_index.specs.Prelude.{IfMoved, Entry, Man, White, Black, king_of, side_number, men_of, Stands}
+use Rattle.egt_index.specs.Prelude.{Setup, IsAdmissible, turned_man, turned_square, Material, material_of}
+use Rattle.egt_index.specs.Prelude.{Beats, IsFirstOfTwo, Keeps, Spells, king_square, men_at, placed}
+use Rattle.egt_index.specs.Prelude.{square_of, target_digits, number_from, number_of, AreDigits, Facts}
+use Rattle.egt_index.specs.Prelude.{base_of, king_base, men_beside, has_pawns, has_target, list_of}
 use Rattle.egt_index.specs.Prelude.{AllStand, IsListed, IsOff, IsTurn, Stand, option_to_list}
 use Rattle.std.proofs.lemmas.Bool.{ne_eqb}
 use Rattle.std.specs.FinMap as placement
@@ -86,8 +86,7 @@ module _ (c : ℕ) (man last : Man) (two : men_beside (material_of c) ≡ man �
           of_list (inl h) = absurd (no_white (sym h.0))
           of_list (inr (inl h)) = absurd (no_black (sym h.0))
           of_list (inr (inr (inl h))) = h.1
-          of_list (inr (inr (inr (inl h)))) = absurd (apart (sym h.0))
-          of_list (inr (inr (inr (inr h)))) = absurd h
+          of_list h = grind arith
 
   -- of two codes that is less whose position has the first man on the lesser square, where the kings stand on the same
   pub first_less : (code other : ℕ) (p q : Setup) (w b s t : ℕ) → Spells c code p → Spells c other q → Stands p.men w (king_of White) → Stands p.men b (king_of Black) → Stands q.men w (king_of White) → Stands q.men b (king_of Black)

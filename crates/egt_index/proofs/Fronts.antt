@@ -19,9 +19,7 @@ last_beside (Some a) (Some b) men are from = ap last_of (sym are)
 
 -- where there is no last man there is no entry of one
 no_entry : (pawns : Bool) (n high : ℕ) (man : Option Man) (last : Entry) → man ≡ None → Tells pawns n (option_to_list man) high (option_to_list last) → last ≡ None
-no_entry pawns n high man None none tells = refl
-no_entry pawns n high None (Some e) none tells = absurd (let is = tells.list_is in cc)
-no_entry pawns n high (Some m) (Some e) none tells = absurd (cc)
+no_entry pawns n high man last none tells = grind arith
 
 -- the digits of the men before the last one, and then his
 module _ (c number first_high king black : ℕ) (first second : Option Man) (next : Entry) (are : option_to_list first ++ option_to_list second ≡ men_beside (material_of c)) (from : first ≡ None → second ≡ None)
@@ -44,8 +42,7 @@ module _ (c number first_high king black : ℕ) (first second : Option Man) (nex
 
 -- the men with the last one are those before him and him
 with_none : (next : Entry) → option_to_list next ++ [] ≡ option_to_list next
-with_none None = refl
-with_none (Some e) = refl
+with_none next = grind arith
 
 pub list_before : (stand : Stand) → stand.last ≡ None → list_of stand ≡ before_last stand
 list_before stand none =

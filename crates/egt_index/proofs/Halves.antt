@@ -2,7 +2,7 @@
 use Rattle.std.proofs.Common.{◌≡◌, ℕ, ◌+◌, ◌-◌, ◌*◌, ◌/◌, ◌%◌, ◌<◌, ◌≤◌, ◌==◌, nat_lt, Bool, true, false, cond, [], ◌∷◌}
 use Rattle.std.proofs.Common.{Option, Some, None, arith, refl, sym, ap, ◌∙◌, inl, inr, subst}
 use Rattle.egt_index.specs.Prelude.{cases_lt, eqb-true, false≢true, lt-ltb, nat_tests, mul-le-mul_right, side_number}
-use Rattle.egt_index.specs.Prelude.{Man, Side, White, Black, all_below, passes_below, Material, material_of, materials}
+use Rattle.egt_index.specs.Prelude.{Man, Side, all_below, passes_below, Material, material_of, materials}
 use Rattle.egt_index.specs.Prelude.{number_from, product, digits_at, kind_digits, last_of, IsShelfBehind, number_in}
 use Rattle.egt_index.specs.Prelude.{bases, has_target, men_beside, size_of, Ends}
 use Rattle.egt_index.specs.Numbers.{code_of, half_of, number_of, places}
@@ -190,8 +190,7 @@ module _ (passed : Bool) (c shelf high : ℕ) (at : IsShelfBehind passed c shelf
   low_is = omega arith
 
   side_few : (side : Side) → side_number side ≤ 1
-  side_few White = omega arith
-  side_few Black = omega arith
+  side_few side = grind arith
 
   low_in : low < half_of c
   low_in = let within = at.within in let few = side_few side in let is = low_is in omega arith

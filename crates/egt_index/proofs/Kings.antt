@@ -26,10 +26,7 @@ some_turn pawns flipped s = some_below (λ n. has_digit pawns (turned_square n f
 
 all_turn : (pawns flipped : Bool) → all_below (some_turn pawns flipped) 64 ≡ true
 unfolding all_below some_below has_digit some_turn
-all_turn true true = refl
-all_turn true false = refl
-all_turn false true = refl
-all_turn false false = refl
+all_turn pawns flipped = grind arith
 
 -- a turn after which the king of a square has a digit
 pub record KingTurn (pawns flipped : Bool) (s : ℕ) : Type 0 where

@@ -91,8 +91,7 @@ kept c flips p n n_in is_of keeps = of_pawns (has_pawns (material_of c)) refl
     ]
 
 pub king_is : (flips : Bool) → turned_man flips (king_of White) ≡ king_of (cond flips Black White)
-king_is true = refl
-king_is false = refl
+king_is flips = grind arith
 
 -- a turn that does not bring the king home makes nothing that has a code
 pub none_away : Facts → (c : ℕ) (p : Setup) (flips : Bool) (king first : ℕ) (second : Option ℕ) → IsAdmissible p → IsOf c flips p → Stands p.men king (turned_man flips (king_of White))
@@ -117,8 +116,7 @@ best_of_both c p a b straight exchanged = of_codes a b straight exchanged
     told t = of_test (eqb (t / 8) 1)
       where
         of_test : (b : Bool) → (b ≡ false) ⊎ (b ≡ true)
-        of_test true = inr refl
-        of_test false = inl refl
+        of_test b = grind arith
 
     best : (code : ℕ) (flips : Bool) → FlipCode c p flips code → ((t : ℕ) (q : Setup) (other : ℕ) → t < 16 → IsTurn t p q → Spells c other q → code ≤ other) → BestOf c p 16 code
     best code flips f least = record { turn = f.turn; below = f.below; image = f.image; turned = f.turned; spells = f.spells; least = least }

@@ -1,5 +1,5 @@
 -- Placements given by a list of men.
-use Rattle.std.proofs.Common.{◌≡◌, ◌≢◌, ℕ, zero, suc, ◌+◌, ◌<◌, List, [], ◌∷◌, ◌++◌, length, map, cond, Some, None}
+use Rattle.std.proofs.Common.{◌≡◌, ◌≢◌, ℕ, zero, suc, ◌<◌, List, [], ◌∷◌, ◌++◌, length, map, cond, Some, None}
 use Rattle.std.proofs.Common.{arith, sym, ap, ◌∙◌, inl, inr, subst, slice_index}
 use Rattle.egt_index.specs.Prelude.{nat_cmp, nat_cmp_total, cases_eq, map-append, Man, Placement, Stands, IsFree}
 use Rattle.egt_index.specs.Prelude.{same_men, tied, untied, get-remove_same, get-remove_other, get-insert_same}

@@ -1,5 +1,5 @@
 -- The codes of a class with one man beside the kings.
-use Rattle.std.proofs.Common.{◌≡◌, ℕ, ◌+◌, ◌-◌, ◌*◌, ◌<◌, ◌≤◌, ◌&&◌, Bool, true, false, cond, List, [], ◌∷◌, ◌++◌, map}
+use Rattle.std.proofs.Common.{◌≡◌, ℕ, ◌+◌, ◌-◌, ◌*◌, ◌<◌, ◌≤◌, ◌&&◌, Bool, false, cond, List, [], ◌∷◌, ◌++◌, map}
 use Rattle.std.proofs.Common.{None, arith, refl, sym, ap, ◌∙◌, subst}
 use Rattle.egt_index.specs.Prelude.{side_number, Kind, Man, Side, White, Black, Material, material_of, king_square}
 use Rattle.egt_index.specs.Prelude.{number_from, number_of, product, IsLoneMan, IsLoneRow, lone_stand, kind_digits}
@@ -22,8 +22,7 @@ alone_sides [] weak man are = refl
 alone_sides (k ∷ ks) [] man are = of (has_pawn (k ∷ ks))
   where
     of : (b : Bool) → (b && false) ≡ false
-    of true = refl
-    of false = refl
+    of b = grind arith
 alone_sides (k ∷ []) (w ∷ ws) man are = absurd (cc)
 alone_sides (k ∷ l ∷ ks) (w ∷ ws) man are = absurd (cc)
 

@@ -1,7 +1,7 @@
 -- The table of the men beside the kings, and what the classes' numbers tell of pawns.
 use Rattle.std.proofs.Common.{◌≡◌, ℕ, ◌<◌, ◌++◌, Bool, true, false, eqb, List, map, Option, Some, None, IfSome, ◌≢◌}
 use Rattle.std.proofs.Common.{◌&&◌, not, arith, ◌+◌, refl, sym, ap, ◌∙◌, subst, slice_index_or}
-use Rattle.egt_index.specs.Prelude.{range_with_len, option_to_list, get_or-map, get_or_default, false≢true, eq-eqb}
+use Rattle.egt_index.specs.Prelude.{range_with_len, option_to_list, get_or-map, get_or_default, eq-eqb}
 use Rattle.egt_index.specs.Prelude.{and_parts, get_or-map-range_with_len, Man, man_number, king_of, White, all_below}
 use Rattle.egt_index.specs.Prelude.{passes_below, material_of, materials, has_equal_sides, men_beside, has_pawns}
 use Rattle.egt_index.specs.Prelude.{has_target, NON_KINGS, PAWNS, EQUAL_SIDES}
@@ -30,8 +30,7 @@ agree false false = true
 pub agreed : (a b : Bool) → agree a b ≡ true → a ≡ b
 unfolding agree
 agreed true b h = sym h
-agreed false true h = absurd (false≢true h)
-agreed false false h = refl
+agreed a b h = grind arith
 
 pawns_agree : all_below (λ c. agree (slice_index_or PAWNS c false) (has_pawns (material_of c))) 36 ≡ true
 unfolding all_below agree material_of materials
@@ -78,9 +77,7 @@ all_filled = refl
 
 filled_told : (row : Option Man × Option Man) → is_filled row ≡ true → row.0 ≡ None → row.1 ≡ None
 unfolding is_filled
-filled_told (None, None) h none = refl
-filled_told (None, Some man) h none = absurd (false≢true h)
-filled_told (Some man, second) h none = absurd (cc)
+filled_told row h none = grind arith
 
 pub from_first : (c : ℕ) (d : Option Man × Option Man) → c < 36 → (slice_index_or NON_KINGS c d).0 ≡ None → (slice_index_or NON_KINGS c d).1 ≡ None
 from_first c d c_in =

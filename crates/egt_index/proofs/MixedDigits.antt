@@ -1,5 +1,5 @@
 -- Numbers of mixed digits: in order as their digits are, and each of one list of digits.
-use Rattle.std.proofs.Common.{◌≡◌, ℕ, ◌+◌, ◌*◌, ◌<◌, ◌≤◌, ◌⊎◌, List, [], ◌∷◌, arith, refl, ap, inl, inr, subst}
+use Rattle.std.proofs.Common.{◌≡◌, ℕ, ◌+◌, ◌*◌, ◌<◌, ◌≤◌, ◌⊎◌, List, [], ◌∷◌, arith, refl, ap, subst}
 use Rattle.std.proofs.Common.{mul_assoc}
 use Rattle.egt_index.specs.Prelude.{cases_lt, mul-le-mul_right, number_from, number_of, AreDigits, product}
 
@@ -35,9 +35,7 @@ number_from-same (base ∷ bases) (d ∷ ds) (e ∷ es) a b here there same =
     (high, cons low rest.1)
   where
     equal_high : (a < b) ⊎ (b ≤ a) → (b < a) ⊎ (a ≤ b) → a * base + d ≡ b * base + e → a ≡ b
-    equal_high (inl lt) h sum = absurd (let l = higher a b base d e lt here.0 in omega arith)
-    equal_high (inr le) (inl lt) sum = absurd (let l = higher b a base e d lt there.0 in omega arith)
-    equal_high (inr le) (inr ge) sum = omega arith
+    equal_high h h' sum = grind arith
 
     equal_low : a ≡ b → a * base + d ≡ b * base + e → d ≡ e
     equal_low h sum = omega (arith, ap (λ x. x * base) h)

@@ -35,8 +35,7 @@ no_king : (side other : Side) → king_of side ≡ pawn_of other → ⊥
 no_king side other h = let kinds = ap (λ (man : Man). man.kind) h in cc
 
 not_other : (side : Side) → pawn_of (other_side side) ≡ pawn_of side → ⊥
-not_other White h = let sides = ap (λ (man : Man). man.side) h in cc
-not_other Black h = let sides = ap (λ (man : Man). man.side) h in cc
+not_other side h = grind arith
 
 -- there each side's pawn stands on one square
 pub one_square : (digits : List ℕ) (side : Side) (s t : ℕ) → AreDigits (men_bases a_pawn_each) digits
@@ -52,8 +51,7 @@ one_square (a ∷ b ∷ x ∷ y ∷ []) White s t are here there = sym (white s 
     white u (inl h) = absurd (no_king White White h.0)
     white u (inr (inl h)) = absurd (no_king Black White h.0)
     white u (inr (inr (inl h))) = h.1
-    white u (inr (inr (inr (inl h)))) = absurd (not_other White h.0)
-    white u (inr (inr (inr (inr h)))) = absurd h
+    white u h = grind arith
 one_square (a ∷ b ∷ x ∷ y ∷ []) Black s t are here there = sym (black s here) ∙ black t there
   where
     black : (u : ℕ) → IsListed (men_at a_pawn_each (a ∷ b ∷ x ∷ y ∷ [])) (pawn_of Black) u → y + 8 ≡ u

@@ -68,15 +68,13 @@ no_king : (side other : Side) → king_of side ≡ pawn_of other → ⊥
 no_king side other h = let kinds = ap (λ (man : Man). man.kind) h in cc
 
 not_other : (side : Side) → pawn_of (other_side side) ≡ pawn_of side → ⊥
-not_other White h = let sides = ap (λ (man : Man). man.side) h in cc
-not_other Black h = let sides = ap (λ (man : Man). man.side) h in cc
+not_other side h = grind arith
 
 white_listed : (w b x y s : ℕ) → IsListed ((king_of White, w) ∷ (king_of Black, b) ∷ (pawn_of White, x) ∷ (pawn_of Black, y) ∷ []) (pawn_of White) s → s ≡ x
 white_listed w b x y s (inl h) = absurd (no_king White White h.0)
 white_listed w b x y s (inr (inl h)) = absurd (no_king Black White h.0)
 white_listed w b x y s (inr (inr (inl h))) = sym h.1
-white_listed w b x y s (inr (inr (inr (inl h)))) = absurd (not_other White h.0)
-white_listed w b x y s (inr (inr (inr (inr h)))) = absurd h
+white_listed w b x y s h = grind arith
 
 black_listed : (w b x y s : ℕ) → IsListed ((king_of White, w) ∷ (king_of Black, b) ∷ (pawn_of White, x) ∷ (pawn_of Black, y) ∷ []) (pawn_of Black) s → s ≡ y
 black_listed w b x y s (inl h) = absurd (no_king White Black h.0)
@@ -287,8 +285,7 @@ module _ (c : ℕ) (front : Front) (man : Man) (c_in : c < 36) (has : has_target
       there bit = of_both ((boths k).0 bit)
 
       third : (mover : Side) → 3 ≤ taking_rank mover
-      third White = omega arith
-      third Black = omega arith
+      third mover = grind arith
 
       back : IsMade true c front.stand man mover k → bit_at both k ≡ 1
       back made = of_next (made_beside one mover k on next made).next

@@ -1,7 +1,7 @@
 -- The least code of a position: each man in turn on the least square that is left to it.
 use Rattle.std.proofs.Common.{◌≡◌, ℕ, ◌+◌, ◌*◌, ◌<◌, ◌⊎◌, Bool, true, false, ltb, List, [], ◌∷◌, map, arith, refl, sym}
 use Rattle.std.proofs.Common.{ap, ◌∙◌, inl, inr, subst}
-use Rattle.egt_index.specs.Prelude.{cases_eq, cases_lt, ltb-true, Side, White, Black, Kind, Q, R, B, N, P, K, Man}
+use Rattle.egt_index.specs.Prelude.{cases_eq, cases_lt, ltb-true, Side, White, Kind, K, Man}
 use Rattle.egt_index.specs.Prelude.{Placement, Stands, get-remove_same, get-remove_other, men_of, all_below}
 use Rattle.egt_index.specs.Prelude.{passes_below, number_from, AreDigits, base_by, base_of, king_square}
 use Rattle.egt_index.specs.Prelude.{square_by_digit, square_of, placed, AreCounted, Picks}
@@ -22,17 +22,7 @@ rising : (pawns : Bool) (side : Side) (kind : Kind) (d e : ℕ) → d < e → e 
 unfolding rises
 rising true White K d e lt e_in = omega arith
 rising false White K d e lt e_in = ltb-true _ _ (passes_below (λ d. ltb (king_square false d) (king_square false e)) e d (passes_below rises 10 e all_rise e_in) lt)
-rising pawns Black K d e lt e_in = lt
-rising pawns White P d e lt e_in = omega arith
-rising pawns Black P d e lt e_in = omega arith
-rising pawns White Q d e lt e_in = lt
-rising pawns Black Q d e lt e_in = lt
-rising pawns White R d e lt e_in = lt
-rising pawns Black R d e lt e_in = lt
-rising pawns White B d e lt e_in = lt
-rising pawns Black B d e lt e_in = lt
-rising pawns White N d e lt e_in = lt
-rising pawns Black N d e lt e_in = lt
+rising pawns side kind d e lt e_in = grind arith
 
 pub lesser_digit : (pawns : Bool) (man : Man) (d e : ℕ) → d < base_of pawns man → square_of pawns man d < square_of pawns man e → d < e
 lesser_digit pawns man d e d_in lt = elim (cases_lt d e) [

@@ -21,28 +21,13 @@ use Rattle.egt_board.proofs.Bits.{not_both}
 
 -- the digits of a man and his squares
 pub within : (kind : Kind) → kind_digits kind + kind_less kind ≤ 64
-within Q = omega arith
-within R = omega arith
-within B = omega arith
-within N = omega arith
-within P = omega arith
-within K = omega arith
+within kind = grind arith
 
 pub twice_within : (kind : Kind) → kind_digits kind + 2 * kind_less kind ≤ 64
-twice_within Q = omega arith
-twice_within R = omega arith
-twice_within B = omega arith
-twice_within N = omega arith
-twice_within P = omega arith
-twice_within K = omega arith
+twice_within kind = grind arith
 
 pub some_digits : (kind : Kind) → 0 < kind_digits kind
-some_digits Q = omega arith
-some_digits R = omega arith
-some_digits B = omega arith
-some_digits N = omega arith
-some_digits P = omega arith
-some_digits K = omega arith
+some_digits kind = grind arith
 
 -- of a pawn the bits from the second rank on
 shifted : (n k : ℕ) → bit_at (n / 256) k ≡ bit_at n (k + 8)

@@ -1,6 +1,6 @@
 -- The men that a number spells, as a board and as a setup.
 use Rattle.std.proofs.Common.{◌≡◌, ◌≢◌, ℕ, ◌<◌, ◌&&◌, not, Bool, true, false, eqb, List, [], ◌∷◌, ◌++◌, length, map}
-use Rattle.std.proofs.Common.{Option, Some, None, arith, refl, sym, ap, ◌∙◌, inl, inr, subst}
+use Rattle.std.proofs.Common.{Option, arith, refl, sym, ap, ◌∙◌, inl, inr, subst}
 use Rattle.egt_index.specs.Prelude.{option_to_list, is_some, and_parts, eq-eqb, Side, White, Black, Kind, Q, R, B, N, P}
 use Rattle.egt_index.specs.Prelude.{K, Man, king_of, kind_number, side_number, men_of, setup_of, FitsBoard, MayStand}
 use Rattle.egt_index.specs.Prelude.{PawnsFit, Placement, Stands, IsFree, IsSettled, Setup, IsAdmissible, IsKingOn}
@@ -152,8 +152,7 @@ all_stand (e ∷ list) apart on_board = (
 
 target_there : (passed : Bool) (side : Side) (list : List (Man × ℕ)) (target : Option ℕ) → IsTold passed side list target → is_some target ≡ passed
 target_there false side list target told = ap is_some told
-target_there true side list None told = absurd told
-target_there true side list (Some t) told = refl
+target_there passed side list target told = grind arith
 
 -- a position with these men has them in their places
 pub stood_spelled : (c high : ℕ) (stand : Stand) (p : Setup) → SpellsMen (material_of c) high (list_of stand) → AllApart (list_of stand) → IsAdmissible p → p.men ≡ men_of (list_of stand) → Stood c false p.men (list_of stand)

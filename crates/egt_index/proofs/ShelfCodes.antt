@@ -1,5 +1,5 @@
 -- The men of a shelf's codes.
-use Rattle.std.proofs.Common.{◌≡◌, ◌≢◌, ◌↔◌, ℕ, ◌+◌, ◌-◌, ◌*◌, ◌%◌, ◌<◌, ◌≤◌, Bool, true, false, cond, inl, inr, List}
+use Rattle.std.proofs.Common.{◌≡◌, ◌≢◌, ◌↔◌, ℕ, ◌+◌, ◌-◌, ◌*◌, ◌%◌, ◌<◌, ◌≤◌, Bool, true, cond, inl, inr, List}
 use Rattle.std.proofs.Common.{[], ◌∷◌, ◌++◌, Option, Some, None, IfSome, arith, refl, sym, ap, ◌∙◌, subst}
 use Rattle.egt_index.specs.Prelude.{option_to_list, cases_lt, king_of, MayStand, Man, Side, White, Black, material_of}
 use Rattle.egt_index.specs.Prelude.{king_square, number_from, IsBefore, kind_digits, kind_less, code_of, half_of}
@@ -97,8 +97,7 @@ pub first_beside : (x y : Option Man) (one last : Man) (men : List Man) → opti
 first_beside None y one last men are not none is = absurd (of y (none refl) are)
   where
     of : (o : Option Man) → o ≡ None → option_to_list o ≡ men → ⊥
-    of None e are = let h : [] ≡ one ∷ last ∷ [] = are ∙ sym is in cc
-    of (Some man) e are = cc
+    of o e are = grind arith
 first_beside (Some man) y one last men are not none is = λ same. not (heads (are ∙ sym is) ∙ same)
 
 -- the positions of the upper shelves have a target, and no others
@@ -121,8 +120,7 @@ halves c shelf men is has = (there, back)
         last_two n f = omega arith
 
     flag : (b : Bool) → cond {A = ℕ} b 1 0 % 2 ≡ 1 → b ≡ true
-    flag true odd = refl
-    flag false odd = absurd (omega arith)
+    flag b odd = grind arith
 
     there : is.passed ≡ true → half_of c ≤ shelf * (2 * places c)
     there passed = elim (cases_lt (shelf * (2 * places c)) (half_of c)) [

@@ -16,8 +16,7 @@ turned_back false man = refl
 turned_back true man = of_side man.side man.kind
   where
     of_side : (side : Side) (kind : Kind) → turned_man true (turned_man true (record { side = side; kind = kind })) ≡ record { side = side; kind = kind }
-    of_side White kind = refl
-    of_side Black kind = refl
+    of_side side kind = grind arith
 
 tested_turned : (flips : Bool) (a b : Man) → is_man a (turned_man flips b) ≡ is_man (turned_man flips a) b
 tested_turned flips a b =
@@ -38,8 +37,7 @@ pub counted_turned : (c : ℕ) (flips : Bool) (p : Setup) → IsOf c flips p →
 counted_turned c flips p is_of man = is_of.men man ∙ of_flips flips ∙ sym (in_class c (turned_man flips man)) ∙ sym (tally_turned flips man (men_in_order (material_of c)))
   where
     of_flips : (flips : Bool) → men_in c (cond flips (turned_man true man).side man.side) man.kind ≡ men_in c (turned_man flips man).side (turned_man flips man).kind
-    of_flips true = refl
-    of_flips false = refl
+    of_flips flips = grind arith
 
 -- where the kings stand, in colours exchanged where `flips`
 pub record KingsOn (flips : Bool) (men : Placement) (w b : ℕ) : Type 0 where
@@ -51,8 +49,7 @@ pub record KingsOn (flips : Bool) (men : Placement) (w b : ℕ) : Type 0 where
   pub only : (s : ℕ) (man : Man) → man.kind ≡ K → Stands men s man → (s ≡ w) ⊎ (s ≡ b)
 
 king_kind : (flips : Bool) (side : Side) → (turned_man flips (king_of side)).kind ≡ K
-king_kind true side = refl
-king_kind false side = refl
+king_kind flips side = grind arith
 
 pub kings_on : (flips : Bool) (p : Setup) (side other : Side) (w b : ℕ) → IsAdmissible p → side ≡ cond flips Black White → other ≡ other_side side → IsKingOn p.men side w → IsKingOn p.men other b → KingsOn flips p.men w b
 kings_on flips p side other w b ok side_is other_is white black = record {
@@ -68,12 +65,10 @@ kings_on flips p side other w b ok side_is other_is white black = record {
 }
   where
     first : (flips : Bool) → king_of (cond flips Black White) ≡ turned_man flips (king_of White)
-    first true = refl
-    first false = refl
+    first flips = grind arith
 
     last : (flips : Bool) → king_of (other_side (cond flips Black White)) ≡ turned_man flips (king_of Black)
-    last true = refl
-    last false = refl
+    last flips = grind arith
 
     white_there : Stands p.men w (turned_man flips (king_of White))
     white_there = white.stands ∙ ap (λ s. Some (king_of s)) side_is ∙ ap Some (first flips)

@@ -19,8 +19,7 @@ pub stays : (p : Setup) → IsAdmissible p → IsTurn 0 p p
 stays p ok = (inr (omega arith), record { men = λ t t_in. refl; side = refl; target = same p.target; on_board = ok.on_board })
   where
     same : (o : Option ℕ) → o ≡ option_map (λ s. s) o
-    same None = refl
-    same (Some t) = refl
+    same o = grind arith
 
 sorted_list : (p : Setup) (stand : Stand) → IsAdmissible p → AllStand false p.men (list_of stand) → IsInOrder stand.next stand.last → AreSorted (list_of stand)
 sorted_list p stand ok all order = (

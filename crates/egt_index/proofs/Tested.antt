@@ -1,10 +1,10 @@
 -- What tests tell.
 use Rattle.std.proofs.Common.{◌≡◌, ◌⊎◌, ◌||◌, not, Bool, true, false, refl, inl, inr}
 use Rattle.egt_index.specs.Prelude.{false≢true}
+use Rattle.std.proofs.Common.{arith}
 
 pub implied : (a b : Bool) → a ≡ true → (not a || b) ≡ true → b ≡ true
-implied true b h e = e
-implied false b h e = absurd (false≢true h)
+implied a b h e = grind arith
 
 pub one_of : (a b : Bool) → (a || b) ≡ true → (a ≡ true) ⊎ (b ≡ true)
 one_of true b h = inl refl

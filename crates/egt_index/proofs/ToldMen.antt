@@ -1,5 +1,5 @@
 -- What a code that tells some men spells has these men, and a position with these men is what it spells.
-use Rattle.std.proofs.Common.{◌≡◌, ℕ, ◌+◌, ◌-◌, Bool, true, false, List, Option, Some, None, IfSome, arith, refl, sym}
+use Rattle.std.proofs.Common.{◌≡◌, ℕ, ◌+◌, ◌-◌, Bool, true, false, List, Option, Some, None, IfSome, arith, sym}
 use Rattle.std.proofs.Common.{ap, ◌∙◌, subst}
 use Rattle.egt_index.specs.Prelude.{is_some, false≢true, FitsBoard, men_of, setup_of, other_side, HasPawnBeside, ahead}
 use Rattle.egt_index.specs.Prelude.{pawn_of, Placement, Stands, IsSettled, Setup, FitsTarget, IsTarget, Man, Side}
@@ -17,8 +17,7 @@ pub untargeted_settled : (q : Setup) → q.target ≡ None → IsSettled q
 untargeted_settled q none = of_target q.target none
   where
     of_target : (t : Option ℕ) → t ≡ None → IfSome t (λ t. HasPawnBeside q.men q.side (ahead (other_side q.side) t))
-    of_target None e = tt
-    of_target (Some t) e = let same = e in cc
+    of_target t e = grind arith
 
 -- where a target is told of there is a pawn each
 pub pawns_told : (passed : Bool) (c code : ℕ) (stand : Stand) (side : Side) → TellsMen passed c code stand side → passed ≡ true → HasPawns (list_of stand)
@@ -26,8 +25,7 @@ pawns_told passed c code stand side tells e =
     of_targets c (λ none. absurd (false≢true (sym (tells.ends.never none) ∙ e))) (λ has. has_pawns_list c tells.number (list_of stand) has tells.men)
 
 pub no_target : (o : Option ℕ) → is_some o ≡ false → o ≡ None
-no_target None is = refl
-no_target (Some t) is = absurd (false≢true (sym is))
+no_target o is = grind arith
 
 -- the setup of these men, that side to move and the target that the code tells of
 record IsSetup (passed : Bool) (stand : Stand) (side : Side) (p : Setup) : Type 0 where

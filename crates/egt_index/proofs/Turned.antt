@@ -1,7 +1,7 @@
 -- The code of each image of a settled position, in the colours of the class.
 use Rattle.std.proofs.Common.{◌≡◌, ℕ, ◌<◌, ◌≤◌, ◌⊎◌, ◌&&◌, ◌||◌, not, Bool, true, false, cond, ltb, eqb, Option, Some}
 use Rattle.std.proofs.Common.{None, IfSome, arith, refl, sym, ap, ◌∙◌, inl, inr, subst}
-use Rattle.egt_index.specs.Prelude.{is_some, cases_lt, false≢true, lt-ltb, and_from, and_parts, eqb-true, Side, White}
+use Rattle.egt_index.specs.Prelude.{is_some, cases_lt, lt-ltb, and_from, and_parts, eqb-true, Side, White}
 use Rattle.egt_index.specs.Prelude.{Black, Kind, P, Man, Colours, other_side, man_by, pawn_of, ahead, HasPawnBeside}
 use Rattle.egt_index.specs.Prelude.{HasNoPawn, Placement, Stands, Setup, IsAdmissible, IsSettled, SettlesTo, FitsTarget}
 use Rattle.egt_index.specs.Prelude.{IsTarget, KeepsPlay, SameMen, ExchangedMen, count_of, IsTurnedBy, turned_side}
@@ -19,24 +19,19 @@ differ flipped false = flipped
 differ flipped true = not flipped
 
 side_stays : (side : Side) → other_side side ≡ side → ⊥
-side_stays White e = cc
-side_stays Black e = cc
+side_stays side e = grind arith
 
 abbrev side_in : Bool → Side → Side
 side_in flipped side = cond flipped (other_side side) side
 
 turned_in : (flipped : Bool) (side : Side) → side_in flipped (other_side side) ≡ side_in (not flipped) side
-turned_in true White = refl
-turned_in true Black = refl
-turned_in false White = refl
-turned_in false Black = refl
+turned_in flipped side = grind arith
 
 twice : (man : Man) → man_by Colours (man_by Colours man) ≡ man
 twice man = of_side man.side man.kind
   where
     of_side : (side : Side) (kind : Kind) → man_by Colours (man_by Colours (record { side = side; kind = kind })) ≡ record { side = side; kind = kind }
-    of_side White kind = refl
-    of_side Black kind = refl
+    of_side side kind = grind arith
 
 -- a turn keeps the class, and flips what it flips
 pub turned_class : Facts → (c : ℕ) (flipped turns : Bool) (n : ℕ) (p q : Setup) → IsAdmissible p → n < 8 → KeepsPlay n p.men → IsTurnedBy n turns p q → IsOf c flipped p → IsOf c (differ flipped turns) q
@@ -119,8 +114,7 @@ no_pawns c flipped p ok is_of none s man stands pawn =
     ]
       where
         first_false : (a b : Bool) → a ≡ false → (a || b) ≡ true → b ≡ true
-        first_false true b h e = absurd (false≢true (sym h))
-        first_false false b h e = e
+        first_false a b h e = grind arith
 
         of_side : (side : Side) → (eqb (men_in c White P) 0 && eqb (men_in c Black P) 0) ≡ true → men_in c side P ≡ 0
         of_side White both = eqb-true _ _ (and_parts _ _ both).0

@@ -51,10 +51,7 @@ undone flips n s n_in s_in =
 
 all_undoing : (pawns flips : Bool) → all_below (λ n. ltb (undoing flips n) (symmetries pawns)) (symmetries pawns) ≡ true
 unfolding all_below undoing inverse
-all_undoing true true = refl
-all_undoing true false = refl
-all_undoing false true = refl
-all_undoing false false = refl
+all_undoing pawns flips = grind arith
 
 pub undoing_in : (pawns flips : Bool) (n : ℕ) → n < symmetries pawns → undoing flips n < symmetries pawns
 undoing_in pawns flips n n_in = ltb-true _ _ (passes_below (λ n. ltb (undoing flips n) (symmetries pawns)) (symmetries pawns) n (all_undoing pawns flips) n_in)
@@ -96,22 +93,17 @@ list_turned : (n : ℕ) (flips : Bool) (stand : Stand) → map (turn_one n flips
 list_turned n flips stand = ap (λ l. (king_of White, turned_square n flips stand.white) ∷ (king_of Black, turned_square n flips stand.black) ∷ l) (both_to_list n flips stand.next stand.last)
 
 differ_from : (flips : Bool) → differ false flips ≡ flips
-differ_from true = refl
-differ_from false = refl
+differ_from flips = grind arith
 
 turned_twice : (flips : Bool) (side : Side) → turned_side flips (turned_side flips side) ≡ side
-turned_twice true White = refl
-turned_twice true Black = refl
-turned_twice false side = refl
+turned_twice flips side = grind arith
 
 some_mapped : (f : ℕ → ℕ) (o : Option ℕ) → is_some (option_map f o) ≡ is_some o
-some_mapped f None = refl
-some_mapped f (Some t) = refl
+some_mapped f o = grind arith
 
 -- the digit of a target that a turn takes elsewhere
 digit_mapped : (f : ℕ → ℕ) (o : Option ℕ) → target_digit (option_map f o) ≡ cond (is_some o) 1 0
-digit_mapped f None = refl
-digit_mapped f (Some t) = refl
+digit_mapped f o = grind arith
 
 -- what a code spells is settled where no target was passed
 settled_told : (passed : Bool) (c code : ℕ) (r : Setup) (stand : Stand) (side : Side) → Spells c code r → TellsMen passed c code stand side → (passed ≡ true → IsSettled r) → IsSettled r
@@ -202,9 +194,7 @@ either_order (Some x) (Some y) (d ∷ e ∷ []) filled men apart there = of (the
       ap (λ l. l ∷ x ∷ []) (same_entry y d (sym b.0) (sym b.1)) ∙ ap (λ l. d ∷ l ∷ []) (same_entry x e (sym a.0) (sym a.1)),
       ap (λ l. l ∷ []) (heads men ∙ b.0),
     )
-    of (inr (inl a)) (inr (inl b)) = absurd (apart.0.0 (sym b.1 ∙ a.1))
-    of (inr (inl a)) (inr (inr none)) = absurd none
-    of (inr (inr none)) other = absurd none
+    of h other = grind arith
 
 -- the men with the kings before them
 with_kings : (w b : ℕ) (rest : List (Man × ℕ)) → List (Man × ℕ)
@@ -262,21 +252,17 @@ in_either_order w b x y (d ∷ e ∷ other) filled none men apart there = elim (
     ]
 
 after_none : (n : ℕ) (flips : Bool) (x : Entry) → entry_after n flips x ≡ None → x ≡ None
-after_none n flips None is = refl
-after_none n flips (Some e) is = absurd cc
+after_none n flips x is = grind arith
 
 filled_after : (n : ℕ) (flips : Bool) (stand : Stand) → IsFilled stand → IsFilled (turned_with n flips stand)
 filled_after n flips stand filled = λ none. ap (entry_after n flips) (filled (after_none n flips stand.next none))
 
 -- two equal men are there, or none
 equal_filled : (x y : Entry) → men_among (option_to_list x) ≡ men_among (option_to_list y) → y ≡ None → x ≡ None
-equal_filled None y men none = refl
-equal_filled (Some e) None men none = absurd cc
-equal_filled (Some e) (Some d) men none = absurd cc
+equal_filled x y men none = grind arith
 
 men_stay : (n : ℕ) (flips : Bool) (x : Entry) → men_among (option_to_list (entry_after n flips x)) ≡ men_among (option_to_list x)
-men_stay n flips None = refl
-men_stay n flips (Some e) = refl
+men_stay n flips x = grind arith
 
 module _ (facts : Facts) (passed : Bool) (c n i : ℕ) (flips : Bool) (stand : Stand) (side : Side) (q r : Setup) (c_in : c < 36) (filled : IsFilled stand) (has : HasStand c flips stand side passed q) (n_in : n < 8)
     (turned : IsTurnedBy n flips q r) (spells : Spells c i r) where
@@ -420,14 +406,10 @@ in_other_order passed c flips stand side q equal has = record {
 }
 
 across_again : (x y : Entry) → on_square_of (on_square_of x y) (on_square_of y x) ≡ x
-across_again None None = refl
-across_again None (Some d) = refl
-across_again (Some e) None = refl
-across_again (Some e) (Some d) = refl
+across_again x y = grind arith
 
 twice_not : (b : Bool) → b ≡ not (not b)
-twice_not true = refl
-twice_not false = refl
+twice_not b = grind arith
 
 module _ (facts : Facts) (passed : Bool) (c : ℕ) (flips turns : Bool) (stand after : Stand) (side : Side) (c_in : c < 36) (seen : IsSeenBy c flips turns stand after) where
   pub seen_so : (q : Setup) → HasStand c flips stand side passed q → HasStand c turns after side passed q
@@ -451,9 +433,7 @@ seen_back c flips turns stand after (inr (equal, other, across)) = inr (equal, t
     again = λ i. record { white = stand.white; black = stand.black; next = across_again stand.next stand.last i; last = across_again stand.last stand.next i }
 
 on_board_across : (x y : Entry) → IfSome x (λ e. e.1 < 64) → IfSome y (λ e. e.1 < 64) → IfSome (on_square_of x y) (λ e. e.1 < 64)
-on_board_across None y x_in y_in = tt
-on_board_across (Some e) None x_in y_in = x_in
-on_board_across (Some e) (Some d) x_in y_in = y_in
+on_board_across x y x_in y_in = grind arith
 
 on_board_so : (c : ℕ) (flips turns : Bool) (stand after : Stand) → IsSeenBy c flips turns stand after → AreOnBoard stand → AreOnBoard after
 on_board_so c flips turns stand after (inl (own, inl same)) board = subst AreOnBoard (sym same) board
@@ -505,8 +485,7 @@ spelled_after facts passed c t code stand side q has is = (
     lane = turned_by t stand
 
     same_colours : (f : Bool) → differ f f ≡ false
-    same_colours true = refl
-    same_colours false = refl
+    same_colours f = grind arith
 
     there : HasStand c false lane (turned_side (eqb (t / 8) 1) side) passed made.0
     there = record {

@@ -1,5 +1,5 @@
-use Rattle.std.proofs.Common.{◌≡◌, ◌≢◌, ◌++◌, ◌∷◌, ◌∙◌, [], Option, Some, arith, ap, subst, sym}
-use Rattle.egt_index.specs.Prelude.{Man, common_steps, men_beside, material_of, option_to_list}
+use Rattle.std.proofs.Common.{◌≡◌, ◌≢◌, ◌++◌, ◌∷◌, ◌∙◌, Some, arith, ap, sym}
+use Rattle.egt_index.specs.Prelude.{common_steps, option_to_list}
 use Rattle.egt_index.proofs.front.first_of_two.Goals as goal
 
 pub returns-then-ne-clause-first : goal.returns-then-ne-clause-first
