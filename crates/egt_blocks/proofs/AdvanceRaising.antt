@@ -93,8 +93,7 @@ module _ (c : ℕ) (worth : ℕ → ℕ) (before flips : Bool) (men : ShelfMen) 
 -- ---- captures that promote
 
 bit_true : (x : Bool) (bit : ℕ) → bit ≡ cond x 1 0 → bit ≡ 1 → x ≡ true
-bit_true true bit is one = refl
-bit_true false bit is one = absurd (omega (arith, is, one))
+bit_true x bit is one = grind arith
 
 module _ (c : ℕ) (worth : ℕ → ℕ) (flips : Bool) (men : ShelfMen) (side : Side) (kind : Kind) (a b : ℕ) where
   abbrev pub Promoted : ℕ → Type 0

@@ -214,8 +214,7 @@ GoneKing men side rest k = IsBesideKing men side k × (bit_at rest.bits k ≡ 0)
 
 -- the same men beside the kings
 pub same_beside : (men : ShelfMen) (side : Side) (k : ℕ) → ((with_king men side k).one ≡ men.one) × ((with_king men side k).last ≡ men.last)
-same_beside men White k = (refl, refl)
-same_beside men Black k = (refl, refl)
+same_beside men side k = grind arith
 
 -- one step more
 pub king_goes : (c : ℕ) (men : ShelfMen) (side : Side) (A In : ℕ → Type 0) (to a b low high : ℕ) (f : ℕ → ℕ) → IsRaised 0 (AreKingCodes c men side A a b) f low

@@ -58,8 +58,7 @@ leaps_to F Black s t r =
     ]
 
 fits_unpromoted : (last : Bool) → last ≡ false → FitsPromotion last None
-fits_unpromoted false is = tt
-fits_unpromoted true is = absurd (let no = is in cc)
+fits_unpromoted last is = grind arith
 
 -- only which squares are free counts
 by_free : (n : ℕ) (F G : ℕ → Type 0) (side : Side) (s t : ℕ) → ((u : ℕ) → u < 64 → F u → G u) → AdvancesBy n F side s t → AdvancesBy n G side s t

@@ -29,8 +29,7 @@ edges_stay true = refl
 edges_stay false = refl
 
 or_true : (b : Bool) → (b || true) ≡ true
-or_true true = refl
-or_true false = refl
+or_true b = grind arith
 
 past_pawns : (t : ℕ) → IsPastPawns t → edge t ≡ true
 unfolding edge
@@ -66,8 +65,7 @@ lone_pawn c man c_in is pawn =
     sym (ap (λ b. not b || has_pawns (material_of c)) any) ∙ passes_below shows_pawns 36 c all_show c_in
 
 turned_kind : (flips : Bool) (man : Man) → (turned_man flips man).kind ≡ man.kind
-turned_kind true man = refl
-turned_kind false man = refl
+turned_kind flips man = grind arith
 
 module _ (c : ℕ) (worth : ℕ → ℕ) (flips : Bool) (man : Man) (pawn : man.kind ≡ P) (c_in : c < 36) (lone : IsLoneMan c (turned_man flips man))
     (pawns : (passed : Bool) (c code : ℕ) (stand : Stand) (side : Side) (man : Man) (s : ℕ) → TellsMen passed c code stand side → IsListed (list_of stand) man s → MayStand man s) where

@@ -1,18 +1,13 @@
 -- Blocks raised to the scores after quiet steps.
 use Rattle.std.proofs.Common.{◌≡◌, ◌≢◌, ℕ, ◌<◌, ◌⊎◌, ◌↔◌, List, arith, refl, sym, ap, ◌∙◌, inl, inr, subst, false}
-use Rattle.egt_blocks.specs.Prelude.{bit_at, cases_eq, Reaches, Reaches-free, Reaches-on_board, other_side, Kind, Q, R}
-use Rattle.egt_blocks.specs.Prelude.{B, N, P, K, Man, Side, IsSomeTurnedCode, ShelfMen, Stand, IsPiece, IsOpen, at}
+use Rattle.egt_blocks.specs.Prelude.{bit_at, cases_eq, Reaches, Reaches-free, Reaches-on_board, other_side, Kind}
+use Rattle.egt_blocks.specs.Prelude.{P, K, Man, Side, IsSomeTurnedCode, ShelfMen, Stand, IsPiece, IsOpen, at}
 use Rattle.egt_blocks.specs.Prelude.{IsRaised, IsBesideKing, stand_on, with_king, AreKingCodes, AreQuietCodes, IsClear}
 use Rattle.egt_blocks.specs.Prelude.{IsFirstStep, IsLastStep, IsRead}
 use Rattle.egt_blocks.proofs.BlockRaising.{raised_alike, raised_both}
 
 pub no_pawn : (kind : Kind) → IsPiece kind → kind ≢ P
-no_pawn P piece e = piece
-no_pawn Q piece e = cc
-no_pawn R piece e = cc
-no_pawn B piece e = cc
-no_pawn N piece e = cc
-no_pawn K piece e = piece
+no_pawn kind piece e = grind arith
 
 -- ---- sets of squares
 
@@ -45,8 +40,7 @@ raised_through low high In Codes f g each raised = record {
 
 -- a man beside the kings who is no piece is a pawn
 pub no_piece : (kind : Kind) → (kind ≡ P) ⊎ (kind ≡ K) → kind ≢ K → kind ≡ P
-no_piece kind (inl pawn) other = pawn
-no_piece kind (inr king) other = absurd (other king)
+no_piece kind h other = grind arith
 
 -- only which squares are clear counts
 pub steps_raised : (F G : ℕ → Type 0) (man : Man) (s : ℕ) (f : ℕ → ℕ) (low high : ℕ) → ((u : ℕ) → u < 64 → F u ↔ G u) → IsRaised low (λ t. Reaches F man s t) f high → IsRaised low (λ t. Reaches G man s t) f high

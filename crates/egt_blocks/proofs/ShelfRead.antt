@@ -1,8 +1,8 @@
 -- What a row of a shelf tells, by the last man's square.
 use Rattle.std.proofs.Common.{◌≡◌, ℕ, ◌+◌, ◌-◌, ◌*◌, ◌/◌, ◌%◌, ◌<◌, ◌≤◌, ◌⊎◌, if◌then◌else◌, Bool, true, false, List}
 use Rattle.std.proofs.Common.{[], ◌∷◌, take, drop, arith, refl, sym, ap, ◌∙◌, inl, inr, subst, slice_index}
-use Rattle.egt_blocks.specs.Prelude.{cases_lt, false≢true, get_or-drop, get_or-take, side_number, MayStand, Kind, Q, R}
-use Rattle.egt_blocks.specs.Prelude.{B, N, P, K, Man, Side, White, Black, Material, material_of, number_from, product}
+use Rattle.egt_blocks.specs.Prelude.{cases_lt, get_or-drop, get_or-take, side_number, MayStand, Kind}
+use Rattle.egt_blocks.specs.Prelude.{P, Man, Side, White, Material, material_of, number_from, product}
 use Rattle.egt_blocks.specs.Prelude.{code_of, half_of, places, digits_at, kind_digits, kind_less, last_of, IsShelfOf}
 use Rattle.egt_blocks.specs.Prelude.{IsWithin, number_in, stand_with, bases, has_target, men_beside, size_of, IsListed}
 use Rattle.egt_blocks.specs.Prelude.{TellsMen, list_of, ShelfMen, Stand, code_high, code_low, half_targets}
@@ -14,32 +14,17 @@ piece_at xs first len k k_in = get_or-take (first + len - first) (drop first xs)
 
 pub pawn_digits : (kind : Kind) → is_pawn kind ≡ true → (kind ≡ P) × (kind_digits kind ≡ 48) × (kind_less kind ≡ 8)
 pawn_digits P is = (refl, refl, refl)
-pawn_digits Q is = absurd (false≢true is)
-pawn_digits R is = absurd (false≢true is)
-pawn_digits B is = absurd (false≢true is)
-pawn_digits N is = absurd (false≢true is)
-pawn_digits K is = absurd (false≢true is)
+pawn_digits kind is = grind arith
 
 pub piece_digits : (kind : Kind) → is_pawn kind ≡ false → (kind_digits kind ≡ 64) × (kind_less kind ≡ 0)
-piece_digits P is = absurd (false≢true (sym is))
-piece_digits Q is = (refl, refl)
-piece_digits R is = (refl, refl)
-piece_digits B is = (refl, refl)
-piece_digits N is = (refl, refl)
-piece_digits K is = (refl, refl)
+piece_digits kind is = grind arith
 
 -- a digit is that of a square
 pub square_in : (kind : Kind) (digit : ℕ) → digit < kind_digits kind → digit + kind_less kind < 64
-square_in P digit below = omega (arith, below)
-square_in Q digit below = omega (arith, below)
-square_in R digit below = omega (arith, below)
-square_in B digit below = omega (arith, below)
-square_in N digit below = omega (arith, below)
-square_in K digit below = omega (arith, below)
+square_in kind digit below = grind arith
 
 pub side_few : (side : Side) → side_number side < 2
-side_few White = omega arith
-side_few Black = omega arith
+side_few side = grind arith
 
 -- ---- the class with targets
 
@@ -47,16 +32,14 @@ abbrev pub bit_of : Bool → ℕ
 bit_of passed = if passed then 1 else 0
 
 pub bit_few : (passed : Bool) → bit_of passed < 2
-bit_few true = omega arith
-bit_few false = omega arith
+bit_few passed = grind arith
 
 -- the code's last digit is that of the target
 pub target_digit : (c code : ℕ) (stand : Stand) (side : Side) (passed : Bool) → has_target (material_of c) ≡ true → TellsMen passed c code stand side → code % 2 ≡ bit_of passed
 target_digit c code stand side passed has tells = by passed (tells.ends.number_is ∙ ap (λ b. number_from tells.number (2 ∷ (if b then 2 ∷ [] else [])) (side_number side ∷ (if b then bit_of passed ∷ [] else []))) has)
   where
     by : (passed : Bool) → code ≡ number_from tells.number (2 ∷ 2 ∷ []) (side_number side ∷ bit_of passed ∷ []) → code % 2 ≡ bit_of passed
-    by true is = omega (arith, is)
-    by false is = omega (arith, is)
+    by passed is = grind arith
 
 pub half_is : (c : ℕ) → has_target (material_of c) ≡ true → (size_of c ≡ 18874368) × (half_of c ≡ 9437184)
 unfolding size_of
@@ -68,12 +51,7 @@ places_is c has = ap (λ (m : Material). digits_at (last_of (men_beside m))) (on
 
 -- whose last man is a pawn
 pub pawn_of_digits : (kind : Kind) → kind_digits kind ≡ 48 → (kind ≡ P) × (kind_less kind ≡ 8)
-pawn_of_digits P is = (refl, refl)
-pawn_of_digits Q is = absurd (omega (arith, is))
-pawn_of_digits R is = absurd (omega (arith, is))
-pawn_of_digits B is = absurd (omega (arith, is))
-pawn_of_digits N is = absurd (omega (arith, is))
-pawn_of_digits K is = absurd (omega (arith, is))
+pawn_of_digits kind is = grind arith
 
 module _ (c shelf : ℕ) (has : has_target (material_of c) ≡ true) (within : IsWithin c shelf) where
   abbrev first : ℕ

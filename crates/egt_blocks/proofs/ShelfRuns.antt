@@ -13,32 +13,10 @@ use Rattle.egt_board.proofs.Parts.{heads, tails}
 -- ---- digits of men but the white king
 
 base_kind : (pawns : Bool) (side : Side) (kind : Kind) → ◌≢◌ {A = Man} (record { side = side; kind = kind }) (king_of White) → base_by pawns side kind ≡ kind_digits kind
-base_kind pawns White K other = absurd (other refl)
-base_kind pawns Black K other = refl
-base_kind pawns White P other = refl
-base_kind pawns White Q other = refl
-base_kind pawns White R other = refl
-base_kind pawns White B other = refl
-base_kind pawns White N other = refl
-base_kind pawns Black P other = refl
-base_kind pawns Black Q other = refl
-base_kind pawns Black R other = refl
-base_kind pawns Black B other = refl
-base_kind pawns Black N other = refl
+base_kind pawns side kind other = grind arith
 
 square_kind : (pawns : Bool) (side : Side) (kind : Kind) (digit : ℕ) → ◌≢◌ {A = Man} (record { side = side; kind = kind }) (king_of White) → square_by_digit pawns side kind digit ≡ digit + kind_less kind
-square_kind pawns White K digit other = absurd (other refl)
-square_kind pawns Black K digit other = omega arith
-square_kind pawns White P digit other = refl
-square_kind pawns White Q digit other = omega arith
-square_kind pawns White R digit other = omega arith
-square_kind pawns White B digit other = omega arith
-square_kind pawns White N digit other = omega arith
-square_kind pawns Black P digit other = refl
-square_kind pawns Black Q digit other = omega arith
-square_kind pawns Black R digit other = omega arith
-square_kind pawns Black B digit other = omega arith
-square_kind pawns Black N digit other = omega arith
+square_kind pawns side kind digit other = grind arith
 
 squares : {a b : Man × ℕ} → a ≡ b → a.1 ≡ b.1
 squares e = ap (λ (k : Man × ℕ). k.1) e
