@@ -16,10 +16,7 @@ short Black Black (suc n) q h le = (omega arith, le)
 
 -- the next value of one more ply
 pub next_is : (s w : Side) (n : ℕ) → next_value (mate_by s w (suc n)) ≡ Some (mate_by (other_side s) w n)
-next_is White White n = refl
-next_is White Black n = refl
-next_is Black White n = refl
-next_is Black Black n = refl
+next_is s w n = grind arith
 
 -- the side to move changes
 pub turned : (p q : Setup) (m : Move) → Leads p m q → q.side ≡ other_side p.side

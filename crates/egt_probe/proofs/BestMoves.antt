@@ -1,7 +1,7 @@
 -- Moves that are best play.
 use Rattle.std.proofs.Common.{◌≡◌, ℕ, zero, suc, List, [], ◌∷◌, Option, Some, None, IfSome, refl, sym, ap, ◌∙◌, subst}
 use Rattle.std.proofs.Common.{arith, inl, inr}
-use Rattle.egt_probe.specs.Prelude.{cases_lt, Side, White, Black, other_side, Setup, Value, Win, Loss, Draw, mate_by}
+use Rattle.egt_probe.specs.Prelude.{cases_lt, Side, other_side, Setup, Value, Win, Loss, Draw, mate_by}
 use Rattle.egt_probe.specs.Prelude.{place_of, Move, best_value, IsBest, Facts, IsHold, IsFirstTo, next_value, IsLine}
 
 -- the move that holds a draw is one
@@ -10,10 +10,7 @@ best_of_hold p None hold = inr hold.1
 best_of_hold p (Some m) hold = (Draw, Draw, hold.1.0, hold.0, refl, hold.1.1)
 
 best_next : (s w : Side) (n : ℕ) → best_value (mate_by s w (suc n)) ≡ Some (mate_by (other_side s) w n)
-best_next White White n = refl
-best_next White Black n = refl
-best_next Black White n = refl
-best_next Black Black n = refl
+best_next s w n = grind arith
 
 -- where a side mates, one leads to a position in which it mates one ply sooner
 pub best_is : (s w : Side) (n k : ℕ) → k ≡ suc n → best_value (mate_by s w k) ≡ Some (mate_by (other_side s) w n)

@@ -5,8 +5,7 @@ use Rattle.egt_probe.specs.Prelude.{Standing, Checkmate, Stalemate, HasMove, Tab
 use Rattle.egt_probe.specs.Prelude.{IsTrueReach}
 
 dead_if_one : (p : Setup) (x : ℕ) (number : Option ℕ) → HasReach chess p number → ShowsReach x number → x ≡ 1 → IsDead chess p
-dead_if_one p x (Some n) has shows e = absurd (omega (arith, shows.1, e))
-dead_if_one p x None has shows e = has
+dead_if_one p x number has shows e = grind arith
 
 alive_if_other : (p : Setup) (x : ℕ) (number : Option ℕ) → HasReach chess p number → ShowsReach x number → x ≢ 1 → ¬ (IsDead chess p)
 alive_if_other p x (Some n) has shows other dead = dead n has.0

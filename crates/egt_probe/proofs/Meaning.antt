@@ -1,19 +1,17 @@
 -- What a verdict means in the words of forced mate and of the defence against it.
-use Rattle.std.proofs.Common.{◌≡◌, ℕ, zero, suc, refl, subst}
-use Rattle.egt_probe.specs.Prelude.{Side, White, Black, other_side, Setup, Win, Loss, HasValue, MatesWithin}
+use Rattle.std.proofs.Common.{◌≡◌, ℕ, zero, suc, subst}
+use Rattle.egt_probe.specs.Prelude.{Side, other_side, Setup, Win, Loss, HasValue, MatesWithin}
 use Rattle.egt_probe.specs.Prelude.{IsMatedWithin, CannotMateBefore, AvoidsMateBefore, chess, mate_by}
+use Rattle.std.proofs.Common.{arith}
 
 mover_wins : (s : Side) (n : ℕ) → mate_by s s n ≡ Win n
-mover_wins White n = refl
-mover_wins Black n = refl
+mover_wins s n = grind arith
 
 mover_loses : (s : Side) (n : ℕ) → mate_by s (other_side s) n ≡ Loss n
-mover_loses White n = refl
-mover_loses Black n = refl
+mover_loses s n = grind arith
 
 win_is : (n : ℕ) (p : Setup) → HasValue chess p (Win n) → MatesWithin chess n p × CannotMateBefore chess n p
-win_is zero p h = absurd h
-win_is (suc n) p h = h
+win_is n p h = grind arith
 
 loss_is : (n : ℕ) (p : Setup) → HasValue chess p (Loss n) → IsMatedWithin chess n p × AvoidsMateBefore chess n p
 loss_is zero p h = (h, tt)

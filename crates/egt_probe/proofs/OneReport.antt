@@ -33,22 +33,10 @@ promotion_at (suc (suc (suc (suc (suc (suc n)))))) = Some K
 
 promotion_back : (o : Option Kind) → promotion_at (promotion_place o) ≡ o
 unfolding promotion_at
-promotion_back None = refl
-promotion_back (Some Q) = refl
-promotion_back (Some R) = refl
-promotion_back (Some B) = refl
-promotion_back (Some N) = refl
-promotion_back (Some P) = refl
-promotion_back (Some K) = refl
+promotion_back o = grind arith
 
 promotion_below : (o : Option Kind) → promotion_place o < 8
-promotion_below None = omega arith
-promotion_below (Some Q) = omega arith
-promotion_below (Some R) = omega arith
-promotion_below (Some B) = omega arith
-promotion_below (Some N) = omega arith
-promotion_below (Some P) = omega arith
-promotion_below (Some K) = omega arith
+promotion_below o = grind arith
 
 -- moves on the board with one place are one move
 same_place : (m n : Move) → m.to < 64 → n.to < 64 → place_of m ≡ place_of n → m ≡ n
@@ -73,10 +61,7 @@ won_by Black Black White n k e = absurd (cc)
 won_by Black Black Black n k e = (refl, cc)
 
 pub not_drawn : (s w : Side) (n : ℕ) → mate_by s w n ≡ Draw → ⊥
-not_drawn White White n e = absurd (cc)
-not_drawn White Black n e = absurd (cc)
-not_drawn Black White n e = absurd (cc)
-not_drawn Black Black n e = absurd (cc)
+not_drawn s w n e = grind arith
 
 module _ (facts : Facts) where
   one_first : (p q r : Setup) (v : Value) (m n : Move) → IsAdmissible p → IsFirstTo v p m q → IsFirstTo v p n r → m ≡ n

@@ -1,12 +1,12 @@
-use Rattle.std.proofs.Common.{ℕ, ◌<◌, Option, Some, None, is_some, option_map, refl, IfSome, IsSome, subst}
+use Rattle.std.proofs.Common.{ℕ, ◌<◌, Option, is_some, option_map, IfSome, IsSome, subst}
 use Rattle.egt_probe.specs.Prelude.{IsShelved, table_at, TableValue, loaded_in}
 use Rattle.egt_probe.proofs.Shelved.{step_loaded}
 use Rattle.egt_probe.proofs.looking.moves_stay_loaded.Goals as goal
+use Rattle.std.proofs.Common.{arith}
 
 -- a class with a table is loaded
 shelf_loaded : (o : Option TableValue) → IsSome o → IsSome (option_map (λ t. is_some t.reach) o)
-shelf_loaded None there = absurd (cc)
-shelf_loaded (Some t) there = refl
+shelf_loaded o there = grind arith
 
 pub returns : goal.returns
 returns c m q leads =

@@ -1,4 +1,4 @@
-use Rattle.std.proofs.Common.{◌≡◌, ℕ, refl, subst}
+use Rattle.std.proofs.Common.{◌≡◌, ℕ, subst}
 use Rattle.egt_board.specs.declared.man.Side.{Side}
 use Rattle.egt_moves.specs.Arena.{Draw, HasValue}
 use Rattle.egt_moves.specs.Chess.{chess}
@@ -7,12 +7,11 @@ use Rattle.egt_probe.specs.declared.outcome.Outcome.{Outcome}
 use Rattle.egt_probe.specs.declared.outcome.Outcome.TheVariants as outcomes
 use Rattle.egt_probe.specs.Verdict.{mate_value, zeroing_value}
 use Rattle.egt_probe.proofs.looking.outcome_at.Goals as goal
+use Rattle.std.proofs.Common.{arith}
 
 -- what is not decided is a draw
 undecided : (s : Side) (o : Outcome) → ((w : Side) (n z : ℕ) → o ≡ outcomes.Decided w n z → ⊥) → (mate_value s o ≡ Draw) × (zeroing_value s o ≡ Draw)
-undecided s outcomes.Draw not = (refl, refl)
-undecided s outcomes.Dead not = (refl, refl)
-undecided s (outcomes.Decided w n z) not = absurd (not w n z refl)
+undecided s o not = grind arith
 
 pub returns-then-is_dead : goal.returns-then-is_dead
 returns-then-is_dead c =
