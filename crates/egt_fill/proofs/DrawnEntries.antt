@@ -1,23 +1,17 @@
 -- Entries that scores of draws tell.
-use Rattle.std.proofs.Common.{◌≡◌, ◌∙◌, ℕ, ◌<◌, length, map, refl, ap, sym, subst, inl, inr}
+use Rattle.std.proofs.Common.{◌≡◌, ◌∙◌, ℕ, ◌<◌, length, map, ap, sym, subst, inl, inr}
 use Rattle.egt_fill.specs.Prelude.{IsVoid, size_of, Column, TellColumn, TellsEntry, told, AreDrawnOrNone, CodeScores}
 use Rattle.egt_fill.specs.Prelude.{HasNoVoidScore, IsDrawnIndex, told_at, told_none, IsDrawn}
-use Rattle.egt_table.specs.declared.column.Column.TheVariants.{Mate, Zeroing, Reach}
+use Rattle.std.proofs.Common.{arith}
 
 draw_told : (column : Column) → told column 128 ≡ 1
-draw_told Mate = refl
-draw_told Zeroing = refl
-draw_told Reach = refl
+draw_told column = grind arith
 
 none_tells : (column : Column) → TellsEntry column 0
-none_tells Mate = refl
-none_tells Zeroing = refl
-none_tells Reach = refl
+none_tells column = grind arith
 
 draw_tells : (column : Column) → TellsEntry column 128
-draw_tells Mate = refl
-draw_tells Zeroing = refl
-draw_tells Reach = refl
+draw_tells column = grind arith
 
 module _ (column : Column) (c : ℕ) (v : CodeScores) (class : v.class ≡ c) where
   pub drawn_told : HasNoVoidScore v → ((code : ℕ) → code < size_of c → IsDrawnIndex v code) → IsDrawn c (map (told column) v.scores)

@@ -1,7 +1,7 @@
 -- What was read of positions stays when entries of others are put.
 use Rattle.std.proofs.Common.{◌≡◌, ℕ, ◌/◌, ◌%◌, ◌<◌, Bool, true, false, eqb, List, [], length, Option, Some, None}
-use Rattle.std.proofs.Common.{IfSome, refl, sym, ap, ◌∙◌, inl, inr, slice_index_or, arith}
-use Rattle.egt_fill.specs.Prelude.{other_side, turned_side, turned_square, Side, White, Black, IsInEitherOrder}
+use Rattle.std.proofs.Common.{IfSome, sym, ap, ◌∙◌, inl, inr, slice_index_or, arith}
+use Rattle.egt_fill.specs.Prelude.{other_side, turned_side, turned_square, Side, IsInEitherOrder}
 use Rattle.egt_fill.specs.Prelude.{IsSeenBy, IsSomeTurnedCodeWith, turned_by, ShelfMen, Stand, at, IsRaised, stand_on}
 use Rattle.egt_fill.specs.Prelude.{TableValue, Column, with_kings, AreKept, IsKept, BlockKey, column_score, entry_score}
 use Rattle.egt_fill.specs.Prelude.{Part, IsMended, IsOfKings, TakesKings, TurnsTo}
@@ -14,12 +14,10 @@ either_kings before after (inl same) = (ap (λ (s : Stand). s.white) same, ap (�
 either_kings before after (inr across) = (ap (λ (s : Stand). s.white) across.0, ap (λ (s : Stand). s.black) across.0)
 
 side_same : (side : Side) → turned_side false side ≡ side
-side_same White = refl
-side_same Black = refl
+side_same side = grind arith
 
 side_other : (side : Side) → turned_side true side ≡ other_side side
-side_other White = refl
-side_other Black = refl
+side_other side = grind arith
 
 pub read_of_kings : (passed : Bool) (c code : ℕ) (stand : Stand) (side : Side) (w b : ℕ) (s : Side) → IsSomeTurnedCodeWith passed c code false stand side → IsOfKings c w b s code → TurnsTo c stand.white stand.black side w b s
 read_of_kings passed c code stand side w b s read of = record { turn = read.turn; below = read.is.below; keeps = read.is.keeps; takes = takes read.seen }

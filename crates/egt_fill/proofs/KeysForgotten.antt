@@ -1,7 +1,7 @@
 -- Blocks that are forgotten where entries are put: those that stay were read from others.
 use Rattle.std.proofs.Common.{◌≡◌, ◌≢◌, ◌∙◌, ℕ, ◌/◌, ◌%◌, ◌==◌, ◌<◌, Bool, true, false, List, [], length, Option, Some}
 use Rattle.std.proofs.Common.{None, IfSome, arith, ap, refl, sym, subst, inl, inr, slice_index_or}
-use Rattle.egt_fill.specs.Prelude.{false≢true, other_side, turned_square, Side, White, Black, has_equal_sides}
+use Rattle.egt_fill.specs.Prelude.{false≢true, other_side, turned_square, Side, has_equal_sides}
 use Rattle.egt_fill.specs.Prelude.{material_of, IsTurnWith, symmetries, has_pawns, ShelfMen, turn_number, eight}
 use Rattle.egt_fill.specs.Prelude.{undoing, undoing_in, undone, TableValue, Column, AreKept, IsKept, IsPlaced}
 use Rattle.egt_fill.specs.Prelude.{wide_place, BlockKey, column_score, Part, AreAllKept, AreFewer, AreForgotten}
@@ -9,8 +9,7 @@ use Rattle.egt_fill.specs.Prelude.{Filling, IsMended, Near, TurnsTo, with_items,
 use Rattle.egt_fill.proofs.KeptThrough.{all_kept}
 
 other_apart : (side : Side) → side ≢ other_side side
-other_apart White e = cc
-other_apart Black e = cc
+other_apart side e = grind arith
 
 -- at the places of these kings after each turn that exchanges colours so there is no key
 abbrev pub AreGone : (c : ℕ) (flips : Bool) (white black places : ℕ) (keys : List (Option BlockKey)) → Type 0

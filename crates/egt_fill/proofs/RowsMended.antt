@@ -1,7 +1,7 @@
 -- Rows that stay right while others are put.
 use Rattle.std.proofs.Common.{◌≡◌, ◌≢◌, ◌∙◌, ℕ, ◌+◌, ◌*◌, ◌%◌, ◌<◌, List, [], length, arith, sym, ap, inl, inr}
 use Rattle.std.proofs.Common.{slice_index, slice_index_or, slice_set, subst}
-use Rattle.egt_fill.specs.Prelude.{cases_eq, get_or-set_other, get_or-set_same, side_number, Kind, Q, R, B, N, P, K}
+use Rattle.egt_fill.specs.Prelude.{cases_eq, get_or-set_other, get_or-set_same, side_number, Kind}
 use Rattle.egt_fill.specs.Prelude.{SquareSet, code_of, number_of, kind_digits, kind_less, number_in, size_of}
 use Rattle.egt_fill.specs.Prelude.{TableValue, entries_of, Column, ShelfMen, men_on, AreShelvesOf, square_in}
 use Rattle.egt_fill.specs.Prelude.{byte_score, reach_score, column_of, IsRightAtOf, IsRightEndOf, column_score}
@@ -13,12 +13,7 @@ use Rattle.egt_fill.proofs.ShelfLanes.{number_within}
 
 -- numbers of different shelves differ
 one_shelf : (kind : Kind) (m n s y z : ℕ) → y < kind_digits kind → z < kind_digits kind → m * (2 * kind_digits kind) + s + 2 * y ≡ n * (2 * kind_digits kind) + s + 2 * z → m ≡ n
-one_shelf P m n s y z y_in z_in e = omega (arith, e, y_in, z_in)
-one_shelf Q m n s y z y_in z_in e = omega (arith, e, y_in, z_in)
-one_shelf R m n s y z y_in z_in e = omega (arith, e, y_in, z_in)
-one_shelf B m n s y z y_in z_in e = omega (arith, e, y_in, z_in)
-one_shelf N m n s y z y_in z_in e = omega (arith, e, y_in, z_in)
-one_shelf K m n s y z y_in z_in e = omega (arith, e, y_in, z_in)
+one_shelf kind m n s y z y_in z_in e = grind arith
 
 -- what is right stays where nothing is put
 right_at_stays : (part : Part) (old new : TableValue) (At : ℕ → Type 0) (i score zeroing : ℕ) → IsMendedAt part At old new → ¬ At i → IsRightAtOf part old i score zeroing → IsRightAtOf part new i score zeroing

@@ -7,8 +7,7 @@ use Rattle.egt_fill.specs.Prelude.{IsTurnWith, has_pawns, ShelfMen, IsFresh, sta
 pub one_place : (s r : Side) (w b x y : ℕ) → w < 64 → b < 64 → x < 64 → y < 64 → stamp_place s w b ≡ stamp_place r x y → (s ≡ r) × (w ≡ x) × (b ≡ y)
 one_place White White w b x y w_in b_in x_in y_in e = (refl, omega arith, omega arith)
 one_place Black Black w b x y w_in b_in x_in y_in e = (refl, omega arith, omega arith)
-one_place White Black w b x y w_in b_in x_in y_in e = absurd (omega arith)
-one_place Black White w b x y w_in b_in x_in y_in e = absurd (omega arith)
+one_place s r w b x y w_in b_in x_in y_in e = grind arith
 
 -- what is fresh by later stamps is so by earlier ones
 pub stamps_rise : (c : ℕ) (men : ShelfMen) (side : Side) (old new : List ℕ) (looked : ℕ) → ((i : ℕ) → slice_index old i ≤ slice_index new i) → IsFresh c men side new looked → IsFresh c men side old looked

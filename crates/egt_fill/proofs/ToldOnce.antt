@@ -4,8 +4,7 @@ use Rattle.egt_fill.specs.Prelude.{king_of, side_number, Man, Side, White, Black
 use Rattle.egt_fill.specs.Prelude.{men_bases, men_at, list_of, TellsMen, Stand, number_from-same, side_few, heads, tails}
 
 flag_few : (passed : Bool) → cond passed 1 0 < 2
-flag_few true = omega arith
-flag_few false = omega arith
+flag_few passed = grind arith
 
 -- the lowest digits
 ends_fit : (target : Bool) (side : Side) (passed : Bool) → AreDigits (2 ∷ cond target (2 ∷ []) []) (side_number side ∷ cond target (cond passed 1 0 ∷ []) [])
@@ -13,16 +12,10 @@ ends_fit true side passed = (side_few side, (flag_few passed, tt))
 ends_fit false side passed = (side_few side, tt)
 
 one_flag : (p q : Bool) → ◌≡◌ {A = ℕ} (cond p 1 0) (cond q 1 0) → p ≡ q
-one_flag true true e = refl
-one_flag true false e = absurd (omega (arith, e))
-one_flag false true e = absurd (omega (arith, e))
-one_flag false false e = refl
+one_flag p q e = grind arith
 
 one_side : (side other : Side) → side_number side ≡ side_number other → side ≡ other
-one_side White White e = refl
-one_side White Black e = absurd (omega (arith, e))
-one_side Black White e = absurd (omega (arith, e))
-one_side Black Black e = refl
+one_side side other e = grind arith
 
 -- of two lists of men the squares of the kings
 first_squares : (white black white' black' : ℕ) (rest rest' : List (Man × ℕ)) → ◌≡◌ {A = List (Man × ℕ)} ((king_of White, white) ∷ (king_of Black, black) ∷ rest) ((king_of White, white') ∷ (king_of Black, black') ∷ rest') → (white ≡ white') × (black ≡ black')
