@@ -1,7 +1,11 @@
 -- What scores tell of a table's entries.
-use Rattle.std.proofs.Common.{◌≡◌, ◌≢◌, ◌∙◌, ℕ, ◌%◌, ◌<◌, Bool, List, Option, Some, None, IsSome, get_or, map}
-use Rattle.std.proofs.Common.{slice_index, refl, sym, ap, subst, inl, inr}
-use Rattle.egt_check.specs.Prelude.{cases_eq, false≢true, get_or-map, MayStand, Man, Side, IsShelfOf, stand_with}
+use Rattle.std.proofs.Common.{◌≡◌, ◌≢◌, ◌∙◌, ◌⊎◌, ℕ, zero, suc, ◌+◌, ◌-◌, ◌*◌, ◌/◌, ◌%◌, ◌<◌, ◌≤◌, ◌==◌, if◌then◌else◌, Bool, false, List, [], ◌∷◌}
+use Rattle.std.proofs.Common.{Option, Some, None, IsSome, get_or, length, map, take, drop, slice_index, arith, refl, sym, ap, subst}
+use Rattle.std.proofs.Common.{inl, inr}
+use Rattle.std.proofs.lemmas.List.{length-drop, length-take-le}
+use Rattle.egt_check.specs.Prelude.{cases_eq, cases_lt, false≢true, get_or-map, Kind, MayStand, Man, Side, White, Black}
+use Rattle.egt_check.specs.Prelude.{has_target, material_of, code_of, code_plain, places, kind_digits, kind_less}
+use Rattle.egt_check.specs.Prelude.{number_in, square_in, IsShelfOf, stand_with}
 use Rattle.egt_check.specs.Prelude.{IsListed, list_of, TellsMen, ShelfMen, Stand, IsRaised, HasColumn, TableValue}
 use Rattle.egt_check.specs.Prelude.{entries_of, entries_or_none, Column, IsShelfRow, row_read, column_score}
 use Rattle.egt_check.specs.Prelude.{entry_score, IsToldEntry, IsToldFrom, TellColumn, TellsEntry, table_told, told}
@@ -35,28 +39,76 @@ rows_read passed u column v same score men shelf side is one pawns row read =
     let here = subst (λ c. IsShelfRow c (slice_index v.scores) men shelf side row) same read in
     row_read passed u.class (column_score u column) men shelf side is one pawns row (record { digits = λ digit below. here.digits digit below ∙ sym (score _); edges = here.edges })
 
--- ---- entries that are told one by one
+-- ---- entries that are put
 
-module _ (column : Column) (scores : List ℕ) (start old new : TableValue) (code entry : ℕ) (from : IsToldFrom column scores start old) (entry_is : entry ≡ told column (slice_index scores code))
+module _ (column : Column) (scores : List ℕ) (start old new : TableValue) (first : ℕ) (entries : List ℕ) (from : IsToldFrom column scores start old) (are : (k : ℕ) → k < length entries → slice_index entries k ≡ told column (slice_index scores (first + k)))
     (class : new.class ≡ old.class) (there : (other : Column) → HasColumn other old → HasColumn other new) (columns_kept : (other : Column) → other ≢ column → entries_of other new ≡ entries_of other old) (reach : column ≢ Reach → new.reach ≡ old.reach)
-    (here : slice_index (entries_of column new) code ≡ entry) (others : (i : ℕ) → i ≢ code → slice_index (entries_of column new) i ≡ slice_index (entries_of column old) i) where
-  pub told_here : IsToldEntry column scores new code
-  told_here = here ∙ entry_is
+    (here : (k : ℕ) → k < length entries → slice_index (entries_of column new) (first + k) ≡ slice_index entries k)
+    (others : (i : ℕ) → (i < first) ⊎ (first + length entries ≤ i) → slice_index (entries_of column new) i ≡ slice_index (entries_of column old) i) where
+  told_here : (i k : ℕ) → first + k ≡ i → k < length entries → IsToldEntry column scores new i
+  told_here i k is below = subst (IsToldEntry column scores new) is (here k below ∙ are k below)
 
-  pub told_still : (i : ℕ) → IsToldEntry column scores old i → IsToldEntry column scores new i
-  told_still i was = elim (cases_eq i code) [
-    | inl same ↦ subst (IsToldEntry column scores new) (sym same) told_here
-    | inr other ↦ others i other ∙ was
+  told_still : (i : ℕ) → IsToldEntry column scores old i → IsToldEntry column scores new i
+  told_still i was = elim (cases_lt i first) [
+    | inl low ↦ others i (inl low) ∙ was
+    | inr from ↦ elim (cases_lt i (first + length entries)) [
+      | inl below ↦ told_here i (i - first) (omega (arith, from)) (omega (arith, from, below))
+      | inr past ↦ others i (inr past) ∙ was
+    ]
   ]
 
-  pub told_more : IsToldFrom column scores start new
-  told_more = record {
-    class = class ∙ from.class;
-    there = λ other has. there other (from.there other has);
-    others = λ other apart. columns_kept other apart ∙ from.others other apart;
-    reach = λ apart. reach apart ∙ from.reach apart;
-    kept = λ i was. told_still i (from.kept i was);
-  }
+  -- what was told still is, and so are these
+  pub put_told : IsToldFrom column scores start new × ((i : ℕ) → IsToldEntry column scores old i → IsToldEntry column scores new i) × ((i k : ℕ) → first + k ≡ i → k < length entries → IsToldEntry column scores new i)
+  put_told = (
+    record {
+      class = class ∙ from.class;
+      there = λ other has. there other (from.there other has);
+      others = λ other apart. columns_kept other apart ∙ from.others other apart;
+      reach = λ apart. reach apart ∙ from.reach apart;
+      kept = λ i was. told_still i (from.kept i was);
+    },
+    told_still,
+    told_here,
+  )
+
+pub one_told : (column : Column) (scores : List ℕ) (code entry : ℕ) → entry ≡ told column (slice_index scores code) → (k : ℕ) → k < length (entry ∷ []) → slice_index (entry ∷ []) k ≡ told column (slice_index scores (code + k))
+one_told column scores code entry is zero below = is ∙ ap (λ n. told column (slice_index scores n)) (let same : code ≡ code + 0 = omega arith in same)
+one_told column scores code entry is (suc k) below = absurd (omega arith)
+
+pub told_alike : (column : Column) (scores : List ℕ) (t : TableValue) → IsToldFrom column scores t t
+told_alike column scores t = record { class = refl; there = λ other has. has; others = λ other apart. refl; reach = λ apart. refl; kept = λ i was. was }
+
+-- as many as there are digits with either side to move
+pub piece_long : (entries : List ℕ) (kind : Kind) (from len : ℕ) → length entries ≡ 128 → from ≡ 2 * kind_less kind → len ≡ 2 * kind_digits kind → length (take (from + len - from) (drop from entries)) ≡ len
+piece_long entries kind from len long from_is len_is =
+    length-take-le (from + len - from) (drop from entries) (let rest = length-drop from entries in omega (arith, rest, long, from_is, len_is, room kind)) ∙ omega arith
+  where
+    room : (kind : Kind) → kind_less kind + kind_digits kind ≤ 64
+    room kind = grind arith
+
+-- entries of a shelf with White to move and with Black in turn, where the numbers are the codes
+module _ (column : Column) (scores : List ℕ) (c shelf : ℕ) (kind : Kind) (plain : has_target (material_of c) ≡ false) (white black entries : List ℕ)
+    (whites : (k : ℕ) → k < kind_digits kind → slice_index white (k + kind_less kind) ≡ told column (slice_index scores (code_of c (number_in c shelf White k))))
+    (blacks : (k : ℕ) → k < kind_digits kind → slice_index black (k + kind_less kind) ≡ told column (slice_index scores (code_of c (number_in c shelf Black k))))
+    (in_turn : (i : ℕ) → i < 128 → slice_index entries i ≡ slice_index (if i % 2 == 0 then white else black) (i / 2)) where
+  pub shelf_told : (k i : ℕ) → k < 2 * kind_digits kind → i ≡ 2 * kind_less kind + k → slice_index entries i ≡ told column (slice_index scores (shelf * (2 * places c) + k))
+  shelf_told k i below is =
+      let digit_in : k / 2 < kind_digits kind = omega (arith, below) in
+      let s_in = square_in kind (k / 2) digit_in in
+      let lane : i / 2 ≡ k / 2 + kind_less kind = omega (arith, is) in
+      let of_rows = in_turn i (omega (arith, is, s_in)) ∙ ap (slice_index (if i % 2 == 0 then white else black)) lane in
+      elim (cases_eq (k % 2) 0) [
+        | inl even ↦
+            let first : i % 2 ≡ 0 = omega (arith, is, even) in
+            let number : number_in c shelf White (k / 2) ≡ shelf * (2 * places c) + k = omega (arith, even) in
+            of_rows ∙ ap (λ m. slice_index (if m == 0 then white else black) (k / 2 + kind_less kind)) first ∙ whites (k / 2) digit_in
+            ∙ ap (λ n. told column (slice_index scores n)) (code_plain c (number_in c shelf White (k / 2)) plain ∙ number)
+        | inr odd ↦
+            let second : i % 2 ≡ 1 = omega (arith, is, odd) in
+            let number : number_in c shelf Black (k / 2) ≡ shelf * (2 * places c) + k = omega (arith, odd) in
+            of_rows ∙ ap (λ m. slice_index (if m == 0 then white else black) (k / 2 + kind_less kind)) second ∙ blacks (k / 2) digit_in
+            ∙ ap (λ n. told column (slice_index scores n)) (code_plain c (number_in c shelf Black (k / 2)) plain ∙ number)
+      ]
 
 -- two tables with the same columns
 pub same_value : (u v : TableValue) → u.class ≡ v.class → u.mate ≡ v.mate → u.zeroing ≡ v.zeroing → u.reach ≡ v.reach → u ≡ v

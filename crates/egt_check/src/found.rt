@@ -1,9 +1,9 @@
 //! The entries of a class with two men beside the kings while they are found: their scores are kept as rows of bytes.
-ghost use Rattle.std.specs.Prelude.{◌≡◌, ◌<◌, ℕ, None, Some, IsSome, map, slice_index};
+ghost use Rattle.std.specs.Prelude.{◌≡◌, ◌<◌, ℕ, false, None, Some, IsSome, map, slice_index};
 ghost use Rattle.egt_check.specs.Prelude.{code_of, places, HasTwoBeside, IsShelf, IsShelfOf, IsWithin, number_in};
 ghost use Rattle.egt_check.specs.Prelude.{stand_with, TellsMen, IsRaised, HasColumn, IsTable, entries_of, Column};
 ghost use Rattle.egt_check.specs.Prelude.{column_score, IsToldEntry, IsToldFrom, TellColumn, table_told, told, IsPut};
-ghost use Rattle.egt_check.specs.Prelude.{IsMaskOf};
+ghost use Rattle.egt_check.specs.Prelude.{has_target, material_of, IsMaskOf};
 ghost use Rattle.egt_table.specs.declared.column.Column.TheVariants as columns;
 
 use crate::fitting::are_told;
@@ -16,8 +16,9 @@ use egt_blocks::digits::{digits_of, first_square};
 use egt_board::{Side, SquareSet};
 use egt_class::Class;
 use egt_index::laws::{codes_tell_turned_men, numbers_stand_for_codes};
-use egt_index::{ShelfMen, code_of, last_digits, shelf_men, size};
+use egt_index::{ShelfMen, code_of, has_target, last_digits, shelf_men, size};
 use egt_lanes::Row;
+use egt_lanes::load::woven;
 use egt_table::{Column, Table};
 use std::marker::Model;
 use std::simd::prelude::*;
@@ -69,8 +70,27 @@ fn tell_side(
     let first = first_of(class, shelf, side);
     for digit in 0..u32::from(digits_of(men.last)) {
         let entry = entries[from + digit as usize];
-        table.set(column, code_of(class, first + 2 * digit), entry);
+        table.put(column, code_of(class, first + 2 * digit), &[entry]);
     }
+}
+
+/// Gives the shelf's codes, which are its numbers in a class without targets, the entries that their scores tell.
+fn tell_plain(table: &mut Table, column: Column, scores: &ScoreRows, men: &ShelfMen, shelf: u32)
+    requires there { HasColumn column table.old }
+    requires class { scores.now.class ≡ table.old.class }
+    requires shelf { IsShelf table.old.class shelf men.now }
+    requires within { IsWithin table.old.class shelf }
+    requires targets { has_target (material_of table.old.class) ≡ false }
+    ensures kept { IsToldFrom column scores.now.scores table.old table.new }
+    ensures told { (side : Side) (k : ℕ) → k < places table.old.class → IsToldEntry column scores.now.scores table.new (code_of table.old.class (number_in table.old.class shelf side k)) }
+{
+    let white = told_row(column, scores.row(men, shelf, Side::White));
+    let black = told_row(column, scores.row(men, shelf, Side::Black));
+    let entries = woven(white, black);
+    let from = 2 * usize::from(first_square(men.last));
+    let len = 2 * usize::from(digits_of(men.last));
+    let first = first_of(table.class(), shelf, Side::White);
+    table.put(column, first, &entries[from..from + len]);
 }
 
 /// Gives the codes of the shelf the entries that their scores tell.
@@ -82,9 +102,14 @@ fn tell_shelf(table: &mut Table, column: Column, scores: &ScoreRows, shelf: u32)
     ensures kept { IsToldFrom column scores.now.scores table.old table.new }
     ensures told { (side : Side) (k : ℕ) → k < places table.old.class → IsToldEntry column scores.now.scores table.new (code_of table.old.class (number_in table.old.class shelf side k)) }
 {
-    let Some(men) = shelf_men(table.class(), shelf) else {
+    let class = table.class();
+    let Some(men) = shelf_men(class, shelf) else {
         unreachable!()
     };
+    if !has_target(class) {
+        tell_plain(table, column, scores, &men, shelf);
+        return;
+    }
     tell_side(table, column, scores, &men, shelf, Side::White);
     tell_side(table, column, scores, &men, shelf, Side::Black);
 }

@@ -16,7 +16,7 @@ impl Model for Ranks {
 }
 
 impl Ranks {
-    ghost use Rattle.std.specs.Prelude.{◌≡◌, ◌≢◌, ◌<◌, ℕ, length, slice_index};
+    ghost use Rattle.std.specs.Prelude.{◌≡◌, ◌<◌, ◌≤◌, ◌+◌, ◌⊎◌, ℕ, length, slice_index};
 
     /// Judges nothing.
     pub fn from_entries(entries: Vec<u16>) -> Self
@@ -31,13 +31,14 @@ impl Ranks {
         &self.entries
     }
 
-    /// Gives the node this entry.
-    pub fn set(&mut self, node: u32, entry: u16)
-        requires { node < length self.old }
+    /// Gives the nodes from this one on these entries.
+    pub fn put(&mut self, first: u32, entries: &[u16])
+        requires { first + length entries.now ≤ length self.old }
         ensures length { length self.new ≡ length self.old }
-        ensures here { slice_index self.new node ≡ entry }
-        ensures others { (i : ℕ) → i ≢ node → slice_index self.new i ≡ slice_index self.old i }
+        ensures here { (k : ℕ) → k < length entries.now → slice_index self.new (first + k) ≡ slice_index entries.now k }
+        ensures others { (i : ℕ) → (i < first) ⊎ (first + length entries.now ≤ i) → slice_index self.new i ≡ slice_index self.old i }
     {
-        self.entries[node as usize] = entry;
+        let first = first as usize;
+        self.entries[first..first + entries.len()].copy_from_slice(entries);
     }
 }

@@ -1,5 +1,6 @@
-//! Entries of a table, read for all squares at once.
-ghost use Rattle.std.specs.Prelude.{◌≡◌, ℕ, ◌<◌, ◌≤◌, ◌+◌, ◌*◌, ◌-◌, ◌⊎◌, ◌++◌, slice_index, if◌then◌else◌, length};
+//! Entries of a table, read and written for all squares at once.
+ghost use Rattle.std.specs.Prelude.{◌≡◌, ℕ, ◌<◌, ◌≤◌, ◌+◌, ◌*◌, ◌-◌, ◌/◌, ◌%◌, ◌==◌, ◌⊎◌, ◌++◌, slice_index, length};
+ghost use Rattle.std.specs.Prelude.{if◌then◌else◌};
 ghost use Rattle.egt_board.specs.Images.{side_number};
 
 use crate::score::Entries;
@@ -81,4 +82,16 @@ pub fn load_target(entries: &[u16], side: Side, target: bool) -> Entries
     let back = parted(loaded(entries, 128), Entries::splat(0), target);
     let every_fourth = of_side(front, back, side);
     every_fourth.shuffle(Entries::splat(0), TARGET_SQUARES)
+}
+
+/// The entries of both sides to move in turn, two for each square, those of White first: `load` parts them again.
+#[inline(always)]
+pub fn woven(white: Entries, black: Entries) -> [u16; 128]
+    ensures { (i : ℕ) → i < 128 → slice_index result i ≡ slice_index (if i % 2 == 0 then white else black) (i / 2) }
+{
+    let (low, high) = white.interleave(black);
+    let mut entries = [0; 128];
+    low.copy_to_slice(&mut entries);
+    high.copy_to_slice(&mut entries[64..]);
+    entries
 }

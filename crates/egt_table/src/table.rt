@@ -1,5 +1,5 @@
 //! Tables.
-ghost use Rattle.std.specs.Prelude.{◌≡◌, ◌≢◌, ◌<◌, ◌↔◌, ℕ, length, slice_index, IsSome, IsOk, IfOk, IfErr, IsTrue};
+ghost use Rattle.std.specs.Prelude.{◌≡◌, ◌≢◌, ◌<◌, ◌≤◌, ◌+◌, ◌⊎◌, ◌↔◌, ℕ, length, slice_index, IsSome, IsOk, IfOk, IfErr, IsTrue};
 ghost use Rattle.egt_table.specs.Prelude.{size_of, HasColumn, IsTable, columns_of, entries_of, Reach};
 
 use crate::column::Column;
@@ -139,22 +139,22 @@ impl Table {
         self.entries(column)[index as usize]
     }
 
-    /// Gives the code this entry in a column that is there.
-    pub fn set(&mut self, column: Column, index: u32, entry: u16)
+    /// Gives the codes from this one on these entries in a column that is there.
+    pub fn put(&mut self, column: Column, first: u32, entries: &[u16])
         requires there { HasColumn column self.old }
-        requires index { index < size_of self.old.class }
+        requires within { first + length entries.now ≤ size_of self.old.class }
         ensures class { self.new.class ≡ self.old.class }
         ensures there { (other : Column) → HasColumn other self.old → HasColumn other self.new }
         ensures columns { (other : Column) → other ≢ column → entries_of other self.new ≡ entries_of other self.old }
         ensures reach { column ≢ Reach → self.new.reach ≡ self.old.reach }
-        ensures here { slice_index (entries_of column self.new) index ≡ entry }
-        ensures others { (i : ℕ) → i ≢ index → slice_index (entries_of column self.new) i ≡ slice_index (entries_of column self.old) i }
+        ensures here { (k : ℕ) → k < length entries.now → slice_index (entries_of column self.new) (first + k) ≡ slice_index entries.now k }
+        ensures others { (i : ℕ) → (i < first) ⊎ (first + length entries.now ≤ i) → slice_index (entries_of column self.new) i ≡ slice_index (entries_of column self.old) i }
     {
         match column {
-            Column::Mate => self.mate.set(index, entry),
-            Column::Zeroing => self.zeroing.set(index, entry),
+            Column::Mate => self.mate.put(first, entries),
+            Column::Zeroing => self.zeroing.put(first, entries),
             Column::Reach => match &mut self.reach {
-                Some(nears) => nears.set(index, entry),
+                Some(nears) => nears.put(first, entries),
                 None => unreachable!(),
             },
         }

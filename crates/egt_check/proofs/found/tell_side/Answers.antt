@@ -1,7 +1,8 @@
-use Rattle.std.proofs.Common.{◌≡◌, ◌∙◌, ◌+◌, ◌*◌, ◌<◌, ℕ, ap, arith, below_more, length, sym, subst, slice_index}
+use Rattle.std.proofs.Common.{◌≡◌, ◌∙◌, ◌+◌, ◌*◌, ◌<◌, ℕ, [], ◌∷◌, ap, arith, below_more, length, sym, subst, slice_index}
+use Rattle.std.proofs.Common.{◌≤◌}
 use Rattle.egt_check.specs.Prelude.{get_or_default, code_of, kind_digits, kind_less, number_in, square_in, TableValue}
-use Rattle.egt_check.specs.Prelude.{IsToldEntry, told}
-use Rattle.egt_check.proofs.FoundTold.{told_here, told_more, told_still}
+use Rattle.egt_check.specs.Prelude.{size_of, told}
+use Rattle.egt_check.proofs.FoundTold.{one_told, put_told}
 use Rattle.egt_check.proofs.found.tell_side.Goals as goal
 
 pub loop-digit-preserved : goal.loop-digit-preserved
@@ -25,11 +26,16 @@ loop-digit-preserved c =
     c.index-entry.ensures ∙ get_or_default c.told_row-entries.result (c.from-from.result + k) c.index-entry.result.now 0 inside ∙ ap (slice_index c.told_row-entries.result) lane
     ∙ c.told_row-entries.ensures (k + kind_less kind) s_in
     ∙ ap (told column) (c.row-row.ensures.digits k below ∙ ap (λ n. slice_index scores (code_of n (number_in n shelf side k))) c.requires.class ∙ ap (slice_index scores) (sym code_is)) in
-    let put = c.set.ensures in
-    let from = c.loop-digit.invariant.from in
+    let put = c.put.ensures in
+    let more =
+    put_told column scores start c.loop-digit.table c.put.new.self c.code_of.result (c.index-entry.result.now ∷ []) c.loop-digit.invariant.from (one_told column scores c.code_of.result c.index-entry.result.now entry)
+    put.class put.there put.columns put.reach put.here put.others in
     record {
-      from = told_more column scores start c.loop-digit.table c.set.new.self c.code_of.result c.index-entry.result.now from entry put.class put.there put.columns put.reach put.here put.others;
+      from = more.0;
       told = below_more _ _
-          (λ j less. told_still column scores start c.loop-digit.table c.set.new.self c.code_of.result c.index-entry.result.now from entry put.class put.there put.columns put.reach put.here put.others _ (c.loop-digit.invariant.told j less))
-          (subst (IsToldEntry column scores c.set.new.self) code_is (told_here column scores start c.loop-digit.table c.set.new.self c.code_of.result c.index-entry.result.now from entry put.class put.there put.columns put.reach put.here put.others));
+          (λ j less. more.1 _ (c.loop-digit.invariant.told j less))
+          (more.2 _ 0 (let same : c.code_of.result + 0 ≡ c.code_of.result = omega arith in same ∙ code_is) (omega arith));
     }
+
+pub put-requires-clause-within : goal.put-requires-clause-within
+put-requires-clause-within c = let code = c.code_of.ensures.within in subst (λ n. c.code_of.result + 1 ≤ size_of n) (c.class-class.ensures.class ∙ sym c.loop-digit.invariant.from.class) (omega (arith, code))
