@@ -1,12 +1,12 @@
 -- The places of a library.
-use Rattle.std.proofs.Common.{◌≡◌, ◌≢◌, ℕ, zero, suc, ◌+◌, ◌-◌, length-append, ◌<◌, ◌⊎◌, inl, inr, true, false, eqb}
+use Rattle.std.proofs.Common.{◌≡◌, ◌≢◌, ◌↔◌, ℕ, zero, suc, ◌+◌, ◌-◌, length-append, ◌<◌, ◌⊎◌, inl, inr, true, false, eqb}
 use Rattle.std.proofs.Common.{List, [], ◌∷◌, ◌++◌, length, get_or, set, Option, Some, None, refl, sym, ap, subst, ◌∙◌}
 use Rattle.std.proofs.Common.{arith, IsSome, IfSome}
 use Rattle.egt_check.specs.Prelude.{Contains, cases_lt, ne_eqb, false≢true, get_or-set_other, get_or-set_same}
 use Rattle.egt_check.specs.Prelude.{length-set, get_or_append_left, get_or-append_right, eqb_tells, children_of}
 use Rattle.egt_check.specs.Prelude.{TableValue, IsTable, Reject, Missing, NoReach, Rejected, AlreadyThere, IsLibrary}
 use Rattle.egt_check.specs.Prelude.{IsRefused, IsShelved, IsTurnedAway, ReachesDown, Tables, table_at, beside}
-use Rattle.egt_check.specs.Prelude.{HasChildren, IsTrueTable, HasTrueChildren}
+use Rattle.egt_check.specs.Prelude.{HasChildren, IsAccepted, IsTrueTable, HasTrueChildren, KeepsRules}
 use Rattle.egt_check.proofs.Finding.{lower, beside_own, beside_other}
 
 abbrev pub Places : Type 0
@@ -52,7 +52,7 @@ true_child places d (Some u) e there shelved = (u, e, shelved.class, shelved.tru
 true_child places d None e there shelved = absurd (false≢true there)
 
 module _ (lower_child : (c d : ℕ) → c < 36 → Contains (children_of c) d → d < c) (places : Places) (library : IsLibrary places) (t : TableValue) (table : IsTable t) where
-  pub true_children : HasChildren (table_at places) t.class → HasTrueChildren (beside (table_at places) t) t.class
+  true_children : HasChildren (table_at places) t.class → HasTrueChildren (beside (table_at places) t) t.class
   true_children children d child =
       let less = lower_child t.class d table.class_in child in
       let u = true_child places d (table_at places d) refl (children d child) (library.shelved d (lower t.class d table.class_in less)) in
@@ -60,15 +60,19 @@ module _ (lower_child : (c d : ℕ) → c < 36 → Contains (children_of c) d �
       (u.0, other ∙ u.1, u.2, u.3)
 
   -- the children of an accepted table have the column of the nearest mates where it has
-  pub down_beside : ReachesDown (table_at places) t → ReachesDown (beside (table_at places) t) t
+  down_beside : ReachesDown (table_at places) t → ReachesDown (beside (table_at places) t) t
   down_beside down there d child =
       let other : beside (table_at places) t d ≡ table_at places d = beside_other (table_at places) t d (apart t.class d (lower_child t.class d table.class_in child)) in
       subst (λ o. IfSome o (λ u. IsSome u.reach)) (sym other) (down there d child)
 
+  -- an accepted table is true
+  pub accepted_is_true : ((tables : Tables) (u : TableValue) → IsTable u → tables u.class ≡ Some u → HasTrueChildren tables u.class → ReachesDown tables u → KeepsRules tables u ↔ IsTrueTable u) → IsAccepted (table_at places) t → IsTrueTable t
+  accepted_is_true kept accepted = (kept (beside (table_at places) t) t table (beside_own (table_at places) t t.class refl) (true_children accepted.children) (down_beside accepted.reach_children)).0 accepted.rules
+
   abbrev more : Tables
   more = table_at (set places t.class (Some t))
 
-  -- with an accepted table more it is a library again
+  -- with a true table more, whose children are there, it is a library again
   pub one_more : table_at places t.class ≡ None → IsTrueTable t → HasChildren (table_at places) t.class → ReachesDown (table_at places) t → IsLibrary (set places t.class (Some t))
   one_more free holds children down = record { one_a_class = length-set places t.class (Some t) ∙ library.one_a_class; shelved = shelved }
     where

@@ -1,6 +1,6 @@
 -- The parts of a table that are judged one after the other, and the tables as they are seen then: the column of the nearest mates is seen as a mate
 -- column.
-use Rattle.std.specs.Prelude.{◌≡◌, ℕ, List, map, Option, None, option_map}
+use Rattle.std.specs.Prelude.{◌≡◌, ℕ, Bool, true, List, map, Option, None, option_map}
 use Rattle.std.specs.Borrow.{Bor}
 use Rattle.egt_index.specs.ShelfCodes.{AreMenOf}
 use Rattle.egt_index.specs.declared.shelf_codes.ShelfMen.{ShelfMen}
@@ -79,6 +79,15 @@ children_in part children = record {
 
 abbrev pub four_in : Part → FourMen → FourMen
 four_in part four = record { own = table_in part four.own; children = children_in part four.children }
+
+-- the table has the part's columns, and their bytes tell its entries
+abbrev pub TellsPart : Part → TableValue → Type 0
+TellsPart part t = HasColumn (column_of part) t × HasBytes (table_in part t)
+
+-- it does where that is known
+pub record IsKnownToTell (t : TableValue) (by_values by_reach : Bool) : Type 0 where
+  pub values : by_values ≡ true → TellsPart Values t
+  pub reach : by_reach ≡ true → TellsPart Reach t
 
 -- the table of the class of these men, whose bytes tell its entries of the part
 pub record IsOwnTable (part : Part) (class : ℕ) (men : ShelfMen) (t : TableValue) : Type 0 where

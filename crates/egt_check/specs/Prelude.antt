@@ -42,7 +42,7 @@ pub use Rattle.egt_check.specs.MoveScores.{HoldsExits, HoldsPassing}
 pub use Rattle.egt_check.specs.Own.{entries_seen}
 pub use Rattle.egt_check.specs.PairOrder.{nth_pair}
 pub use Rattle.egt_check.specs.Pairs.{AreJudgedPairs, ArePairs, IsJudgedPair}
-pub use Rattle.egt_check.specs.Parts.{IsOwnTable, children_in, column_of, four_in, promotion_in, promotions_in}
+pub use Rattle.egt_check.specs.Parts.{IsKnownToTell, IsOwnTable, TellsPart, children_in, column_of, four_in, promotion_in, promotions_in}
 pub use Rattle.egt_check.specs.Parts.{some_promotions_in, table_in, tables_in}
 pub use Rattle.egt_check.specs.PawnScores.{AreAdvanceScores, AreNamed, AreOwnPawnMoves, ArePawnScores}
 pub use Rattle.egt_check.specs.PawnScores.{ArePromotionScores, ArePromotionsOf, AreRaisedByPawns, HasPromotion}

@@ -4,6 +4,7 @@ ghost use Rattle.std.specs.Prelude.{◌≡◌, ◌↔◌, ℕ, None, IsOk, IfErr
 use crate::checking::check;
 use crate::laws::rules_are_kept_by_true_tables_alone;
 use crate::library::Library;
+use crate::shelved::Shelved;
 use egt_class::laws::children_have_smaller_numbers;
 use egt_entries::reject::Reject;
 use egt_table::Table;
@@ -34,7 +35,7 @@ impl Library {
         if let Err(reject) = check(&table, self) {
             return Err((table, reject));
         }
-        self.places[place] = Some(table);
+        self.places[place] = Some(Shelved::new(table));
         Ok(())
     }
 }

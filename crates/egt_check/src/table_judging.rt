@@ -6,10 +6,10 @@ ghost use Rattle.egt_check.specs.Prelude.{with_kings, AreKept, AreChildren, AreF
 ghost use Rattle.egt_check.specs.Prelude.{column_of, four_in, promotion_in, promotions_in, table_in, tables_in};
 ghost use Rattle.egt_check.specs.Prelude.{AreNamed, ArePromotionsOf, HasPromotion, HasPromotions, AreRuns, IsJudgedPair};
 ghost use Rattle.egt_check.specs.Prelude.{IsPromotionOf, AreJudged, FourMen, men_swapped};
-ghost use Rattle.egt_check.specs.Prelude.{Tables, beside, table_at, IsTrueTable, HasBytes, column_score, Values};
+ghost use Rattle.egt_check.specs.Prelude.{Tables, beside, table_at, HasBytes, column_score, Values};
 
 use crate::block_judging::block_is_right;
-use crate::bytes::{tells_bytes, true_table_tells};
+use crate::bytes::tells_bytes;
 use crate::library::Library;
 use crate::move_scores::{Children, FourMen, beside_own};
 use crate::pair_order::nth_pair;
@@ -123,20 +123,13 @@ pub(crate) fn right_runs(four: &FourMen, men: &ShelfMen, part: Part) -> Option<R
 }
 
 /// Whether this is the table of the class in which the man is left alone beside the kings, in colours exchanged where
-/// `flips`, and its bytes tell its entries of the part.
-fn is_left(class: Class, child: &Table, flips: bool, man: Man, part: Part) -> bool
-    requires { IsTrueTable child.now }
+/// `flips`.
+fn is_left(class: Class, child: &Table, flips: bool, man: Man) -> bool
     ensures apart { result ≡ true → child.now.class ≢ class }
     ensures lone { result ≡ true → IsLoneMan child.now.class (turned_man flips man) }
-    ensures there { result ≡ true → HasColumn (column_of part) child.now }
-    ensures bytes { result ≡ true → HasBytes (table_in part child.now) }
 {
     match lone_man(child.class()) {
-        Some(lone) => {
-            lone == turned_man(man, flips)
-                && child.class().number() != class.number()
-                && true_table_tells(child, part)
-        }
+        Some(lone) => { lone == turned_man(man, flips) && child.class().number() != class.number() }
         None => false,
     }
 }
@@ -176,18 +169,18 @@ fn promotion<'t>(
         kind,
     };
     let (both_class, both_flips) = of_men(Some(men.one), Some(officer));
-    let both = library.get(both_class)?;
+    let both = library.telling(both_class, part)?;
     let before = named_before(
         both_class,
         turned_man(men.one, both_flips),
         turned_man(officer, both_flips),
     )?;
-    if both_class.number() == class.number() || !true_table_tells(both, part) {
+    if both_class.number() == class.number() {
         return None;
     }
     let (alone_class, alone_flips) = of_men(Some(officer), None);
-    let alone = library.get(alone_class)?;
-    if !is_left(class, alone, alone_flips, officer, part) {
+    let alone = library.telling(alone_class, part)?;
+    if !is_left(class, alone, alone_flips, officer) {
         return None;
     }
     Some(Promotion {
@@ -280,11 +273,9 @@ pub fn children_of<'t>(
     }
     let (first_class, first_flips) = of_men(Some(men.one), None);
     let (last_class, last_flips) = of_men(Some(men.last), None);
-    let first = library.get(first_class)?;
-    let last = library.get(last_class)?;
-    if !is_left(class, first, first_flips, men.one, part)
-        || !is_left(class, last, last_flips, men.last, part)
-    {
+    let first = library.telling(first_class, part)?;
+    let last = library.telling(last_class, part)?;
+    if !is_left(class, first, first_flips, men.one) || !is_left(class, last, last_flips, men.last) {
         return None;
     }
     let last_pawn = promotions(library, class, men, part);

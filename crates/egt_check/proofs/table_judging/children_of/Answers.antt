@@ -31,10 +31,10 @@ returns-clause-four c = λ four same is.
         is_table = is_table_in part t is.there is.is_table;
         found = found_in part (beside tables t) t is.there (beside_own tables t t.class refl);
         bytes = is.bytes;
-        first = table_left part tables t first c.of_men-first_class.result.0 c.of_men-first_class.result.1 men.one c.in_ok-first.ensures.shelved (sym c.in_ok-first.ensures.is) first_apart
-            (c.is_left.ensures.there c.if-not-is_left.false) (c.is_left.ensures.lone c.if-not-is_left.false) (c.is_left.ensures.bytes c.if-not-is_left.false) c.of_men-first_class.ensures.class;
-        last = table_left part tables t last c.of_men-last_class.result.0 c.of_men-last_class.result.1 men.last c.in_ok-last.ensures.shelved (sym c.in_ok-last.ensures.is) last_apart
-            (c.is_left-else-not-is_left.ensures.there c.if-not-is_left-2.false) (c.is_left-else-not-is_left.ensures.lone c.if-not-is_left-2.false) (c.is_left-else-not-is_left.ensures.bytes c.if-not-is_left-2.false) c.of_men-last_class.ensures.class;
+        first = table_left part tables t first c.of_men-first_class.result.0 c.of_men-first_class.result.1 men.one c.in_ok-first.ensures.shelved c.in_ok-first.ensures.is first_apart
+            c.in_ok-first.ensures.there (c.is_left.ensures.lone c.if-not-is_left.false) c.in_ok-first.ensures.bytes c.of_men-first_class.ensures.class;
+        last = table_left part tables t last c.of_men-last_class.result.0 c.of_men-last_class.result.1 men.last c.in_ok-last.ensures.shelved c.in_ok-last.ensures.is last_apart
+            c.in_ok-last.ensures.there (c.is_left-else-not-is_left.ensures.lone c.if-not-is_left-2.false) c.in_ok-last.ensures.bytes c.of_men-last_class.ensures.class;
         own_after = record {
           below = is.is_table.class_in;
           of = subst (λ (k : ℕ). (p : Setup) → AreNonKings p (Some men.one) (Some men.last) → IsOf k false p) class (c.is_own_class.ensures c.if-not-is_own_class.false);

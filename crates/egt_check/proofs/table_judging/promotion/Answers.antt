@@ -18,8 +18,8 @@ returns-clause-has c = λ t same.
     let both_apart : both.class ≢ t.class = λ is. c.if-number.false (c.number.ensures.value ∙ sym c.in_ok-both.ensures.shelved.class ∙ is ∙ same ∙ sym c.number-2.ensures.value) in
     let alone_apart : alone.class ≢ t.class = λ is. c.is_left.ensures.apart c.if-not-is_left.false (is ∙ same) in
     record {
-      both = table_after c.args.part tables t both c.of_men-both_class.result.0 c.in_ok-before.before both_flips men.one officer there c.in_ok-both.ensures.shelved (sym c.in_ok-both.ensures.is) both_apart
-          (c.true_table_tells.ensures.there c.if-not-true_table_tells.false) (c.true_table_tells.ensures.bytes c.if-not-true_table_tells.false) c.of_men-both_class.ensures.class are named;
-      alone = table_left c.args.part tables t alone c.of_men-alone_class.result.0 c.of_men-alone_class.result.1 officer c.in_ok-alone.ensures.shelved (sym c.in_ok-alone.ensures.is) alone_apart
-          (c.is_left.ensures.there c.if-not-is_left.false) (c.is_left.ensures.lone c.if-not-is_left.false) (c.is_left.ensures.bytes c.if-not-is_left.false) c.of_men-alone_class.ensures.class;
+      both = table_after c.args.part tables t both c.of_men-both_class.result.0 c.in_ok-before.before both_flips men.one officer there c.in_ok-both.ensures.shelved c.in_ok-both.ensures.is both_apart
+          c.in_ok-both.ensures.there c.in_ok-both.ensures.bytes c.of_men-both_class.ensures.class are named;
+      alone = table_left c.args.part tables t alone c.of_men-alone_class.result.0 c.of_men-alone_class.result.1 officer c.in_ok-alone.ensures.shelved c.in_ok-alone.ensures.is alone_apart
+          c.in_ok-alone.ensures.there (c.is_left.ensures.lone c.if-not-is_left.false) c.in_ok-alone.ensures.bytes c.of_men-alone_class.ensures.class;
     }

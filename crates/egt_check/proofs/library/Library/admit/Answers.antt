@@ -1,8 +1,12 @@
 use Rattle.std.proofs.Common.{rules, ◌≡◌, ℕ, Some, None, refl, sym, subst, ◌∙◌, set}
-use Rattle.egt_check.specs.Prelude.{IsLibrary, IsAccepted, table_at, beside}
-use Rattle.egt_check.proofs.Finding.{beside_own}
-use Rattle.egt_check.proofs.Shelving.{down_beside, true_children, one_more, turned_away}
+use Rattle.egt_check.specs.Prelude.{TableValue, IsLibrary, IsAccepted, table_at}
+use Rattle.egt_check.proofs.Shelving.{accepted_is_true, one_more, turned_away}
 use Rattle.egt_check.proofs.library.Library.admit.Goals as goal
+
+pub new-requires : goal.new-requires
+new-requires c =
+    let accepted = subst (λ v. IsAccepted (table_at v) c.args.table) (sym c.self.view_is) (c.in_default.ensures.exact.0 refl) in
+    accepted_is_true c.children_have_smaller_numbers.ensures.smaller c.self.inside.places.items c.self.invariant c.args.table c.class.ensures.table c.rules_are_kept_by_true_tables_alone.ensures accepted
 
 pub invariant_of-self : goal.invariant_of-self
 invariant_of-self c =
@@ -12,10 +16,10 @@ invariant_of-self c =
     let child = c.children_have_smaller_numbers.ensures.smaller in
     let accepted = subst (λ v. IsAccepted (table_at v) t) (sym c.self.view_is) (c.in_default.ensures.exact.0 refl) in
     let free : table_at places t.class ≡ None = search rules in
-    let children = true_children child places c.self.invariant t table accepted.children in
-    let holds = (c.rules_are_kept_by_true_tables_alone.ensures (beside (table_at places) t) t table (beside_own (table_at places) t t.class refl) children (down_beside child places c.self.invariant t table accepted.reach_children)).0 accepted.rules in
-    subst (λ (i : ℕ). IsLibrary (set places i (Some t))) (sym (c.from-place.ensures ∙ c.number.ensures.value ∙ c.class.ensures.class))
-    (one_more child places c.self.invariant t table free holds accepted.children accepted.reach_children)
+    let holds = accepted_is_true child places c.self.invariant t table c.rules_are_kept_by_true_tables_alone.ensures accepted in
+    subst (λ (u : TableValue). IsLibrary (set places c.from-place.result (Some u))) (sym c.new.ensures)
+    (subst (λ (i : ℕ). IsLibrary (set places i (Some t))) (sym (c.from-place.ensures ∙ c.number.ensures.value ∙ c.class.ensures.class))
+    (one_more child places c.self.invariant t table free holds accepted.children accepted.reach_children))
 
 pub returns-in-Err-clause-reason : goal.returns-in-Err-clause-reason
 returns-in-Err-clause-reason c =
