@@ -6,11 +6,12 @@ ghost use Rattle.egt_check.specs.Prelude.{HoldsPassing, column_of, four_in, tabl
 ghost use Rattle.egt_check.specs.Prelude.{IsRightLane, Tables, column_score};
 
 use crate::blank::side_is_blank;
-use crate::move_scores::{FourMen, exits, move_scores, passing_captures, raise_passed};
+use crate::move_scores::{Moves, exits, move_scores, passing_captures, raise_passed};
 use crate::part::{Part, column_of};
 use crate::part_laws::entries_due_to_all_moves_are_right;
 use crate::reach_scores::{raise_passed_reach, reach_scores};
 use crate::row_judging::row_is_right;
+use crate::shelf::Shelf;
 use egt_blocks::blocks::{begin_with, nothing};
 use egt_blocks::digits::{digits_of, first_square};
 use egt_blocks::kept_blocks::BlockKey;
@@ -25,85 +26,72 @@ use egt_table::Table;
 /// The greatest scores of all moves but captures in passing, by those of the exits, in the part's column, and of `Values` in
 /// the zeroing column too. False where a table does not tell.
 pub fn part_scores(
-    four: &FourMen,
-    men: &ShelfMen,
-    part: Part,
-    side: Side,
+    moves: &Moves,
     leaving: &Block,
     keys: &mut [Option<BlockKey>],
     blocks: &mut [Block],
     scores: &mut Block,
     zeroing: &mut Block,
 ) -> bool
-    requires men { AreFourMen (column_of part) four.now men.now }
-    requires leaving { HoldsExits (column_of part) four.now.children men.now side leaving.now }
-    requires kept { AreKept four.now.own.class (column_score four.now.own) men.now (other_side side) keys.old blocks.old }
-    ensures kept { result ≡ true → AreKept four.now.own.class (column_score four.now.own) men.now (other_side side) keys.new blocks.new }
-    ensures scores { result ≡ true → (a b : ℕ) → a < 64 → b < 64 → AreAllScoresOf part false four.now men.now side a b (at scores.new a b) (at zeroing.new a b) }
+    requires men { AreFourMen (column_of moves.now.part) moves.now.four.now moves.now.men.now }
+    requires leaving { HoldsExits (column_of moves.now.part) moves.now.four.now.children moves.now.men.now moves.now.side leaving.now }
+    requires kept { AreKept moves.now.four.now.own.class (column_score moves.now.four.now.own) moves.now.men.now (other_side moves.now.side) keys.old blocks.old }
+    ensures kept { result ≡ true → AreKept moves.now.four.now.own.class (column_score moves.now.four.now.own) moves.now.men.now (other_side moves.now.side) keys.new blocks.new }
+    ensures scores { result ≡ true → (a b : ℕ) → a < 64 → b < 64 →
+        AreAllScoresOf moves.now.part false moves.now.four.now moves.now.men.now moves.now.side a b (at scores.new a b) (at zeroing.new a b) }
 {
-    match part {
-        Part::Values => move_scores(four, men, side, leaving, keys, blocks, scores, zeroing),
-        Part::Reach => reach_scores(four, men, side, leaving, keys, blocks, scores),
+    match moves.part {
+        Part::Values => move_scores(moves, leaving, keys, blocks, scores, zeroing),
+        Part::Reach => reach_scores(
+            moves.four, moves.men, moves.side, leaving, keys, blocks, scores,
+        ),
     }
 }
 
 /// Raises those to the scores of captures in passing, which are these: then they are of all moves where there is a target.
-pub fn raise_part_passed(
-    four: &FourMen,
-    men: &ShelfMen,
-    part: Part,
-    side: Side,
-    passing: &Block,
-    scores: &mut Block,
-    zeroing: &mut Block,
-)
-    requires { HoldsPassing (column_of part) four.now.children men.now side passing.now }
-    ensures { (a b : ℕ) → a < 64 → b < 64 → AreAllScoresOf part false four.now men.now side a b (at scores.old a b) (at zeroing.old a b) →
-        AreAllScoresOf part true four.now men.now side a b (at scores.new a b) (at zeroing.new a b) }
+pub fn raise_part_passed(moves: &Moves, passing: &Block, scores: &mut Block, zeroing: &mut Block)
+    requires { HoldsPassing (column_of moves.now.part) moves.now.four.now.children moves.now.men.now moves.now.side passing.now }
+    ensures { (a b : ℕ) → a < 64 → b < 64 → AreAllScoresOf moves.now.part false moves.now.four.now moves.now.men.now moves.now.side a b (at scores.old a b) (at zeroing.old a b) →
+        AreAllScoresOf moves.now.part true moves.now.four.now moves.now.men.now moves.now.side a b (at scores.new a b) (at zeroing.new a b) }
 {
-    match part {
+    let (four, men, side) = (moves.four, moves.men, moves.side);
+    match moves.part {
         Part::Values => raise_passed(four, men, side, passing, scores, zeroing),
         Part::Reach => raise_passed_reach(four, men, side, passing, scores),
     }
 }
 
-/// Whether the part's entries of the shelves from this one on, which are to be those of the men by the first one's digit,
+/// Whether the part's entries of the shelves from this one on, which are to be those of its men by the first one's digit,
 /// are due to the greatest scores.
 fn shelves_are_right(
     table: &Table,
-    men: &ShelfMen,
     part: Part,
-    first: u32,
-    side: Side,
-    passed: bool,
+    shelves: &Shelf,
     scores: &Block,
     zeroing: &Block,
 ) -> bool
     requires there { HasColumn (column_of part) table.now }
-    requires men { AreMenOf table.now.class men.now }
-    requires room { first + 64 < 4294967296 }
-    ensures { result ≡ true → (x y : ℕ) → x < kind_digits men.now.one.kind → y < kind_digits men.now.last.kind →
-        IsRightLane part passed table.now men.now side (x + kind_less men.now.one.kind) (y + kind_less men.now.last.kind) (code_of table.now.class (number_in table.now.class (first + x) side y))
-        (at scores.now (x + kind_less men.now.one.kind) (y + kind_less men.now.last.kind)) (at zeroing.now (x + kind_less men.now.one.kind) (y + kind_less men.now.last.kind)) }
+    requires men { AreMenOf table.now.class shelves.now.men }
+    requires room { shelves.now.number + 64 < 4294967296 }
+    ensures { result ≡ true → (x y : ℕ) → x < kind_digits shelves.now.men.one.kind → y < kind_digits shelves.now.men.last.kind →
+        IsRightLane part shelves.now.passed table.now shelves.now.men shelves.now.side (x + kind_less shelves.now.men.one.kind) (y + kind_less shelves.now.men.last.kind)
+        (code_of table.now.class (number_in table.now.class (shelves.now.number + x) shelves.now.side y))
+        (at scores.now (x + kind_less shelves.now.men.one.kind) (y + kind_less shelves.now.men.last.kind)) (at zeroing.now (x + kind_less shelves.now.men.one.kind) (y + kind_less shelves.now.men.last.kind)) }
 {
     numbers_stand_for_codes();
-    if !begin_with(table.class(), men, passed, first) {
+    if !begin_with(table.class(), &shelves.men, shelves.passed, shelves.number) {
         return false;
     }
-    let from = first_square(men.one);
-    for digit in 0..digits_of(men.one) {
+    let from = first_square(shelves.men.one);
+    for digit in 0..digits_of(shelves.men.one) {
         let square = from + digit;
         let row = square as usize;
-        if !row_is_right(
-            table,
-            &men_on(men, Square::at(square)),
-            part,
-            first + u32::from(digit),
-            side,
-            passed,
-            scores[row],
-            zeroing[row],
-        ) {
+        let shelf = Shelf {
+            number: shelves.number + u32::from(digit),
+            men: men_on(&shelves.men, Square::at(square)),
+            ..*shelves
+        };
+        if !row_is_right(table, part, &shelf, scores[row], zeroing[row]) {
             return false;
         }
     }
@@ -114,25 +102,25 @@ fn shelves_are_right(
 /// on, whose positions have a target; 0 in a class without targets. Both have the same scores but for captures in
 /// passing.
 pub(crate) fn block_is_right(
-    four: &FourMen,
-    men: &ShelfMen,
-    part: Part,
+    moves: &Moves,
     first: u32,
     half: u32,
-    side: Side,
     keys: &mut [Option<BlockKey>],
     blocks: &mut [Block],
+    scores: &mut Block,
+    zeroing: &mut Block,
 ) -> bool
-    requires men { AreFourMen (column_of part) four.now men.now }
+    requires men { AreFourMen (column_of moves.now.part) moves.now.four.now moves.now.men.now }
     requires room { first + half + 64 < 4294967296 }
-    requires kept { AreKept four.now.own.class (column_score four.now.own) men.now (other_side side) keys.old blocks.old }
-    ensures kept { result ≡ true → AreKept four.now.own.class (column_score four.now.own) men.now (other_side side) keys.new blocks.new }
-    ensures judged { result ≡ true → (tables : Tables) → AreTablesOf (tables_in part tables) (four_in part four.now) men.now →
-        AreJudged part tables four.now.own men.now first side × AreJudged part tables four.now.own men.now (first + half) side }
+    requires kept { AreKept moves.now.four.now.own.class (column_score moves.now.four.now.own) moves.now.men.now (other_side moves.now.side) keys.old blocks.old }
+    ensures kept { result ≡ true → AreKept moves.now.four.now.own.class (column_score moves.now.four.now.own) moves.now.men.now (other_side moves.now.side) keys.new blocks.new }
+    ensures judged { result ≡ true → (tables : Tables) → AreTablesOf (tables_in moves.now.part tables) (four_in moves.now.part moves.now.four.now) moves.now.men.now →
+        AreJudged moves.now.part tables moves.now.four.now.own moves.now.men.now first moves.now.side × AreJudged moves.now.part tables moves.now.four.now.own moves.now.men.now (first + half) moves.now.side }
 {
     entries_due_to_all_moves_are_right();
     a_code_is_an_index_or_void();
-    let column = column_of(part);
+    let (four, men, side) = (moves.four, moves.men, moves.side);
+    let column = column_of(moves.part);
     // Elsewhere some entry has a score, and its row need not be read to see that.
     if is_void_after(four.own.class(), men.white, men.black, 0)
         && side_is_blank(&four.own, column, men, first, half, side)
@@ -146,22 +134,16 @@ pub(crate) fn block_is_right(
     if !exits(&four.children, column, men, side, &mut leaving) {
         return false;
     }
-    let mut scores = nothing();
-    let mut zeroing = nothing();
-    if !part_scores(
-        four,
-        men,
-        part,
-        side,
-        &leaving,
-        keys,
-        blocks,
-        &mut scores,
-        &mut zeroing,
-    ) {
+    if !part_scores(moves, &leaving, keys, blocks, scores, zeroing) {
         return false;
     }
-    if !shelves_are_right(table, men, part, first, side, false, &scores, &zeroing) {
+    let plain = Shelf {
+        number: first,
+        men: *men,
+        side,
+        passed: false,
+    };
+    if !shelves_are_right(table, moves.part, &plain, scores, zeroing) {
         return false;
     }
     if half == 0 {
@@ -171,15 +153,11 @@ pub(crate) fn block_is_right(
     if !passing_captures(&four.children, column, men, side, &mut passing) {
         return false;
     }
-    raise_part_passed(four, men, part, side, &passing, &mut scores, &mut zeroing);
-    shelves_are_right(
-        table,
-        men,
-        part,
-        first + half,
-        side,
-        true,
-        &scores,
-        &zeroing,
-    )
+    raise_part_passed(moves, &passing, scores, zeroing);
+    let passed = Shelf {
+        number: first + half,
+        passed: true,
+        ..plain
+    };
+    shelves_are_right(table, moves.part, &passed, scores, zeroing)
 }

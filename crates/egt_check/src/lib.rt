@@ -29,6 +29,7 @@ pub mod row_judging;
 pub mod rows;
 pub mod runs;
 pub mod score_rows;
+pub mod shelf;
 pub mod shelved;
 pub mod successors;
 pub mod table_judging;

@@ -8,6 +8,7 @@ ghost use Rattle.egt_table.specs.declared.column.Column.TheVariants as columns;
 
 use crate::found::Found;
 use crate::own::Own;
+use crate::part::Part;
 use crate::pawn_scores::{Promotions, own_pawn_moves, promotions_block};
 use crate::table_scores::TableScores;
 use egt_blocks::blocks::nothing;
@@ -46,6 +47,15 @@ pub struct Children<'t> {
 pub struct FourMen<'o, 't> {
     pub own: Own<'o>,
     pub children: Children<'t>,
+}
+
+/// The moves of a side with these men, and of which part their scores are asked.
+#[derive(Clone, Copy)]
+pub struct Moves<'m, 'o, 't> {
+    pub four: &'m FourMen<'o, 't>,
+    pub men: &'m ShelfMen,
+    pub side: Side,
+    pub part: Part,
 }
 
 /// The table of the class beside those of its children.
@@ -143,17 +153,16 @@ fn raise_pawns_promoted(
         raise_transposed(out, &promoted);
         return true;
     }
-    let mut across = nothing();
     if !promotions_block(
         &children.first_pawn,
         column,
         &men_swapped(men),
         side,
-        &mut across,
+        &mut promoted,
     ) {
         return false;
     }
-    raise_transposed(out, &across);
+    raise_transposed(out, &promoted);
     true
 }
 
@@ -252,24 +261,23 @@ pub fn passing_captures(
     true
 }
 
-/// The greatest scores of all moves of that side but captures in passing, in the mate column and in the zeroing column, by those
-/// of its exits. False where a table does not tell.
+/// The greatest scores of all those moves but captures in passing, in the mate column and in the zeroing column, by those of
+/// the exits. False where a table does not tell.
 pub fn move_scores(
-    four: &FourMen,
-    men: &ShelfMen,
-    side: Side,
+    moves: &Moves,
     leaving: &Block,
     keys: &mut [Option<BlockKey>],
     blocks: &mut [Block],
     mates: &mut Block,
     zeroing: &mut Block,
 ) -> bool
-    requires men { AreFourMen columns.Mate four.now men.now }
-    requires leaving { HoldsExits columns.Mate four.now.children men.now side leaving.now }
-    requires kept { AreKept four.now.own.class (column_score four.now.own) men.now (other_side side) keys.old blocks.old }
-    ensures kept { result ≡ true → AreKept four.now.own.class (column_score four.now.own) men.now (other_side side) keys.new blocks.new }
-    ensures scores { result ≡ true → (a b : ℕ) → a < 64 → b < 64 → AreMoveScores four.now men.now side a b (at mates.new a b) (at zeroing.new a b) }
+    requires men { AreFourMen columns.Mate moves.now.four.now moves.now.men.now }
+    requires leaving { HoldsExits columns.Mate moves.now.four.now.children moves.now.men.now moves.now.side leaving.now }
+    requires kept { AreKept moves.now.four.now.own.class (column_score moves.now.four.now.own) moves.now.men.now (other_side moves.now.side) keys.old blocks.old }
+    ensures kept { result ≡ true → AreKept moves.now.four.now.own.class (column_score moves.now.four.now.own) moves.now.men.now (other_side moves.now.side) keys.new blocks.new }
+    ensures scores { result ≡ true → (a b : ℕ) → a < 64 → b < 64 → AreMoveScores moves.now.four.now moves.now.men.now moves.now.side a b (at mates.new a b) (at zeroing.new a b) }
 {
+    let (four, men, side) = (moves.four, moves.men, moves.side);
     if !quiet_block(&four.own, Column::Mate, men, side, keys, blocks, mates) {
         return false;
     }

@@ -54,7 +54,7 @@ fn raise_promotion(
     requires mine { men.now.last.side ≡ side }
     ensures { result ≡ true → (a b : ℕ) → a < 64 → b < 64 → IsPromotionScore column promotion.now men.now side a b (at out.old a b) (at out.new a b) }
 {
-    let mut advanced = nothing();
+    let mut scores = nothing();
     if !promotion_block(
         &TableScores {
             table: promotion.both,
@@ -65,11 +65,11 @@ fn raise_promotion(
         men,
         promotion.kind,
         side,
-        &mut advanced,
+        &mut scores,
     ) {
         return false;
     }
-    let mut taken = nothing();
+    raise(out, &scores);
     if !promoting_block(
         &TableScores {
             table: promotion.alone,
@@ -79,12 +79,11 @@ fn raise_promotion(
         men,
         promotion.kind,
         side,
-        &mut taken,
+        &mut scores,
     ) {
         return false;
     }
-    raise(out, &advanced);
-    raise(out, &taken);
+    raise(out, &scores);
     true
 }
 

@@ -8,12 +8,13 @@ ghost use Rattle.egt_check.specs.declared.part.Part.TheVariants as parts;
 use crate::lane_sets::unlike;
 use crate::part::{Part, column_of};
 use crate::rows::row_of;
+use crate::shelf::Shelf;
 use crate::successors::entries_at;
 use egt_blocks::digits::digit_on;
 use egt_board::{Man, Position, Side, SquareSet};
 use egt_class::Class;
 use egt_index::laws::{codes_spell_one_position, codes_tell_turned_men};
-use egt_index::{ShelfMen, code_of, last_digits, position, size};
+use egt_index::{code_of, last_digits, position, size};
 use egt_lanes::Row;
 use egt_lanes::row::differ;
 use egt_lanes::score::{due, reach_due};
@@ -105,25 +106,23 @@ pub fn due_in(part: Part, row: Row) -> Row
 /// Whether the scores in the zeroing column, which is judged with the mate column, are due to the greatest of the moves
 /// on the squares where `within` is not 0.
 #[inline(always)]
-fn clock_is_due(
-    table: &Table,
-    men: &ShelfMen,
-    part: Part,
-    shelf: u32,
-    side: Side,
-    passed: bool,
-    zeroing: Row,
-    within: Row,
-) -> bool
-    requires shelf { IsShelfOf passed table.now.class shelf men.now }
-    requires within { IsWithin table.now.class shelf }
-    ensures { result ≡ true → part ≡ parts.Values → (digit : ℕ) → digit < kind_digits men.now.last.kind → slice_index within (digit + kind_less men.now.last.kind) ≢ 0 →
-        score_at table.now Zeroing (code_of table.now.class (number_in table.now.class shelf side digit)) ≡ due_score (slice_index zeroing (digit + kind_less men.now.last.kind)) }
+fn clock_is_due(table: &Table, part: Part, shelf: &Shelf, zeroing: Row, within: Row) -> bool
+    requires shelf { IsShelfOf shelf.now.passed table.now.class shelf.now.number shelf.now.men }
+    requires within { IsWithin table.now.class shelf.now.number }
+    ensures { result ≡ true → part ≡ parts.Values → (digit : ℕ) → digit < kind_digits shelf.now.men.last.kind → slice_index within (digit + kind_less shelf.now.men.last.kind) ≢ 0 →
+        score_at table.now Zeroing (code_of table.now.class (number_in table.now.class shelf.now.number shelf.now.side digit)) ≡ due_score (slice_index zeroing (digit + kind_less shelf.now.men.last.kind)) }
 {
     codes_tell_turned_men();
     match part {
         Part::Values => {
-            let clock = row_of(table, Column::Zeroing, men, shelf, side, passed);
+            let clock = row_of(
+                table,
+                Column::Zeroing,
+                &shelf.men,
+                shelf.number,
+                shelf.side,
+                shelf.passed,
+            );
             !differ(clock, due(zeroing), within)
         }
         Part::Reach => true,
@@ -134,26 +133,30 @@ fn clock_is_due(
 /// the last man's square, or tell checkmate and stalemate; `passed` tells whether the positions have a target.
 pub(crate) fn row_is_right(
     table: &Table,
-    men: &ShelfMen,
     part: Part,
-    shelf: u32,
-    side: Side,
-    passed: bool,
+    shelf: &Shelf,
     scores: Row,
     zeroing: Row,
 ) -> bool
     requires there { HasColumn (column_of part) table.now }
-    requires shelf { IsShelfOf passed table.now.class shelf men.now }
-    requires within { IsWithin table.now.class shelf }
-    ensures { result ≡ true → (digit : ℕ) → digit < kind_digits men.now.last.kind → column_score table.now (column_of part) (code_of table.now.class (number_in table.now.class shelf side digit)) ≢ 0 →
-        IsRightAtOf part table.now (code_of table.now.class (number_in table.now.class shelf side digit)) (slice_index scores (digit + kind_less men.now.last.kind)) (slice_index zeroing (digit + kind_less men.now.last.kind)) }
+    requires shelf { IsShelfOf shelf.now.passed table.now.class shelf.now.number shelf.now.men }
+    requires within { IsWithin table.now.class shelf.now.number }
+    ensures { result ≡ true → (digit : ℕ) → digit < kind_digits shelf.now.men.last.kind → column_score table.now (column_of part) (code_of table.now.class (number_in table.now.class shelf.now.number shelf.now.side digit)) ≢ 0 →
+        IsRightAtOf part table.now (code_of table.now.class (number_in table.now.class shelf.now.number shelf.now.side digit)) (slice_index scores (digit + kind_less shelf.now.men.last.kind)) (slice_index zeroing (digit + kind_less shelf.now.men.last.kind)) }
 {
     codes_tell_turned_men();
-    let own = row_of(table, column_of(part), men, shelf, side, passed);
+    let own = row_of(
+        table,
+        column_of(part),
+        &shelf.men,
+        shelf.number,
+        shelf.side,
+        shelf.passed,
+    );
     // A row's scores are 0 where there is no move.
     let within = unlike(scores, Row::splat(0), own);
     if differ(own, due_in(part, scores), within)
-        || !clock_is_due(table, men, part, shelf, side, passed, zeroing, within)
+        || !clock_is_due(table, part, shelf, zeroing, within)
     {
         return false;
     }
@@ -162,8 +165,8 @@ pub(crate) fn row_is_right(
     ends_are_right(
         table,
         part,
-        men.last,
-        first_of(table.class(), shelf, side),
+        shelf.men.last,
+        first_of(table.class(), shelf.number, shelf.side),
         ends,
     )
 }

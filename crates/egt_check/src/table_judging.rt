@@ -11,7 +11,7 @@ ghost use Rattle.egt_check.specs.Prelude.{Tables, beside, table_at, HasBytes, co
 use crate::block_judging::block_is_right;
 use crate::bytes::tells_bytes;
 use crate::library::Library;
-use crate::move_scores::{Children, FourMen, beside_own};
+use crate::move_scores::{Children, FourMen, Moves, beside_own};
 use crate::pair_order::nth_pair;
 use crate::pairs::{MOST_PAIRS, Pairs, judged_pairs_hold_all_codes, pairs_of};
 use crate::part::{Part, column_of};
@@ -45,27 +45,30 @@ pub fn with_kings(men: &ShelfMen, white: Square, black: Square) -> ShelfMen
 /// with that side to move, and of those `half` further on, which have the same men and a target; 0 in a class without
 /// targets.
 fn pair_is_right(
-    four: &FourMen,
-    men: &ShelfMen,
-    part: Part,
+    moves: &Moves,
     first: u32,
     half: u32,
-    side: Side,
     keys: &mut [Option<BlockKey>],
     blocks: &mut [Block],
+    scores: &mut Block,
+    zeroing: &mut Block,
 ) -> bool
-    requires men { AreFourMen (column_of part) four.now men.now }
+    requires men { AreFourMen (column_of moves.now.part) moves.now.four.now moves.now.men.now }
     requires room { first + half + 64 < 4294967296 }
-    requires kept { AreKept four.now.own.class (column_score four.now.own) men.now (other_side side) keys.old blocks.old }
-    ensures kept { result ≡ true → AreKept four.now.own.class (column_score four.now.own) men.now (other_side side) keys.new blocks.new }
-    ensures judged { result ≡ true → (tables : Tables) → AreTablesOf (tables_in part tables) (four_in part four.now) men.now →
-        AreJudged part tables four.now.own men.now first side × AreJudged part tables four.now.own men.now (first + half) side }
+    requires kept { AreKept moves.now.four.now.own.class (column_score moves.now.four.now.own) moves.now.men.now (other_side moves.now.side) keys.old blocks.old }
+    ensures kept { result ≡ true → AreKept moves.now.four.now.own.class (column_score moves.now.four.now.own) moves.now.men.now (other_side moves.now.side) keys.new blocks.new }
+    ensures judged { result ≡ true → (tables : Tables) → AreTablesOf (tables_in moves.now.part tables) (four_in moves.now.part moves.now.four.now) moves.now.men.now →
+        AreJudged moves.now.part tables moves.now.four.now.own moves.now.men.now first moves.now.side × AreJudged moves.now.part tables moves.now.four.now.own moves.now.men.now (first + half) moves.now.side }
 {
-    let Some(here) = shelf_men(four.own.class(), first) else {
+    let Some(here) = shelf_men(moves.four.own.class(), first) else {
         return false;
     };
-    let there = with_kings(men, here.white, here.black);
-    block_is_right(four, &there, part, first, half, side, keys, blocks)
+    let there = with_kings(moves.men, here.white, here.black);
+    let moves_there = Moves {
+        men: &there,
+        ..*moves
+    };
+    block_is_right(&moves_there, first, half, keys, blocks, scores, zeroing)
 }
 
 /// The pairs of kings' squares of which all entries of the part with that side to move were found to keep the rules.
@@ -82,20 +85,27 @@ fn right_pairs(
     ensures { (tables : Tables) → AreTablesOf (tables_in part tables) (four_in part four.now) men.now → (pair : ℕ) → get_or result pair false ≡ true → IsJudgedPair part tables four.now.own men.now pairs.now side pair }
 {
     let mut right = [false; MOST_PAIRS];
+    let moves = Moves {
+        four,
+        men,
+        side,
+        part,
+    };
     let mut keys = no_keys();
     let mut blocks = [nothing(); NEAR_PLACES];
+    let mut scores = nothing();
+    let mut zeroing = nothing();
     for n in 0..64 * pairs.kings {
         let pair = nth_pair(side, n, pairs.kings);
         let first = pair * pairs.step;
         if !pair_is_right(
-            four,
-            men,
-            part,
+            &moves,
             first,
             pairs.half,
-            side,
             &mut keys,
             &mut blocks,
+            &mut scores,
+            &mut zeroing,
         ) {
             // What is kept after a pair that is not right is not known to hold.
             keys = no_keys();

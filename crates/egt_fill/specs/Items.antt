@@ -18,7 +18,7 @@ use Rattle.egt_fill.specs.Settled.{AreScoresIn}
 use Rattle.egt_fill.specs.declared.filling.Filling.{Filling}
 use Rattle.egt_fill.specs.declared.items.Item.{Item}
 use Rattle.egt_fill.specs.declared.looking.Scores.{Scores}
-use Rattle.egt_fill.specs.declared.mending.Shelf.{Shelf}
+use Rattle.egt_check.specs.declared.shelf.Shelf.{Shelf}
 
 -- the men with the item's kings
 abbrev pub men_of : Filling → Item → ShelfMen

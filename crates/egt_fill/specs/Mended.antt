@@ -20,7 +20,7 @@ use Rattle.egt_check.specs.RightRow.{IsRightAtOf, IsRightEndOf, due_in}
 use Rattle.egt_check.specs.Worth.{HasBytes, column_score, score_at}
 use Rattle.egt_check.specs.declared.part.Part.{Part}
 use Rattle.egt_check.specs.declared.part.Part.TheVariants.{Values, Reach}
-use Rattle.egt_fill.specs.declared.mending.Shelf.{Shelf}
+use Rattle.egt_check.specs.declared.shelf.Shelf.{Shelf}
 
 -- the code tells men of the class with the kings on these squares and that side to move
 pub record IsOfKings (c white black : ℕ) (side : Side) (code : ℕ) : Type 0 where

@@ -76,7 +76,7 @@ pub use Rattle.egt_fill.specs.declared.kept.Kept.{Kept}
 pub use Rattle.egt_fill.specs.declared.kept.Near.{Near}
 pub use Rattle.egt_fill.specs.declared.looking.Scores.{Scores}
 pub use Rattle.egt_fill.specs.declared.mending.Mended.{Mended}
-pub use Rattle.egt_fill.specs.declared.mending.Shelf.{Shelf}
+pub use Rattle.egt_check.specs.declared.shelf.Shelf.{Shelf}
 pub use Rattle.egt_fill.specs.declared.rounds.Visited.{Visited}
 pub use Rattle.egt_fill.specs.declared.settling.Looks.{Looks}
 pub use Rattle.egt_fill.specs.declared.stamps.Marks.{Marks}

@@ -7,12 +7,13 @@ ghost use Rattle.egt_fill.specs.declared.mending.Mended.TheVariants as mends;
 use crate::filling::Filling;
 use crate::items::Item;
 use crate::kept::Near;
-use crate::mending::{Mended, Shelf, mend_shelves};
+use crate::mending::{Mended, mend_shelves};
 use egt_blocks::blocks::nothing;
 use egt_check::block_judging::{part_scores, raise_part_passed};
 use egt_check::found::Found;
-use egt_check::move_scores::{beside_found, passing_captures};
+use egt_check::move_scores::{Moves, beside_found, passing_captures};
 use egt_check::part::column_of;
+use egt_check::shelf::Shelf;
 use egt_check::table_judging::with_kings;
 use egt_index::ShelfMen;
 use egt_index::laws::numbers_stand_for_codes;
@@ -57,11 +58,14 @@ fn item_scores(
 {
     let side = item.side;
     let four = beside_found(table, &f.children);
-    if !part_scores(
-        &four,
+    let moves = Moves {
+        four: &four,
         men,
-        f.part,
         side,
+        part: f.part,
+    };
+    if !part_scores(
+        &moves,
         &item.leaving,
         &mut read.keys,
         &mut read.blocks,
@@ -79,15 +83,7 @@ fn item_scores(
     }
     *out.passed = *out.plain;
     *out.passed_clocks = *out.clocks;
-    raise_part_passed(
-        &four,
-        men,
-        f.part,
-        side,
-        &passing,
-        &mut out.passed,
-        &mut out.passed_clocks,
-    );
+    raise_part_passed(&moves, &passing, &mut out.passed, &mut out.passed_clocks);
     true
 }
 

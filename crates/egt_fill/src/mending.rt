@@ -11,27 +11,19 @@ use crate::ends::end_score;
 use egt_blocks::blocks::begin_with;
 use egt_blocks::digits::{digit_on, digits_of, first_square};
 use egt_blocks::men::men_on;
-use egt_board::{Side, Square, SquareSet};
+use egt_board::{Square, SquareSet};
 use egt_check::found::Found;
 use egt_check::lane_sets::{mask_of, unlike};
 use egt_check::part::{Part, column_of};
 use egt_check::row_judging::{due_in, first_of};
+use egt_check::shelf::Shelf;
 use egt_index::laws::{codes_tell_turned_men, numbers_stand_for_codes};
-use egt_index::{ShelfMen, code_of, size};
+use egt_index::{code_of, size};
 use egt_lanes::score::due;
 use egt_lanes::sets::lanes_of;
 use egt_lanes::{Block, Row};
 use egt_table::Column;
 use std::simd::prelude::*;
-
-/// A shelf of a class: its men with all squares of the last one, the side to move, and whether its positions have a target.
-#[derive(Clone, Copy)]
-pub(crate) struct Shelf {
-    pub(crate) number: u32,
-    pub(crate) men: ShelfMen,
-    pub(crate) side: Side,
-    pub(crate) passed: bool,
-}
 
 /// Puts the entries with these scores at the shelf's codes with the last man on these squares.
 /// False where no entries have them that tell one result, and where a code is no index: then all stays as it is.

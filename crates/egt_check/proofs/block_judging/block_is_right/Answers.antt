@@ -6,21 +6,21 @@ use Rattle.egt_check.proofs.block_judging.block_is_right.Goals as goal
 
 pub returns-then-side_is_blank-clause-judged : goal.returns-then-side_is_blank-clause-judged
 returns-then-side_is_blank-clause-judged c = λ _ tables are.
-    let part = c.args.part in
-    let t = c.args.four.now.own in
-    let men = c.args.men.now in
+    let part = c.args.moves.now.part in
+    let t = c.args.moves.now.four.now.own in
+    let men = c.args.moves.now.men.now in
     let or_void : (i : ℕ) → ((p : Setup) × Spells t.class i p × IsIndex t.class p i) ⊎ IsVoid t.class i = λ i. c.a_code_is_an_index_or_void.ensures t.class i are.is_table.class_in in
-    let blank = subst (λ (column : Column). AreBlank t column men c.args.first c.args.side × AreBlank t column men (c.args.first + c.args.half) c.args.side) c.column_of-column.ensures (c.side_is_blank.ensures c.if-side_is_blank.true) in (
+    let blank = subst (λ (column : Column). AreBlank t column men c.args.first c.args.moves.now.side × AreBlank t column men (c.args.first + c.args.half) c.args.moves.now.side) c.column_of-column.ensures (c.side_is_blank.ensures c.if-side_is_blank.true) in (
       λ x y x_in y_in. blank_kept part tables t are.is_table are.bytes or_void _ (blank.0 x y x_in y_in),
       λ x y x_in y_in. blank_kept part tables t are.is_table are.bytes or_void _ (blank.1 x y x_in y_in),
     )
 
 pub returns-then-half-eq0-clause-judged : goal.returns-then-half-eq0-clause-judged
 returns-then-half-eq0-clause-judged c = λ _ tables are.
-    let four = c.args.four.now in
-    let men = c.args.men.now in
-    let part = c.args.part in
-    let side = c.args.side in
+    let four = c.args.moves.now.four.now in
+    let men = c.args.moves.now.men.now in
+    let part = c.args.moves.now.part in
+    let side = c.args.moves.now.side in
     let lower : AreJudged part tables four.own men c.args.first side = λ x y x_in y_in.
     let a = x + kind_less men.one.kind in
     let b = y + kind_less men.last.kind in
@@ -33,10 +33,10 @@ returns-then-half-eq0-clause-judged c = λ _ tables are.
 
 pub returns-clause-judged : goal.returns-clause-judged
 returns-clause-judged c = λ told tables are.
-    let four = c.args.four.now in
-    let men = c.args.men.now in
-    let part = c.args.part in
-    let side = c.args.side in
+    let four = c.args.moves.now.four.now in
+    let men = c.args.moves.now.men.now in
+    let part = c.args.moves.now.part in
+    let side = c.args.moves.now.side in
     let scores = c.part_scores.ensures.scores c.if-not-part_scores.false in (
       λ x y x_in y_in.
           let a = x + kind_less men.one.kind in

@@ -4,6 +4,8 @@ use Rattle.egt_check.proofs.block_judging.shelves_are_right.Given as goal
 
 -- the shelves below this digit are right
 abbrev pub invariant-loop-digit : goal.invariant-loop-digit
-invariant-loop-digit l = (x y : ℕ) → x < l.digit → y < kind_digits l.men.last.kind →
-    IsRightLane l.part l.passed l.table l.men l.side (x + kind_less l.men.one.kind) (y + kind_less l.men.last.kind) (code_of l.table.class (number_in l.table.class (l.first + x) l.side y))
-    (at l.scores (x + kind_less l.men.one.kind) (y + kind_less l.men.last.kind)) (at l.zeroing (x + kind_less l.men.one.kind) (y + kind_less l.men.last.kind))
+invariant-loop-digit l =
+    let men = l.shelves.men in
+    (x y : ℕ) → x < l.digit → y < kind_digits men.last.kind →
+    IsRightLane l.part l.shelves.passed l.table men l.shelves.side (x + kind_less men.one.kind) (y + kind_less men.last.kind) (code_of l.table.class (number_in l.table.class (l.shelves.number + x) l.shelves.side y))
+    (at l.scores (x + kind_less men.one.kind) (y + kind_less men.last.kind)) (at l.zeroing (x + kind_less men.one.kind) (y + kind_less men.last.kind))

@@ -12,7 +12,7 @@ returns-then-not-has_pawn-clause-scores c = λ told a b a_in b_in. record {
   zeroed = at c.args.leaving.now a b;
   mate_raised = c.quiet_block.ensures.raised c.if-not-quiet_block.false a b a_in b_in;
   zeroing_raised = c.quiet_block-2.ensures.raised c.if-not-quiet_block-2.false a b a_in b_in;
-  zeroed_are = zeroed_alone Mate c.args.four.now c.args.men.now c.args.side a b (at c.args.leaving.now a b)
+  zeroed_are = zeroed_alone Mate c.args.moves.now.four.now c.args.moves.now.men.now c.args.moves.now.side a b (at c.args.leaving.now a b)
       (c.has_pawn.ensures.last c.if-not-has_pawn.true) (c.has_pawn.ensures.one c.if-not-has_pawn.true) (c.requires.leaving a b a_in b_in);
   mate_is = c.raise.ensures a b a_in b_in;
   zeroing_is = c.raise_zeroed.ensures a b a_in b_in;
@@ -27,7 +27,7 @@ returns-clause-scores c = λ told a b a_in b_in.
       zeroed = max leaving pawns;
       mate_raised = c.quiet_block.ensures.raised c.if-not-quiet_block.false a b a_in b_in;
       zeroing_raised = c.quiet_block-2.ensures.raised c.if-not-quiet_block-2.false a b a_in b_in;
-      zeroed_are = zeroing_of Mate c.args.four.now c.args.men.now c.args.side a b leaving pawns (max leaving pawns)
+      zeroed_are = zeroing_of Mate c.args.moves.now.four.now c.args.moves.now.men.now c.args.moves.now.side a b leaving pawns (max leaving pawns)
           (c.requires.leaving a b a_in b_in) (c.advances.ensures.scores c.if-not-advances.false a b a_in b_in) refl;
       mate_is = raised_twice (at c.quiet_block.new.out a b) leaving pawns (at c.raise.new.out a b) (at c.raise-2.new.out a b)
           (c.raise.ensures a b a_in b_in) (c.raise-2.ensures a b a_in b_in);

@@ -9,17 +9,17 @@ are_there : (part : Part) (four : FourMen) (men there : ShelfMen) (white black :
 are_there part four men there white black is are = subst (λ (other : ShelfMen). AreFourMen (column_of part) four other) (sym is) (four_there men white black (column_of part) four are)
 
 pub block_is_right-requires-clause-men : goal.block_is_right-requires-clause-men
-block_is_right-requires-clause-men c = are_there c.args.part c.args.four.now c.args.men.now c.with_kings-there.result c.in-Some.here.white c.in-Some.here.black c.with_kings-there.ensures c.requires.men
+block_is_right-requires-clause-men c = are_there c.args.moves.now.part c.args.moves.now.four.now c.args.moves.now.men.now c.with_kings-there.result c.in-Some.here.white c.in-Some.here.black c.with_kings-there.ensures c.requires.men
 
 pub returns-clause-judged : goal.returns-clause-judged
 returns-clause-judged c = λ told tables are.
-    let part = c.args.part in
-    let t = c.args.four.now.own in
-    let side = c.args.side in
+    let part = c.args.moves.now.part in
+    let t = c.args.moves.now.four.now.own in
+    let side = c.args.moves.now.side in
     let upper = c.args.first + c.args.half in
-    let there : AreTablesOf (tables_in part tables) (four_in part c.args.four.now) c.with_kings-there.result =
-    subst (λ (men : ShelfMen). AreTablesOf (tables_in part tables) (four_in part c.args.four.now) men) (sym c.with_kings-there.ensures)
-    (tables_of_there c.args.men.now c.in-Some.here.white c.in-Some.here.black (tables_in part tables) (four_in part c.args.four.now) are) in
+    let there : AreTablesOf (tables_in part tables) (four_in part c.args.moves.now.four.now) c.with_kings-there.result =
+    subst (λ (men : ShelfMen). AreTablesOf (tables_in part tables) (four_in part c.args.moves.now.four.now) men) (sym c.with_kings-there.ensures)
+    (tables_of_there c.args.moves.now.men.now c.in-Some.here.white c.in-Some.here.black (tables_in part tables) (four_in part c.args.moves.now.four.now) are) in
     subst (λ (men : ShelfMen). AreJudged part tables t men c.args.first side × AreJudged part tables t men upper side) c.with_kings-there.ensures (c.block_is_right.ensures.judged told tables there)
 
 -- what is kept tells of all squares of the kings
@@ -34,8 +34,8 @@ kept_there d worth men there white black side keys blocks is = (
 
 pub block_is_right-requires-clause-kept : goal.block_is_right-requires-clause-kept
 block_is_right-requires-clause-kept c =
-    (kept_there c.args.four.now.own.class (column_score c.args.four.now.own) c.args.men.now c.with_kings-there.result c.in-Some.here.white c.in-Some.here.black (other_side c.args.side) c.args.keys.now c.args.blocks.now c.with_kings-there.ensures).0 c.requires.kept
+    (kept_there c.args.moves.now.four.now.own.class (column_score c.args.moves.now.four.now.own) c.args.moves.now.men.now c.with_kings-there.result c.in-Some.here.white c.in-Some.here.black (other_side c.args.moves.now.side) c.args.keys.now c.args.blocks.now c.with_kings-there.ensures).0 c.requires.kept
 
 pub returns-clause-kept : goal.returns-clause-kept
 returns-clause-kept c = λ told.
-    (kept_there c.args.four.now.own.class (column_score c.args.four.now.own) c.args.men.now c.with_kings-there.result c.in-Some.here.white c.in-Some.here.black (other_side c.args.side) c.block_is_right.new.keys c.block_is_right.new.blocks c.with_kings-there.ensures).1 (c.block_is_right.ensures.kept told)
+    (kept_there c.args.moves.now.four.now.own.class (column_score c.args.moves.now.four.now.own) c.args.moves.now.men.now c.with_kings-there.result c.in-Some.here.white c.in-Some.here.black (other_side c.args.moves.now.side) c.block_is_right.new.keys c.block_is_right.new.blocks c.with_kings-there.ensures).1 (c.block_is_right.ensures.kept told)
