@@ -7,7 +7,9 @@ pub mod TwoNonKings
 pub mod TakenInPassing
 pub mod PawnCaptures
 pub mod PawnAdvances
+pub mod QuietSteps
 pub mod QuietStands
+pub mod QuietAlone
 pub mod LeftTargets
 pub mod Passed
 pub mod Carried

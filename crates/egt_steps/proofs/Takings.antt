@@ -188,8 +188,16 @@ module _ (p : Setup) (man : Man) (from to : ℕ) (held : IsHeld p.men to (other_
       by_test false e = inl (record { piece = no_pawn_is man.kind e; reaches = reaches; not_own = not_own })
 
   -- who takes a man attacks him
-  taking_reaches : Goes p man from to → Reaches (IsFree p.men) man from to
+  pub taking_reaches : Goes p man from to → Reaches (IsFree p.men) man from to
   taking_reaches h = grind arith
+
+-- the side that waits is not in check, so that no king is taken
+pub no_king_taken : (p q : Setup) (m : Move) → IsAdmissible p → Leads p m q → (held : IsHeld p.men m.to (other_side p.side)) → (s : Side) → king_of s ≡ held.man → ⊥
+no_king_taken p q m ok leads held s is = ok.quiet (record {
+  square = m.to;
+  stands = held.stands ∙ ap Some (sym is ∙ ap king_of (ap (λ (x : Man). x.side) is ∙ held.theirs));
+  attacked = record { from = m.from; man = leads.man; stands = leads.stands; theirs = leads.mine ∙ sym (side_twice p.side); reaches = taking_reaches p leads.man m.from m.to held leads.goes };
+})
 
 -- a pawn does not stay one on its last rank
 within_ranks : (side : Side) (to : ℕ) → 0 < rank_of to → rank_of to < 7 → rank_of to ≢ last_rank side
@@ -468,14 +476,6 @@ module _ (facts : Facts) (telling : Telling) (c : ℕ) (men : ShelfMen) (one_oth
     theirs : held.man.side ≡ other_side side
     theirs = held.theirs ∙ ap other_side (sym mine)
 
-    -- the side that waits is not in check, so that no king is taken
-    no_king : (s : Side) → king_of s ≡ held.man → ⊥
-    no_king s is = has.admissible.quiet (record {
-      square = m.to;
-      stands = held.stands ∙ ap Some (sym is ∙ ap king_of (ap (λ (x : Man). x.side) is ∙ held.theirs));
-      attacked = record { from = m.from; man = leads.man; stands = leads.stands; theirs = leads.mine ∙ sym (side_twice p.side); reaches = attacks };
-    })
-
     -- the first man beside the kings or the last
     abbrev pub Victim : Type 0
     Victim = ((men.one.side ≡ other_side side) × (a ≡ m.to)) ⊎ ((men.last.side ≡ other_side side) × (b ≡ m.to))
@@ -484,8 +484,8 @@ module _ (facts : Facts) (telling : Telling) (c : ℕ) (men : ShelfMen) (one_oth
     victim = of_man ((telling.listed c here side passed p m.to held.man has).0 held.stands)
       where
         of_man : IsListed (list_of here) held.man m.to → Victim
-        of_man (inl k) = absurd (no_king White k.0)
-        of_man (inr (inl k)) = absurd (no_king Black k.0)
+        of_man (inl k) = absurd (no_king_taken p q m has.admissible leads held White k.0)
+        of_man (inr (inl k)) = absurd (no_king_taken p q m has.admissible leads held Black k.0)
         of_man (inr (inr (inl k))) = inl (ap (λ (x : Man). x.side) k.0 ∙ theirs, k.1)
         of_man (inr (inr (inr (inl k)))) = inr (ap (λ (x : Man). x.side) k.0 ∙ theirs, k.1)
         of_man (inr (inr (inr (inr none)))) = absurd none

@@ -2,6 +2,7 @@ pub mod QuietTarget
 pub mod Facts
 pub mod Takings
 pub mod QuietStands
+pub mod QuietAlone
 pub mod InPassing
 pub mod PawnMoves
 pub mod Stands

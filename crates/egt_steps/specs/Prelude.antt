@@ -67,6 +67,7 @@ pub use Rattle.egt_steps.specs.InPassing.{AreTwoRanksApart, IsOfFourKinds, IsPas
 pub use Rattle.egt_steps.specs.InPassing.{LeavesTarget}
 pub use Rattle.egt_steps.specs.PawnMoves.{IsAdvance, IsAdvanceFrom, IsClassAfter, IsClassOfTwo, IsPromotingCapture}
 pub use Rattle.egt_steps.specs.PawnMoves.{IsPromotingCaptureFrom, officer_of, stand_after, stand_in, stand_two}
+pub use Rattle.egt_steps.specs.QuietAlone.{IsQuietAlone, NoneZeroes, stand_alone}
 pub use Rattle.egt_steps.specs.QuietStands.{IsClear, IsQuietStand}
 pub use Rattle.egt_steps.specs.QuietTarget.{IsQuietTarget}
 pub use Rattle.egt_steps.specs.Stands.{IsBesideKing, king_of_men, stand_on, with_king}

@@ -1,8 +1,8 @@
 //! What holds of single moves. These functions do nothing: a caller calls one to know what it ensures.
 ghost use Rattle.std.specs.Prelude.{◌≢◌, ◌<◌, ℕ, Bool, false};
 ghost use Rattle.egt_steps.specs.Prelude.{other_side, Setup, IsAdmissible, K, Side, IsMoved, HasStand, ShelfMen, Stand};
-ghost use Rattle.egt_steps.specs.Prelude.{Zeroes, Leads, Move, IsQuietStand, stand_on, IsClassOf, IsPlainCapture};
-ghost use Rattle.egt_steps.specs.Prelude.{IsTaken, Left, stand_left};
+ghost use Rattle.egt_steps.specs.Prelude.{Zeroes, Leads, Move, IsQuietAlone, NoneZeroes, stand_alone, IsQuietStand};
+ghost use Rattle.egt_steps.specs.Prelude.{stand_on, IsClassOf, IsPlainCapture, IsTaken, Left, stand_left};
 
 use crate::class_moves::moves_lead_into_the_class_or_a_child;
 use crate::code_laws::stands_follow_moves;
@@ -24,6 +24,22 @@ pub fn quiet_moves_are_quiet_steps()
         Leads p m q → ¬ Zeroes p m → (stand : Stand) × IsQuietStand men side a b stand × HasStand c false stand (other_side side) false q }
     ensures comes { (c : ℕ) (men : ShelfMen) (side : Side) (passed : Bool) (a b : ℕ) (p q : Setup) (stand : Stand) → c < 36 → HasStand c false (stand_on men a b) side passed p →
         IsQuietStand men side a b stand → HasStand c false stand (other_side side) false q → (m : Move) × Leads p m q × ¬ Zeroes p m }
+{
+    facts();
+    moves_lead_into_the_class_or_a_child();
+    stands_follow_moves();
+    a_quiet_move_moves_one_man();
+}
+
+/// With one man beside the kings the moves that do not zero lead to the men after quiet steps, and to all of them that are positions; and no move zeroes
+/// where he is no pawn of the side to move, nor attacked by its king.
+pub fn quiet_moves_of_three_men_are_quiet_steps()
+    ensures goes { (c : ℕ) (men : ShelfMen) (side : Side) (passed : Bool) (s : ℕ) (p q : Setup) (m : Move) → c < 36 → HasStand c false (stand_alone men s) side passed p →
+        Leads p m q → ¬ Zeroes p m → (stand : Stand) × IsQuietAlone men side s stand × HasStand c false stand (other_side side) false q }
+    ensures comes { (c : ℕ) (men : ShelfMen) (side : Side) (passed : Bool) (s : ℕ) (p q : Setup) (stand : Stand) → c < 36 → HasStand c false (stand_alone men s) side passed p →
+        IsQuietAlone men side s stand → HasStand c false stand (other_side side) false q → (m : Move) × Leads p m q × ¬ Zeroes p m }
+    ensures quiet { (c : ℕ) (men : ShelfMen) (side : Side) (passed : Bool) (s : ℕ) (p q : Setup) (m : Move) → c < 36 → HasStand c false (stand_alone men s) side passed p →
+        NoneZeroes men side s → Leads p m q → ¬ Zeroes p m }
 {
     facts();
     moves_lead_into_the_class_or_a_child();

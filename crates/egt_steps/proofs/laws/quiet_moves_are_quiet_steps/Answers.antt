@@ -1,4 +1,5 @@
-use Rattle.egt_steps.proofs.QuietStands.{Following, comes, goes}
+use Rattle.egt_steps.proofs.QuietStands.{comes, goes}
+use Rattle.egt_steps.proofs.QuietSteps.{Following}
 use Rattle.egt_steps.proofs.laws.quiet_moves_are_quiet_steps.Goals as goal
 
 pub returns : goal.returns

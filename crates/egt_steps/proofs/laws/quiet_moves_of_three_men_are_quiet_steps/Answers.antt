@@ -1,0 +1,19 @@
+use Rattle.egt_steps.proofs.QuietAlone.{comes, goes, none_zeroes}
+use Rattle.egt_steps.proofs.QuietSteps.{Following}
+use Rattle.egt_steps.proofs.laws.quiet_moves_of_three_men_are_quiet_steps.Goals as goal
+
+pub returns : goal.returns
+returns c = record {
+  goes = λ k men side passed s p q m class_in has leads quiet. goes c.facts.ensures c.moves_lead_into_the_class_or_a_child.ensures.quiet follow k class_in men side passed s p has q m leads quiet;
+  comes = λ k men side passed s p q stand class_in has is there. comes c.facts.ensures c.moves_lead_into_the_class_or_a_child.ensures.quiet follow k class_in men side passed s p has q stand is there;
+  quiet = λ k men side passed s p q m class_in has none leads. none_zeroes c.facts.ensures c.moves_lead_into_the_class_or_a_child.ensures.quiet follow k class_in men side passed s p has q m leads none;
+}
+  where
+    follow : Following
+    follow = record {
+      listed = c.stands_follow_moves.ensures.listed;
+      free = c.stands_follow_moves.ensures.free;
+      moved = c.stands_follow_moves.ensures.moved;
+      back = c.stands_follow_moves.ensures.back;
+      quiet_moved = c.a_quiet_move_moves_one_man.ensures;
+    }
