@@ -1,12 +1,12 @@
 -- Blocks raised turn by turn.
 use Rattle.std.proofs.Common.{◌≡◌, ◌≢◌, ℕ, ◌/◌, ◌%◌, ◌<◌, ◌⊎◌, ◌↔◌, max, not, cond, ltb, eqb, IsTrue, Bool, true, false}
 use Rattle.std.proofs.Common.{List, [], ◌∷◌, Option, Some, None, IfSome, arith, refl, sym, ap, ◌∙◌, inl, inr, subst}
-use Rattle.egt_blocks.specs.Prelude.{cases_eq, cases_lt, false≢true, ltb-true, bit_at_ones, bit_at, other_side, Has}
+use Rattle.egt_blocks.specs.Prelude.{cases_eq, cases_lt, false≢true, ltb-true, bit_at_ones, bit_at, Has}
 use Rattle.egt_blocks.specs.Prelude.{turned_square, all_below, passes_below, Man, Side, White, Black, SquareSet}
 use Rattle.egt_blocks.specs.Prelude.{has_equal_sides, material_of, king_square, men_at, AreDigits, AreHome, IsTurnWith}
-use Rattle.egt_blocks.specs.Prelude.{has_pawns, king_base, men_bases, list_of, IsSomeTurnedCode, IsSomeTurnedCodeWith}
+use Rattle.egt_blocks.specs.Prelude.{has_pawns, king_base, men_bases, list_of, IsSomeTurnedCodeWith}
 use Rattle.egt_blocks.specs.Prelude.{swapped, turned_by, ShelfMen, Stand, at, IsRaised, Column, IsBesideKing, stand_on}
-use Rattle.egt_blocks.specs.Prelude.{with_king, AreKingCodes, IsCodeAfter, IsHomeCode, IsRaisedHome, men_across}
+use Rattle.egt_blocks.specs.Prelude.{with_king, IsCodeAfter, IsHomeCode, IsRaisedHome, men_across}
 use Rattle.egt_blocks.specs.Prelude.{settled_at, AreKept, IsReadWith, BlockKey}
 use Rattle.egt_board.proofs.Parts.{heads}
 
@@ -217,15 +217,11 @@ pub same_beside : (men : ShelfMen) (side : Side) (k : ℕ) → ((with_king men s
 same_beside men side k = grind arith
 
 -- one step more
-pub king_goes : (c : ℕ) (men : ShelfMen) (side : Side) (A In : ℕ → Type 0) (to a b low high : ℕ) (f : ℕ → ℕ) → IsRaised 0 (AreKingCodes c men side A a b) f low
-    → IsRaised low (λ code. IsSomeTurnedCode c code false (stand_on (with_king men side to) a b) (other_side side)) f high
-    → ((k : ℕ) → In k → A k ⊎ (k ≡ to)) → ((k : ℕ) → A k → In k) → In to → IsRaised 0 (AreKingCodes c men side In a b) f high
-king_goes c men side A In to a b low high f before step covers a_in to_in =
-    raised_both 0 low high (AreKingCodes c men side A a b) (λ code. IsSomeTurnedCode c code false (stand_on (with_king men side to) a b) (other_side side)) (AreKingCodes c men side In a b) f before step
-    (λ code h. elim (covers h.0 h.1) [
-      | inl old ↦ inl (h.0, old, h.2)
-      | inr new ↦ inr (subst (λ k. IsSomeTurnedCode c code false (stand_on (with_king men side k) a b) (other_side side)) new h.2)
-    ])
+pub one_more : (Codes : (k code : ℕ) → Type 0) (A In : ℕ → Type 0) (to low high : ℕ) (f : ℕ → ℕ) → IsRaised 0 (λ code. (k : ℕ) × A k × Codes k code) f low → IsRaised low (Codes to) f high
+    → ((k : ℕ) → In k → A k ⊎ (k ≡ to)) → ((k : ℕ) → A k → In k) → In to → IsRaised 0 (λ code. (k : ℕ) × In k × Codes k code) f high
+one_more Codes A In to low high f before step covers a_in to_in =
+    raised_both 0 low high (λ code. (k : ℕ) × A k × Codes k code) (Codes to) (λ code. (k : ℕ) × In k × Codes k code) f before step
+    (λ code h. elim (covers h.0 h.1) [ inl old ↦ inl (h.0, old, h.2) | inr new ↦ inr (subst (λ k. Codes k code) new h.2) ])
     (λ code h. (h.0, a_in h.0 h.1, h.2)) (λ code h. (to, to_in, h))
 
 -- what is kept tells of all squares of the kings

@@ -3,6 +3,7 @@ pub mod ShelfRuns
 pub mod BlockRaising
 pub mod LoneRead
 pub mod QuietRaising
+pub mod AloneRaising
 pub mod Taking
 pub mod AdvanceRaising
 pub mod LeapRaising

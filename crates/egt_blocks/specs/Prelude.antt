@@ -60,6 +60,7 @@ pub use Rattle.egt_steps.proofs.LeftTargets.{unpromoted}
 pub use Rattle.egt_steps.specs.InPassing.{AreLeapCodes, ArePassingCodes, AreStepCodes, AreTwoRanksApart, LeavesTarget}
 pub use Rattle.egt_steps.specs.PawnMoves.{AreAdvancedCodes, ArePromotedCodes, IsAdvance, men_after, men_two, officer_of}
 pub use Rattle.egt_steps.specs.PawnMoves.{stand_after}
+pub use Rattle.egt_steps.specs.QuietAlone.{AreCodesAlone, AreKingCodesAlone, stand_alone}
 pub use Rattle.egt_steps.specs.QuietStands.{AreQuietCodes, IsClear}
 pub use Rattle.egt_steps.specs.Stands.{IsBesideKing, king_of_men, men_on, stand_on, with_king}
 pub use Rattle.egt_steps.specs.Takings.{IsPastKings, Left, left_of, stand_left}

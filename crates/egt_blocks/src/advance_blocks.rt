@@ -58,7 +58,7 @@ fn arrivals(promo: Option<Kind>, side: Side) -> SquareSet
 }
 
 /// The squares on which no king stands.
-fn past_kings(men: &ShelfMen) -> SquareSet
+pub(crate) fn past_kings(men: &ShelfMen) -> SquareSet
     ensures { (u : ℕ) → u < 64 → Has result u ↔ IsPastKings men.now u }
 {
     SquareSet::ALL.without(kings_of(men))

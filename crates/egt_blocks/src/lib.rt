@@ -8,6 +8,7 @@ pub mod blocks;
 pub mod digits;
 pub mod kept_blocks;
 pub mod king_blocks;
+pub mod lone_quiet;
 pub mod lone_rows;
 pub mod men;
 pub mod own_men;

@@ -1,7 +1,7 @@
 use Rattle.std.proofs.Common.{◌≡◌, ◌∙◌, ℕ, List, Option, false, arith, sym, ap, subst, inl, inr}
 use Rattle.egt_blocks.specs.Prelude.{bit_at, cases_eq, other_side, Side, Column, ShelfMen, IsSomeTurnedCode, at}
 use Rattle.egt_blocks.specs.Prelude.{IsRaised, IsBesideKing, stand_on, with_king, AreKingCodes, AreKept, BlockKey}
-use Rattle.egt_blocks.proofs.BlockRaising.{GoneKing, kept_beside, king_goes, raised_alike, raised_by_none}
+use Rattle.egt_blocks.proofs.BlockRaising.{GoneKing, kept_beside, one_more, raised_alike, raised_by_none}
 use Rattle.egt_blocks.proofs.king_blocks.king_block.Goals as goal
 
 -- what is kept after a step
@@ -40,7 +40,7 @@ loop-to-preserved g c =
     let side = c.args.side in
     let to = c.in-Some.to in
     let here : IsBesideKing men side to = c.loop-to.invariant.1 to (omega arith) c.in-Some.ensures.had in (
-      λ a b a_in b_in. king_goes number men side (GoneKing men side c.loop-to.rest) (GoneKing men side c.pop_first.new.self) to a b (at c.loop-to.out a b) (at c.raise_kept.new.out a b) worth (c.loop-to.invariant.0 a b a_in b_in)
+      λ a b a_in b_in. one_more (λ k code. IsSomeTurnedCode number code false (stand_on (with_king men side k) a b) (other_side side)) (GoneKing men side c.loop-to.rest) (GoneKing men side c.pop_first.new.self) to (at c.loop-to.out a b) (at c.raise_kept.new.out a b) worth (c.loop-to.invariant.0 a b a_in b_in)
           (subst (λ (s : Side). IsRaised (at c.loop-to.out a b) (λ code. IsSomeTurnedCode number code false (stand_on (with_king men side to) a b) s) worth (at c.raise_kept.new.out a b)) c.other.ensures
           (subst (λ (m : ShelfMen). IsRaised (at c.loop-to.out a b) (λ code. IsSomeTurnedCode number code false (stand_on m a b) c.other.result) worth (at c.raise_kept.new.out a b)) c.with_king-stepped.ensures
           (c.raise_kept.ensures.raised c.if-not-raise_kept.false a b a_in b_in)))
