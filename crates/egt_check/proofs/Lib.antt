@@ -28,6 +28,7 @@ pub mod LaneRight
 pub mod BlankKept
 pub mod PairsJudged
 pub mod RunsKept
+pub mod LoneJudged
 pub mod PartGiven
 pub mod PawnGiven
 pub mod PawnsGiven

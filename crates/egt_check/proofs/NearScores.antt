@@ -19,7 +19,7 @@ raised_same low v In f g same raised = record {
 }
 
 module _ (or_void : (c code : ℕ) → c < 36 → ((p : Setup) × Spells c code p × IsIndex c p code) ⊎ IsVoid c code) where
-  near_raised : (t : TableValue) (low v : ℕ) (In : ℕ → Type 0) → IsTable (near t) → HasBytes (near t) → IsRaised low In (column_score t columns.Reach) v → IsRaised low In (score_at (near t) Mate) v
+  pub near_raised : (t : TableValue) (low v : ℕ) (In : ℕ → Type 0) → IsTable (near t) → HasBytes (near t) → IsRaised low In (column_score t columns.Reach) v → IsRaised low In (score_at (near t) Mate) v
   near_raised t low v In is_table bytes = raised_same low v In (column_score t columns.Reach) (score_at (near t) Mate) (near_scores t is_table bytes (λ i. or_void t.class i is_table.class_in))
 
   -- ---- of a pawn

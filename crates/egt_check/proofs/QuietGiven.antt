@@ -1,54 +1,45 @@
 -- The greatest scores of the codes of quiet steps are those of the quiet moves.
-use Rattle.std.proofs.Common.{◌≡◌, ℕ, ◌%◌, ◌<◌, ◌≤◌, Bool, false, Some, arith, sym, ap, inl, inr, subst}
-use Rattle.egt_check.specs.Prelude.{other_side, Setup, Side, White, Black, IsIndex, AllStand, HasStand, list_of}
+use Rattle.std.proofs.Common.{◌≡◌, ℕ, ◌%◌, ◌<◌, ◌≤◌, false, Some, arith, refl, sym, ap, inl, inr, subst}
+use Rattle.egt_check.specs.Prelude.{Setup, Side, White, Black, IsIndex, AllStand, HasStand, IsSomeTurnedCode, list_of}
 use Rattle.egt_check.specs.Prelude.{ShelfMen, Stand, IsRaised, byte_score, Zeroes, Leads, Move, IsTable, TableValue}
 use Rattle.egt_check.specs.Prelude.{Metric, Mate, Zeroing, stand_on, with_king, Facts, AreAlike, AreGiven, HasScores}
-use Rattle.egt_check.specs.Prelude.{AreQuietCodes, IsQuietStand, HasEntry, Tables, entry_at, HasBytes, IsBestOf}
-use Rattle.egt_check.specs.Prelude.{score_at}
+use Rattle.egt_check.specs.Prelude.{IsQuietAlone, IsQuietStand, stand_alone, HasEntry, Tables, entry_at, HasBytes}
+use Rattle.egt_check.specs.Prelude.{IsBestOf, score_at}
 use Rattle.egt_check.proofs.Told.{entry_there}
 use Rattle.egt_check.proofs.Worth.{AreWhole, Turning, best_of}
 
 pub low_score : (e : ℕ) → e < 254 → byte_score (e % 256) ≡ byte_score e
 low_score e low = let same : e % 256 ≡ e = omega arith in ap byte_score same
 
--- what is known of the moves that do not zero: they lead to the men after quiet steps, and to all positions of them
-pub record Quietly : Type 0 where
-  pub goes : (c : ℕ) (men : ShelfMen) (side : Side) (passed : Bool) (a b : ℕ) (p q : Setup) (m : Move) → c < 36 → HasStand c false (stand_on men a b) side passed p →
-      Leads p m q → ¬ Zeroes p m → (stand : Stand) × IsQuietStand men side a b stand × HasStand c false stand (other_side side) false q
-  pub comes : (c : ℕ) (men : ShelfMen) (side : Side) (passed : Bool) (a b : ℕ) (p q : Setup) (stand : Stand) → c < 36 → HasStand c false (stand_on men a b) side passed p →
-      IsQuietStand men side a b stand → HasStand c false stand (other_side side) false q → (m : Move) × Leads p m q × ¬ Zeroes p m
+-- ---- the men after a quiet step are on the board
 
-module _ (facts : Facts) (quietly : Quietly) (turning : Turning) (tables : Tables) (t : TableValue) (is_table : IsTable t) (found : tables t.class ≡ Some t) (bytes : HasBytes t)
-    (men : ShelfMen) (side : Side) (passed : Bool) (a b : ℕ) (p : Setup) (has : HasStand t.class false (stand_on men a b) side passed p) where
-  -- ---- the men after a quiet step
+pub quiet_whole : (men : ShelfMen) (side : Side) (a b : ℕ) (p : Setup) → AllStand false p.men (list_of (stand_on men a b)) → (stand : Stand) → IsQuietStand men side a b stand → AreWhole stand
+quiet_whole men side a b p apart stand (inl (k, beside, is)) = subst AreWhole (sym is) (of_side side)
+  where
+    of_side : (s : Side) → AreWhole (stand_on (with_king men s k) a b)
+    of_side White = record { filled = λ none. let e = none in cc; on_board = record { white = beside.0; black = apart.3.0; next = apart.3.3.0; last = apart.3.3.3.0 } }
+    of_side Black = record { filled = λ none. let e = none in cc; on_board = record { white = apart.0; black = beside.0; next = apart.3.3.0; last = apart.3.3.3.0 } }
+quiet_whole men side a b p apart stand (inr (inl (of, piece, to, to_in, reaches, is))) =
+    subst AreWhole (sym is) (record { filled = λ none. let e = none in cc; on_board = record { white = apart.0; black = apart.3.0; next = to_in; last = apart.3.3.3.0 } })
+quiet_whole men side a b p apart stand (inr (inr (of, piece, to, to_in, reaches, is))) =
+    subst AreWhole (sym is) (record { filled = λ none. let e = none in cc; on_board = record { white = apart.0; black = apart.3.0; next = apart.3.3.0; last = to_in } })
 
-  apart : AllStand false p.men (list_of (stand_on men a b))
-  apart = has.stood.all
+pub alone_whole : (men : ShelfMen) (side : Side) (s : ℕ) (p : Setup) → AllStand false p.men (list_of (stand_alone men s)) → (stand : Stand) → IsQuietAlone men side s stand → AreWhole stand
+alone_whole men side s p apart stand (inl (k, beside, is)) = subst AreWhole (sym is) (of_side side)
+  where
+    of_side : (x : Side) → AreWhole (stand_alone (with_king men x k) s)
+    of_side White = record { filled = λ none. refl; on_board = record { white = beside.0; black = apart.3.0; next = apart.3.3.0; last = tt } }
+    of_side Black = record { filled = λ none. refl; on_board = record { white = apart.0; black = beside.0; next = apart.3.3.0; last = tt } }
+alone_whole men side s p apart stand (inr (of, piece, to, to_in, reaches, is)) = subst AreWhole (sym is) (record { filled = λ none. refl; on_board = record { white = apart.0; black = apart.3.0; next = to_in; last = tt } })
 
-  white_in : men.white < 64
-  white_in = apart.0
-
-  black_in : men.black < 64
-  black_in = apart.3.0
-
-  one_in : a < 64
-  one_in = apart.3.3.0
-
-  last_in : b < 64
-  last_in = apart.3.3.3.0
-
-  whole : (stand : Stand) → IsQuietStand men side a b stand → AreWhole stand
-  whole stand (inl (k, beside, is)) = subst AreWhole (sym is) (of_side side)
-    where
-      of_side : (s : Side) → AreWhole (stand_on (with_king men s k) a b)
-      of_side White = record { filled = λ none. let e = none in cc; on_board = record { white = beside.0; black = black_in; next = one_in; last = last_in } }
-      of_side Black = record { filled = λ none. let e = none in cc; on_board = record { white = white_in; black = beside.0; next = one_in; last = last_in } }
-  whole stand (inr (inl (of, piece, to, to_in, reaches, is))) = subst AreWhole (sym is) (record { filled = λ none. let e = none in cc; on_board = record { white = white_in; black = black_in; next = to_in; last = last_in } })
-  whole stand (inr (inr (of, piece, to, to_in, reaches, is))) = subst AreWhole (sym is) (record { filled = λ none. let e = none in cc; on_board = record { white = white_in; black = black_in; next = one_in; last = to_in } })
-
+-- the moves that do not zero lead to these men with that side to move, and to all positions of them
+module _ (facts : Facts) (turning : Turning) (tables : Tables) (t : TableValue) (is_table : IsTable t) (found : tables t.class ≡ Some t) (bytes : HasBytes t)
+    (side : Side) (p : Setup) (In : Stand → Type 0) (whole : (stand : Stand) → In stand → AreWhole stand)
+    (goes : (q : Setup) (m : Move) → Leads p m q → ¬ Zeroes p m → (stand : Stand) × In stand × HasStand t.class false stand side false q)
+    (comes : (q : Setup) (stand : Stand) → In stand → HasStand t.class false stand side false q → (m : Move) × Leads p m q × ¬ Zeroes p m) where
   -- ---- the scores of a quiet move
 
-  module _ (q : Setup) (stand : Stand) (there : HasStand t.class false stand (other_side side) false q) (i : ℕ) (index : IsIndex t.class q i) where
+  module _ (q : Setup) (stand : Stand) (there : HasStand t.class false stand side false q) (i : ℕ) (index : IsIndex t.class q i) where
     alike : AreAlike (entry_at t Mate i) (entry_at t Zeroing i)
     alike = bytes.alike i (facts.index_below q t.class i index) (λ void. void q there.admissible index)
 
@@ -68,10 +59,10 @@ module _ (facts : Facts) (quietly : Quietly) (turning : Turning) (tables : Table
       zeroing_is = (alike, low_score (entry_at t Zeroing i) alike.zeroing_known.low);
     }
 
-  module _ (mate zeroing : ℕ) (by_mate : IsBestOf t Mate (IsQuietStand men side a b) false (other_side side) mate) (by_zeroing : IsBestOf t Zeroing (IsQuietStand men side a b) false (other_side side) zeroing) where
+  module _ (mate zeroing : ℕ) (by_mate : IsBestOf t Mate In false side mate) (by_zeroing : IsBestOf t Zeroing In false side zeroing) where
     above : (q : Setup) (m : Move) → Leads p m q → ¬ Zeroes p m → (x z : ℕ) × HasScores tables p q m x z × (x ≤ mate) × (z ≤ zeroing)
     above q m leads quiet =
-        let (stand, is, there) = quietly.goes t.class men side passed a b p q m is_table.class_in has leads quiet in
+        let (stand, is, there) = goes q m leads quiet in
         let (i, index, mate_above) = by_mate.above stand q is there in
         let (j, other, zeroing_above) = by_zeroing.above stand q is there in (
           score_at t Mate i,
@@ -87,7 +78,7 @@ module _ (facts : Facts) (quietly : Quietly) (turning : Turning) (tables : Table
       mate_given = elim by_mate.reached [
         | inl none ↦ inl none
         | inr h ↦
-            let (m, leads, quiet) = quietly.comes t.class men side passed a b p h.position h.stand is_table.class_in has h.in_stands h.has in
+            let (m, leads, quiet) = comes h.position h.stand h.in_stands h.has in
             inr (
               score_at t Zeroing h.index,
               record { move = m; next = h.position; leads = leads; among = quiet; scores = subst (λ x. HasScores tables p h.position m x (score_at t Zeroing h.index)) (sym h.is) (scores h.position h.stand h.has h.index h.is_index m quiet) },
@@ -96,7 +87,7 @@ module _ (facts : Facts) (quietly : Quietly) (turning : Turning) (tables : Table
       zeroing_given = elim by_zeroing.reached [
         | inl none ↦ inl none
         | inr h ↦
-            let (m, leads, quiet) = quietly.comes t.class men side passed a b p h.position h.stand is_table.class_in has h.in_stands h.has in
+            let (m, leads, quiet) = comes h.position h.stand h.in_stands h.has in
             inr (
               score_at t Mate h.index,
               record { move = m; next = h.position; leads = leads; among = quiet; scores = subst (HasScores tables p h.position m (score_at t Mate h.index)) (sym h.is) (scores h.position h.stand h.has h.index h.is_index m quiet) },
@@ -104,8 +95,9 @@ module _ (facts : Facts) (quietly : Quietly) (turning : Turning) (tables : Table
       ];
     }
 
-  pub quiet_given : (mate zeroing : ℕ) → IsRaised 0 (AreQuietCodes t.class men side a b) (score_at t Mate) mate → IsRaised 0 (AreQuietCodes t.class men side a b) (score_at t Zeroing) zeroing → AreGiven tables p (λ m. ¬ Zeroes p m) mate zeroing
+  abbrev Codes : ℕ → Type 0
+  Codes code = (stand : Stand) × In stand × IsSomeTurnedCode t.class code false stand side
+
+  pub quiet_given : (mate zeroing : ℕ) → IsRaised 0 Codes (score_at t Mate) mate → IsRaised 0 Codes (score_at t Zeroing) zeroing → AreGiven tables p (λ m. ¬ Zeroes p m) mate zeroing
   quiet_given mate zeroing by_mate by_zeroing =
-      given mate zeroing
-      (best_of facts turning t Mate is_table bytes (IsQuietStand men side a b) false (other_side side) mate whole by_mate)
-      (best_of facts turning t Zeroing is_table bytes (IsQuietStand men side a b) false (other_side side) zeroing whole by_zeroing)
+      given mate zeroing (best_of facts turning t Mate is_table bytes In false side mate whole by_mate) (best_of facts turning t Zeroing is_table bytes In false side zeroing whole by_zeroing)

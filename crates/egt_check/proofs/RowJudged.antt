@@ -4,7 +4,7 @@ use Rattle.egt_check.specs.Prelude.{bit_at, Side, code_of, kind_digits, kind_les
 use Rattle.egt_check.specs.Prelude.{TellsMen, ShelfMen, Stand, IsRaised, TableValue, Column, column_score}
 
 -- the greatest of one number is that number
-raised_alone : (In : ℕ → Type 0) (f : ℕ → ℕ) (v t : ℕ) → In t → ((u : ℕ) → In u → u ≡ t) → IsRaised 0 In f v → v ≡ f t
+pub raised_alone : (In : ℕ → Type 0) (f : ℕ → ℕ) (v t : ℕ) → In t → ((u : ℕ) → In u → u ≡ t) → IsRaised 0 In f v → v ≡ f t
 raised_alone In f v t here alone raised = elim raised.reached [
   | inl none ↦ let above = raised.above t here in omega (arith, none, above)
   | inr there ↦ there.2 ∙ ap f (alone there.0 there.1)

@@ -11,6 +11,7 @@ pub mod Blank
 pub mod PairOrder
 pub mod Pairs
 pub mod Runs
+pub mod Alone
 pub mod PawnScores
 pub mod Place
 pub mod Parts

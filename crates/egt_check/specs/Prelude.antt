@@ -32,6 +32,7 @@ pub use Rattle.egt_board.specs.declared.man.Side.{Side}
 pub use Rattle.egt_board.specs.declared.man.Side.TheVariants.{Black, White}
 pub use Rattle.egt_board.specs.declared.square_set.SquareSet.{SquareSet}
 pub use Rattle.egt_check.specs.Alike.{StepAlike}
+pub use Rattle.egt_check.specs.Alone.{IsClockDue, IsDueAlone, IsJudgedRow, IsToldTable, MayJudge}
 pub use Rattle.egt_check.specs.Blank.{AreBlank, IsBlank}
 pub use Rattle.egt_check.specs.Found.{AreFound, AreTold, IsNearScore, IsPutIn, IsToldAt, IsToldEntry, IsToldFrom}
 pub use Rattle.egt_check.specs.Found.{IsValueScore, TellColumn, TellsEntry, near_told, table_told, told, value_told}
@@ -160,6 +161,7 @@ pub use Rattle.egt_steps.specs.InPassing.{IsPassingFrom, LeavesTarget}
 pub use Rattle.egt_steps.specs.PawnMoves.{AreAdvancedCodes, ArePromotedCodes, IsAdvance, IsAdvanceFrom, IsClassAfter}
 pub use Rattle.egt_steps.specs.PawnMoves.{IsPromotingCapture, IsPromotingCaptureFrom, men_after, officer_of}
 pub use Rattle.egt_steps.specs.PawnMoves.{stand_after, stand_in}
+pub use Rattle.egt_steps.specs.QuietAlone.{AreCodesAlone, IsQuietAlone, NoneZeroes, stand_alone}
 pub use Rattle.egt_steps.specs.QuietStands.{AreQuietCodes, IsClear, IsQuietStand}
 pub use Rattle.egt_steps.specs.Stands.{IsBesideKing, men_on, stand_on, with_king}
 pub use Rattle.egt_steps.specs.Takings.{IsClassOf, IsPastKings, IsPlainCapture, IsTaken, Left, left_of, stand_left}

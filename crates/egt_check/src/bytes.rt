@@ -11,7 +11,7 @@ use egt_lanes::near::column_is_near;
 use egt_table::{Column, Table};
 
 /// Whether at each code both entries are 0, or have bytes of their own, alike in both columns.
-fn are_alike(table: &Table) -> bool
+pub(crate) fn are_alike(table: &Table) -> bool
     ensures { result ≡ true → AreAllAlike table.now }
 {
     let mate = table.entries(Column::Mate);

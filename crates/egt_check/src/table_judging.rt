@@ -6,11 +6,12 @@ ghost use Rattle.egt_check.specs.Prelude.{with_kings, AreKept, AreChildren, AreF
 ghost use Rattle.egt_check.specs.Prelude.{column_of, four_in, promotion_in, promotions_in, table_in, tables_in};
 ghost use Rattle.egt_check.specs.Prelude.{AreNamed, ArePromotionsOf, HasPromotion, HasPromotions, AreRuns, IsJudgedPair};
 ghost use Rattle.egt_check.specs.Prelude.{IsPromotionOf, AreJudged, FourMen, men_swapped};
-ghost use Rattle.egt_check.specs.Prelude.{Tables, beside, table_at, HasBytes, column_score, Values};
+ghost use Rattle.egt_check.specs.Prelude.{Tables, HasChildren, beside, table_at, HasBytes, column_score, Values};
 
 use crate::block_judging::block_is_right;
 use crate::bytes::tells_bytes;
 use crate::library::Library;
+use crate::lone_runs::runs_by_rows;
 use crate::move_scores::{Children, FourMen, Moves, beside_own};
 use crate::pair_order::nth_pair;
 use crate::pairs::{MOST_PAIRS, Pairs, judged_pairs_hold_all_codes, pairs_of};
@@ -251,7 +252,7 @@ fn first_promotions<'t>(
 }
 
 /// Whether the man is a king.
-fn is_king(man: Man) -> bool
+pub(crate) fn is_king(man: Man) -> bool
     ensures { result ≡ false → man.kind ≢ K }
 {
     matches!(man.kind, Kind::K)
@@ -318,13 +319,15 @@ pub(crate) fn four_men<'t>(
     Some(beside_own(table, &children))
 }
 
-/// The codes of a class with two men beside the kings, and of which the entries of the mate column and of the zeroing
-/// column keep the rules beside those of the successors. `None` of any other class, and where a table does not tell it by
-/// bytes.
+/// The codes of a class, and of which the entries of the mate column and of the zeroing column keep the rules beside those of the successors: by blocks where
+/// two men stand beside the kings, and by rows where one does. `None` of the kings alone, and where a table does not tell it by bytes.
 pub(crate) fn runs_by_blocks(table: &Table, library: &Library) -> Option<Runs>
+    requires { HasChildren (table_at library.now) table.now.class }
     ensures { IfSome result (AreRuns Values (beside (table_at library.now) table.now) table.now) }
 {
-    let men = shelf_men(table.class(), 0)?;
+    let Some(men) = shelf_men(table.class(), 0) else {
+        return runs_by_rows(table, library, Part::Values);
+    };
     if !tells_bytes(table) {
         return None;
     }
