@@ -4,10 +4,24 @@ use Rattle.std.proofs.Common.{arith, refl, sym, ap, ◌∙◌, subst, slice_inde
 use Rattle.egt_blocks.specs.Prelude.{bit_at, bit_at_ones, Reaches, Rides-free, other_side, Advances, farthest_advance}
 use Rattle.egt_blocks.specs.Prelude.{forward, last_rank, pawn_of, rank_of, Kind, Man, Side, IsSomeTurnedCode, ShelfMen}
 use Rattle.egt_blocks.specs.Prelude.{kept_or_none, raised_among, at, IsRaised, FitsPromotion, IsOfficer, arriving}
-use Rattle.egt_blocks.specs.Prelude.{promotes, AreAdvancedCodes, ArePromotedCodes, officer_of, stand_after, IsClear}
-use Rattle.egt_blocks.specs.Prelude.{IsPastKings, left_of, stand_left, IsRead}
+use Rattle.egt_blocks.specs.Prelude.{promotes, AreAdvancedCodes, ArePromotedCodes, men_after, officer_of, stand_after}
+use Rattle.egt_blocks.specs.Prelude.{stand_on, Stand, IsClear, IsPastKings, left_of, stand_left, IsRead, IsReadWith}
 use Rattle.egt_blocks.proofs.BlockRaising.{raised_alike}
 use Rattle.egt_blocks.proofs.QuietRaising.{left_without, raised_through}
+
+-- ---- the men after an advance
+
+-- read in the order in which the class names them
+pub after_in_order : (c : ℕ) (worth : ℕ → ℕ) (passed before flips : Bool) (men : ShelfMen) (man : Man) (side : Side) (a t w : ℕ) (after : ShelfMen) (other : Side) → after ≡ men_after before flips men man → other ≡ side
+    → IsReadWith passed c worth flips (cond before (stand_on after t a) (stand_on after a t)) other w → IsReadWith passed c worth flips (stand_after before flips men a man t) side w
+after_in_order c worth passed before flips men man side a t w after other after_is side_is read =
+    subst (λ (stand : Stand). IsReadWith passed c worth flips stand side w) (named before)
+    (subst (λ (m : ShelfMen). IsReadWith passed c worth flips (cond before (stand_on m t a) (stand_on m a t)) side w) after_is
+    (subst (λ (s : Side). IsReadWith passed c worth flips (cond before (stand_on after t a) (stand_on after a t)) s w) side_is read))
+  where
+    named : (before : Bool) → cond before (stand_on (men_after before flips men man) t a) (stand_on (men_after before flips men man) a t) ≡ stand_after before flips men a man t
+    named true = refl
+    named false = refl
 
 -- ---- sets of squares
 

@@ -7,7 +7,7 @@ use Rattle.egt_blocks.specs.Prelude.{has_equal_sides, material_of, king_square, 
 use Rattle.egt_blocks.specs.Prelude.{has_pawns, king_base, men_bases, list_of, IsSomeTurnedCodeWith}
 use Rattle.egt_blocks.specs.Prelude.{swapped, turned_by, ShelfMen, Stand, at, IsRaised, Column, IsBesideKing, stand_on}
 use Rattle.egt_blocks.specs.Prelude.{with_king, IsCodeAfter, IsHomeCode, IsRaisedHome, men_across}
-use Rattle.egt_blocks.specs.Prelude.{settled_at, AreKept, IsReadWith, BlockKey}
+use Rattle.egt_blocks.specs.Prelude.{AreKept, IsReadWith, BlockKey}
 use Rattle.egt_board.proofs.Parts.{heads}
 
 -- all squares are of the set of all
@@ -159,10 +159,10 @@ module _ (passed : Bool) (c : ℕ) (flips : Bool) (side : Side) (code : ℕ) (me
 pub raised_greater : (u v w : ℕ) (A B In : ℕ → Type 0) (f : ℕ → ℕ) → IsRaised 0 A f u → IsRaised 0 B f v → w ≡ max u v → ((t : ℕ) → In t → A t ⊎ B t) → ((t : ℕ) → A t → In t) → ((t : ℕ) → B t → In t) → IsRaised 0 In f w
 raised_greater u v w A B In f first then is covers a_in b_in = raised_both 0 u w A B In f first (raised_max u B f v w then is) covers a_in b_in
 
-module _ (passed : Bool) (c : ℕ) (worth : ℕ → ℕ) (men : ShelfMen) (flips : Bool) (side : Side) (rows : SquareSet) (own across : List (List ℕ))
+module _ (passed : Bool) (c : ℕ) (worth : ℕ → ℕ) (men : ShelfMen) (flips : Bool) (side : Side) (rows : SquareSet) (own : List (List ℕ))
     (in_own : (a b : ℕ) → a < 64 → b < 64 → Has rows a → IsRaisedHome passed c worth flips (stand_on men a b) side 0 (at own a b))
-    (in_across : has_equal_sides c ≡ true → (a b : ℕ) → a < 64 → b < 64 → IsRaisedHome passed c worth (not flips) (stand_on (men_across men) b a) side 0 (at across b a))
-    (equal : Bool) (told : IsTrue equal ↔ (men.one ≡ men.last)) (all : equal ≡ true → (s : ℕ) → s < 64 → Has rows s) (a b : ℕ) (a_in : a < 64) (b_in : b < 64) (here : Has rows a) where
+    (equal : Bool) (told : IsTrue equal ↔ (men.one ≡ men.last)) (all : equal ≡ true → (s : ℕ) → s < 64 → Has rows s) (a b : ℕ) (a_in : a < 64) (b_in : b < 64) (here : Has rows a)
+    (low : ℕ) (low_is : low ≡ cond equal (max (at own a b) (at own b a)) (at own a b)) where
   Home : Bool → Stand → ℕ → Type 0
   Home exchanged stand code = IsHomeCode passed c code exchanged stand side
 
@@ -170,41 +170,47 @@ module _ (passed : Bool) (c : ℕ) (worth : ℕ → ℕ) (men : ShelfMen) (flips
   OwnCodes : ℕ → Type 0
   OwnCodes code = Home flips (stand_on men a b) code ⊎ ((men.one ≡ men.last) × Home flips (stand_on men b a) code)
 
-  own_raised : (e : Bool) → equal ≡ e → IsRaised 0 OwnCodes worth (cond e (max (at own a b) (at own b a)) (at own a b))
+  in_order : (e : Bool) → equal ≡ e → IsRaised 0 OwnCodes worth (cond e (max (at own a b) (at own b a)) (at own a b))
   unfolding OwnCodes Home
-  own_raised true is = raised_greater (at own a b) (at own b a) (max (at own a b) (at own b a)) (Home flips (stand_on men a b)) (Home flips (stand_on men b a)) OwnCodes worth (in_own a b a_in b_in here) (in_own b a b_in a_in (all is b b_in)) refl
+  in_order true is = raised_greater (at own a b) (at own b a) (max (at own a b) (at own b a)) (Home flips (stand_on men a b)) (Home flips (stand_on men b a)) OwnCodes worth (in_own a b a_in b_in here) (in_own b a b_in a_in (all is b b_in)) refl
       (λ code h. elim h [ inl first ↦ inl first | inr there ↦ inr there.1 ])
       (λ code first. inl first)
       (λ code there. inr (told.0 is, there))
-  own_raised false is = raised_alike 0 (at own a b) (Home flips (stand_on men a b)) OwnCodes worth (in_own a b a_in b_in here)
+  in_order false is = raised_alike 0 (at own a b) (Home flips (stand_on men a b)) OwnCodes worth (in_own a b a_in b_in here)
       (λ code h. elim h [ inl first ↦ first | inr there ↦ absurd (false≢true (sym is ∙ told.1 there.0)) ])
       (λ code first. inl first)
+
+  own_raised : IsRaised 0 OwnCodes worth low
+  own_raised = subst (IsRaised 0 OwnCodes worth) (sym low_is) (in_order equal refl)
 
   own_is_some : (code : ℕ) → OwnCodes code → IsSomeTurnedCodeWith passed c code flips (stand_on men a b) side
   unfolding OwnCodes Home
   own_is_some code (inl first) = home_is_some passed c flips side code men a b first
   own_is_some code (inr there) = other_is_some passed c flips side code men a b there.0 there.1
 
-  pub settled_raised : (sides : Bool) → has_equal_sides c ≡ sides → IsReadWith passed c worth flips (stand_on men a b) side (settled_at equal sides own across a b)
+  pub read_settled : (high : ℕ) → (has_equal_sides c ≡ false → high ≡ low) → (has_equal_sides c ≡ true → IsRaisedHome passed c worth (not flips) (stand_on (men_across men) b a) side low high) → IsReadWith passed c worth flips (stand_on men a b) side high
   unfolding OwnCodes Home
-  settled_raised true is =
-      raised_greater _ (at across b a) _ OwnCodes (Home (not flips) (stand_on (men_across men) b a)) (λ code. IsSomeTurnedCodeWith passed c code flips (stand_on men a b) side) worth (own_raised equal refl) (in_across is a b a_in b_in) refl
-      (λ code h. elim (some_parted passed c flips side code men a b h) [
-        | inl first ↦ inl (inl first)
-        | inr (inl other) ↦ inl (inr other)
-        | inr (inr beyond) ↦ inr beyond.1
-      ])
-      own_is_some
-      (λ code beyond. across_is_some passed c flips side code men a b is beyond)
-  settled_raised false is =
-      subst (IsRaised 0 (λ code. IsSomeTurnedCodeWith passed c code flips (stand_on men a b) side) worth) (omega arith)
-      (raised_alike 0 _ OwnCodes (λ code. IsSomeTurnedCodeWith passed c code flips (stand_on men a b) side) worth (own_raised equal refl)
-      (λ code h. elim (some_parted passed c flips side code men a b h) [
-        | inl first ↦ inl first
-        | inr (inl other) ↦ inr other
-        | inr (inr beyond) ↦ absurd (false≢true (sym is ∙ beyond.0))
-      ])
-      own_is_some)
+  read_settled high alone across = by (has_equal_sides c) refl
+    where
+      by : (sides : Bool) → has_equal_sides c ≡ sides → IsReadWith passed c worth flips (stand_on men a b) side high
+      by true is =
+          raised_both 0 low high OwnCodes (Home (not flips) (stand_on (men_across men) b a)) (λ code. IsSomeTurnedCodeWith passed c code flips (stand_on men a b) side) worth own_raised (across is)
+          (λ code h. elim (some_parted passed c flips side code men a b h) [
+            | inl first ↦ inl (inl first)
+            | inr (inl other) ↦ inl (inr other)
+            | inr (inr beyond) ↦ inr beyond.1
+          ])
+          own_is_some
+          (λ code beyond. across_is_some passed c flips side code men a b is beyond)
+      by false is =
+          subst (IsReadWith passed c worth flips (stand_on men a b) side) (sym (alone is))
+          (raised_alike 0 low OwnCodes (λ code. IsSomeTurnedCodeWith passed c code flips (stand_on men a b) side) worth own_raised
+          (λ code h. elim (some_parted passed c flips side code men a b h) [
+            | inl first ↦ inl first
+            | inr (inl other) ↦ inr other
+            | inr (inr beyond) ↦ absurd (false≢true (sym is ∙ beyond.0))
+          ])
+          own_is_some)
 
 -- ---- a king's steps
 

@@ -1,5 +1,5 @@
 -- What a block holds: a number for each square of the first man beside the kings and of the last.
-use Rattle.std.specs.Prelude.{if◌then◌else◌, max, List, ℕ, ◌+◌, ◌/◌, ◌%◌, ◌<◌, ◌==◌, Bool, false}
+use Rattle.std.specs.Prelude.{ℕ, ◌+◌, ◌/◌, ◌%◌, ◌<◌, ◌==◌, Bool, false}
 use Rattle.egt_board.specs.Turned.{turned_side, turned_square}
 use Rattle.egt_board.specs.Man.{other_side}
 use Rattle.egt_board.specs.declared.man.Side.{Side}
@@ -12,7 +12,6 @@ use Rattle.egt_index.specs.TellsMen.{TellsMen}
 use Rattle.egt_index.specs.TurnedMen.{IsSomeTurnedCode, turned_by}
 use Rattle.egt_index.specs.declared.shelf_codes.ShelfMen.{ShelfMen}
 use Rattle.egt_index.specs.declared.stand.Stand.{Stand}
-use Rattle.egt_lanes.specs.Blocks.{at}
 use Rattle.egt_lanes.specs.Raised.{IsRaised}
 use Rattle.egt_steps.specs.Stands.{men_on, stand_on, with_king}
 
@@ -49,10 +48,6 @@ IsRaisedAfter passed c worth turn stand side low high = IsRaised low (λ code. I
 -- the number raised to the scores of the codes of all such turns
 abbrev pub IsRaisedHome : (passed : Bool) → (c : ℕ) → (worth : ℕ → ℕ) → Bool → Stand → Side → (low high : ℕ) → Type 0
 IsRaisedHome passed c worth flips stand side low high = IsRaised low (λ code. IsHomeCode passed c code flips stand side) worth high
-
--- the greater of the block's number, of that in the other order where the men are equal, and of that across where both sides have the same men
-abbrev pub settled_at : (equal sides : Bool) (own across : List (List ℕ)) (a b : ℕ) → ℕ
-settled_at equal sides own across a b = max (if equal then max (at own a b) (at own b a) else at own a b) (if sides then at across b a else 0)
 
 -- codes of the men with that side's king on one of these squares, wherever turns take them, the other side to move
 abbrev pub AreKingCodes : (c : ℕ) (men : ShelfMen) (side : Side) (In : ℕ → Type 0) (a b code : ℕ) → Type 0

@@ -1,6 +1,6 @@
 -- The names that contracts and proofs cite, passed on from one place.
 pub use Rattle.egt_blocks.specs.Blocks.{AreKingCodes, AreShelvesOf, IsCodeAfter, IsHomeCode, IsRaisedAfter}
-pub use Rattle.egt_blocks.specs.Blocks.{IsRaisedHome, men_across, settled_at, turned_from}
+pub use Rattle.egt_blocks.specs.Blocks.{IsRaisedHome, men_across, turned_from}
 pub use Rattle.egt_blocks.specs.Kept.{AreKept, IsKept, IsOfMen, IsPlaced, key_of, wide_place}
 pub use Rattle.egt_blocks.specs.Leaps.{AreStill, IsBesideWhere, leap_rank}
 pub use Rattle.egt_blocks.specs.PassedRows.{IsAtPassed, IsPastPawns}

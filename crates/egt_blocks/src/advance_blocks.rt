@@ -1,12 +1,12 @@
 //! The scores of the positions after the last man beside the kings, a pawn, advances or is promoted where he takes the first.
-ghost use Rattle.std.specs.Prelude.{◌≡◌, ◌↔◌, ◌<◌, ◌==◌, ℕ, true, false, IfSome, IsTrue};
-ghost use Rattle.egt_blocks.specs.Prelude.{other_side, Advances, last_rank, pawn_of, rank_of, Has, turned_man};
-ghost use Rattle.egt_blocks.specs.Prelude.{IsLoneMan, AreMenOf, AdvancesBy, at, IsRaised, FitsPromotion, IsOfficer};
-ghost use Rattle.egt_blocks.specs.Prelude.{arriving, AreLeapCodes, AreStepCodes, AreStill, IsBesideWhere, leap_rank};
-ghost use Rattle.egt_blocks.specs.Prelude.{AreAdvancedCodes, ArePromotedCodes, men_after, men_two, officer_of};
-ghost use Rattle.egt_blocks.specs.Prelude.{stand_after, IsClear, IsPastKings, IsReadWith, ScoresNoVoids};
+ghost use Rattle.std.specs.Prelude.{◌≡◌, ◌↔◌, ◌<◌, ◌==◌, ℕ, true, false, if◌then◌else◌, IfSome};
+ghost use Rattle.egt_blocks.specs.Prelude.{Advances, last_rank, rank_of, Has, turned_man, IsLoneMan, AreMenOf};
+ghost use Rattle.egt_blocks.specs.Prelude.{AdvancesBy, at, IsRaised, FitsPromotion, IsOfficer, arriving, AreLeapCodes};
+ghost use Rattle.egt_blocks.specs.Prelude.{AreStepCodes, AreStill, IsBesideWhere, leap_rank, AreAdvancedCodes};
+ghost use Rattle.egt_blocks.specs.Prelude.{ArePromotedCodes, men_after, men_two, stand_on, IsClear, IsPastKings};
+ghost use Rattle.egt_blocks.specs.Prelude.{IsReadWith, ScoresNoVoids};
 
-use crate::blocks::{nothing, read_block};
+use crate::blocks::{Reading, nothing, read_block};
 use crate::men::{kings_of, men_swapped};
 use crate::own_men::{is_of, is_pawn_of, turned_man};
 use crate::scored::{LoneScores, ShelfScores};
@@ -64,42 +64,29 @@ pub(crate) fn past_kings(men: &ShelfMen) -> SquareSet
     SquareSet::ALL.without(kings_of(men))
 }
 
-/// The scores of the positions where the last man is now this one, the other side to move, and a target where one was passed: by the first one's square,
-/// if it is of `ones`, and his, if it is of `lasts`. False where the source does not tell.
+/// The scores of the positions with these men in these rows and lanes, which are exchanged where `before`. False where
+/// the source does not tell.
 fn read_after<S: ShelfScores>(
     source: &S,
-    column: Column,
+    reading: &Reading,
     before: bool,
-    flips: bool,
-    passed: bool,
     men: &ShelfMen,
-    man: Man,
-    ones: SquareSet,
-    lasts: SquareSet,
-    side: Side,
+    rows: SquareSet,
+    lanes: SquareSet,
     out: &mut Block,
 ) -> bool
-    requires there { S.has source.now column }
-    requires voids { ScoresNoVoids (S.number source.now) (S.worth source.now column) }
-    requires men { AreMenOf (S.number source.now) (men_after before flips men.now man) }
-    ensures { result ≡ true → (a t : ℕ) → a < 64 → t < 64 → Has ones a → Has lasts t → IsReadWith passed (S.number source.now) (S.worth source.now column) flips (stand_after before flips men.now a man t) (other_side side) (at out.new a t) }
+    requires there { S.has source.now reading.now.column }
+    requires voids { ScoresNoVoids (S.number source.now) (S.worth source.now reading.now.column) }
+    requires men { AreMenOf (S.number source.now) men.now }
+    ensures { result ≡ true → (a t : ℕ) → a < 64 → t < 64 → Has rows a → Has lanes t → IsReadWith reading.now.passed
+        (S.number source.now) (S.worth source.now reading.now.column) reading.now.flips
+        (if before then stand_on men.now t a else stand_on men.now a t) reading.now.side (at out.new a t) }
 {
-    let after = men_after(before, flips, men, man);
-    let other = side.other();
     if !before {
-        return read_block(source, column, flips, passed, &after, ones, other, out);
+        return read_block(source, reading, men, rows, out);
     }
     let mut scores = nothing();
-    if !read_block(
-        source,
-        column,
-        flips,
-        passed,
-        &after,
-        lasts,
-        other,
-        &mut scores,
-    ) {
+    if !read_block(source, reading, men, lanes, &mut scores) {
         return false;
     }
     *out = nothing();
@@ -120,50 +107,49 @@ fn raise_advances(men: &ShelfMen, arrivals: SquareSet, side: Side, scores: &Bloc
     }
 }
 
-/// The scores of the positions after the last man, a pawn of that side, advanced to the last rank and was promoted so. False where the source does not tell.
+/// The scores of the positions after the last man, a pawn of the same side, advanced to the last rank and was promoted to
+/// this man. False where the source does not tell.
 pub fn promotion_block<S: ShelfScores>(
     source: &S,
     column: Column,
     before: bool,
     flips: bool,
     men: &ShelfMen,
-    kind: Kind,
-    side: Side,
+    man: Man,
     out: &mut Block,
 ) -> bool
     requires there { S.has source.now column }
     requires voids { ScoresNoVoids (S.number source.now) (S.worth source.now column) }
-    requires men { AreMenOf (S.number source.now) (men_after before flips men.now (arriving men.now.last (Some kind))) }
-    requires officer { IsOfficer kind }
+    requires men { AreMenOf (S.number source.now) (men_after before flips men.now (arriving men.now.last (Some man.kind))) }
+    requires officer { IsOfficer man.kind }
     ensures { result ≡ true → (a b : ℕ) → a < 64 → b < 64 →
-        IsRaised 0 (AreAdvancedCodes (S.number source.now) before flips men.now side (Some kind) a b) (S.worth source.now column) (at out.new a b) }
+        IsRaised 0 (AreAdvancedCodes (S.number source.now) before flips men.now man.side (Some man.kind) a b) (S.worth source.now column) (at out.new a b) }
 {
     *out = nothing();
-    if !is_pawn_of(men.last, side) {
+    if !is_pawn_of(men.last, man.side) {
         return true;
     }
-    let man = Man {
-        side: men.last.side,
-        kind,
+    let reading = Reading {
+        column,
+        flips,
+        passed: false,
+        side: man.side.other(),
     };
-    let arrivals = arrivals(Some(kind), side);
+    let arrivals = arrivals(Some(man.kind), man.side);
+    let after = men_after(before, flips, men, man);
     let mut scores = nothing();
     if !read_after(
         source,
-        column,
+        &reading,
         before,
-        flips,
-        false,
-        men,
-        man,
+        &after,
         SquareSet::ALL,
         arrivals,
-        side,
         &mut scores,
     ) {
         return false;
     }
-    raise_advances(men, arrivals, side, &scores, out);
+    raise_advances(men, arrivals, man.side, &scores, out);
     true
 }
 
@@ -262,20 +248,23 @@ pub fn leap_block<S: ShelfScores>(
     if !is_pawn_of(men.last, side) || !is_pawn_of(men.one, side.other()) {
         return true;
     }
+    let reading = Reading {
+        column,
+        flips: false,
+        passed: true,
+        side: side.other(),
+    };
     // He who may take stands beside.
     let squares = leap_squares(side);
+    let after = men_after(first, false, men, men.last);
     let mut scores = nothing();
     if !read_after(
         source,
-        column,
+        &reading,
         first,
-        false,
-        true,
-        men,
-        men.last,
+        &after,
         squares,
         squares,
-        side,
         &mut scores,
     ) {
         return false;
@@ -284,39 +273,32 @@ pub fn leap_block<S: ShelfScores>(
     true
 }
 
-/// The scores of the positions after the last man, a pawn of that side, took the first on the last rank and was promoted so. False where the source does
-/// not tell.
+/// The scores of the positions after the last man, a pawn of the same side, took the first on the last rank and was
+/// promoted to this man. False where the source does not tell.
 pub fn promoting_block<S: LoneScores>(
     source: &S,
     column: Column,
     flips: bool,
     men: &ShelfMen,
-    kind: Kind,
-    side: Side,
+    man: Man,
     out: &mut Block,
 ) -> bool
     requires there { S.has source.now column }
-    requires lone { IsLoneMan (S.number source.now) (turned_man flips (officer_of side kind)) }
-    requires officer { IsOfficer kind }
+    requires lone { IsLoneMan (S.number source.now) (turned_man flips man) }
+    requires officer { IsOfficer man.kind }
     ensures { result ≡ true → (a b : ℕ) → a < 64 → b < 64 →
-        IsRaised 0 (ArePromotedCodes (S.number source.now) flips men.now side kind a b) (S.worth source.now column) (at out.new a b) }
+        IsRaised 0 (ArePromotedCodes (S.number source.now) flips men.now man.side man.kind a b) (S.worth source.now column) (at out.new a b) }
 {
     *out = nothing();
-    if !is_pawn_of(men.last, side) || !is_of(men.one, side.other()) {
+    if !is_pawn_of(men.last, man.side) || !is_of(men.one, man.side.other()) {
         return true;
     }
-    let promoted = ShelfMen {
-        white: men.white,
-        black: men.black,
-        one: Man { side, kind },
-        on: men.on,
-        last: men.last,
-    };
+    let promoted = ShelfMen { one: man, ..*men };
     let mut scores = Row::splat(0);
-    if !read_left(source, column, flips, &promoted, side, &mut scores) {
+    if !read_left(source, column, flips, &promoted, man.side, &mut scores) {
         return false;
     }
-    let arrived = kept(scores, rank_squares(side.last_rank()));
+    let arrived = kept(scores, rank_squares(man.side.last_rank()));
     let mut takes = nothing();
     raise_takes(&men_swapped(men), &arrived, &mut takes);
     raise_transposed(out, &takes);

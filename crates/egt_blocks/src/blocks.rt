@@ -1,12 +1,11 @@
 //! The scores of the positions of a class with two men beside the kings, whose kings stand on two squares: a row for each square of the
 //! first man, a lane for each of the last. Each code has some turn of these men; codes that are not least score nothing.
 //! So the codes after a turn are not read where the kings tell that all of them are void.
-ghost use Rattle.std.specs.Prelude.{◌≡◌, ◌/◌, ◌%◌, ◌<◌, ◌↔◌, ◌==◌, ◌+◌, ℕ, Bool, false, true, not, IfSome, IsTrue};
+ghost use Rattle.std.specs.Prelude.{◌≡◌, ◌%◌, ◌<◌, ◌+◌, ℕ, Bool, false, true, if◌then◌else◌, max, not, IfSome};
 ghost use Rattle.std.specs.Prelude.{slice_index};
-ghost use Rattle.egt_blocks.specs.Prelude.{Has, turned_side, turned_square, Side, has_equal_sides, material_of};
-ghost use Rattle.egt_blocks.specs.Prelude.{symmetries, IsVoid, AreMenOf, has_pawns, IsTurnedCodeWith, at, stand_on};
-ghost use Rattle.egt_blocks.specs.Prelude.{AreShelvesOf, IsRaisedAfter, IsRaisedHome, men_across, settled_at};
-ghost use Rattle.egt_blocks.specs.Prelude.{turned_from, IsReadWith, ScoresNoVoids};
+ghost use Rattle.egt_blocks.specs.Prelude.{Has, Side, has_equal_sides, material_of, symmetries, IsVoid, AreMenOf};
+ghost use Rattle.egt_blocks.specs.Prelude.{has_pawns, IsTurnedCodeWith, at, stand_on, AreShelvesOf, IsRaisedAfter};
+ghost use Rattle.egt_blocks.specs.Prelude.{IsRaisedHome, men_across, turned_from, IsReadWith, ScoresNoVoids};
 
 use crate::digits::{digits_of, first_square};
 use crate::men::{are_equal, men_across, men_on, side_after, turned_from};
@@ -24,6 +23,16 @@ use egt_lanes::turn::turned;
 use egt_lanes::{Block, Row};
 use egt_table::Column;
 use std::simd::prelude::*;
+
+/// Which of a class's positions are read, and what of them: their scores in the column, with this side to move, in
+/// colours exchanged where `flips`, and a target where one was passed.
+#[derive(Clone, Copy)]
+pub struct Reading {
+    pub column: Column,
+    pub flips: bool,
+    pub passed: bool,
+    pub side: Side,
+}
 
 /// The first shelf of the men, with a target where one was passed: there is one for each digit of the first man, in their order. `None` where there are none.
 fn shelves_of(class: Class, men: &ShelfMen, passed: bool) -> Option<u32>
@@ -52,26 +61,24 @@ pub fn begin_with(class: Class, men: &ShelfMen, passed: bool, first: u32) -> boo
     }
 }
 
-/// The scores of the codes after the turn, with the first man on this square and a target where one was passed. Nothing
-/// is read where the square is none of these rows.
+/// The scores of the codes after the turn, with the first man on this square. Nothing is read where the square is none
+/// of these rows.
 #[inline(always)]
 fn row_after<S: ShelfScores>(
     source: &S,
-    column: Column,
+    reading: &Reading,
     men: &ShelfMen,
     rows: SquareSet,
     first: u32,
     on: Square,
-    side: Side,
     turn: u8,
-    passed: bool,
 ) -> Row
-    requires there { S.has source.now column }
+    requires there { S.has source.now reading.now.column }
     requires turn { turn < 16 }
-    requires shelves { AreShelvesOf passed (S.number source.now) (turned_from men.now on turn) first }
+    requires shelves { AreShelvesOf reading.now.passed (S.number source.now) (turned_from men.now on turn) first }
     requires room { first + 64 < 4294967296 }
-    ensures { (b : ℕ) → b < 64 → Has rows on → IsRaisedAfter passed (S.number source.now) (S.worth source.now column)
-        turn (stand_on men.now on b) side 0 (slice_index result b) }
+    ensures { (b : ℕ) → b < 64 → Has rows on → IsRaisedAfter reading.now.passed (S.number source.now)
+        (S.worth source.now reading.now.column) turn (stand_on men.now on b) reading.now.side 0 (slice_index result b) }
 {
     codes_tell_turned_men();
     if !rows.contains(on) {
@@ -82,7 +89,8 @@ fn row_after<S: ShelfScores>(
         return Row::splat(0);
     }
     let shelf = first + u32::from(there.on.number() - first_square(there.one));
-    let row = source.shelf_row(column, &there, shelf, side_after(side, turn), passed);
+    let side = side_after(reading.side, turn);
+    let row = source.shelf_row(reading.column, &there, shelf, side, reading.passed);
     turned(row, turn)
 }
 
@@ -98,21 +106,19 @@ fn are_void_after(class: Class, men: &ShelfMen, turn: u8) -> bool
 /// Writes the scores of the codes after the turn to these rows of the block. False where the source does not tell.
 fn turned_block<S: ShelfScores>(
     source: &S,
-    column: Column,
+    reading: &Reading,
     men: &ShelfMen,
     rows: SquareSet,
-    side: Side,
     turn: u8,
-    passed: bool,
     out: &mut Block,
 ) -> bool
-    requires there { S.has source.now column }
-    requires voids { ScoresNoVoids (S.number source.now) (S.worth source.now column) }
+    requires there { S.has source.now reading.now.column }
+    requires voids { ScoresNoVoids (S.number source.now) (S.worth source.now reading.now.column) }
     requires men { AreMenOf (S.number source.now) men.now }
     requires turn { turn < 16 }
     requires keeps { turn % 8 < symmetries (has_pawns (material_of (S.number source.now))) }
-    ensures { result ≡ true → (a b : ℕ) → a < 64 → b < 64 → Has rows a → IsRaisedAfter passed (S.number source.now)
-        (S.worth source.now column) turn (stand_on men.now a b) side 0 (at out.new a b) }
+    ensures { result ≡ true → (a b : ℕ) → a < 64 → b < 64 → Has rows a → IsRaisedAfter reading.now.passed (S.number source.now)
+        (S.worth source.now reading.now.column) turn (stand_on men.now a b) reading.now.side 0 (at out.new a b) }
 {
     let class = source.class();
     // Void codes score nothing.
@@ -121,13 +127,13 @@ fn turned_block<S: ShelfScores>(
         return true;
     }
     let there = turned_from(men, men.on, turn);
-    let Some(first) = shelves_of(class, &there, passed) else {
+    let Some(first) = shelves_of(class, &there, reading.passed) else {
         return false;
     };
     // Each row is written once, since the block is seldom in the cache.
     for a in 0..64u8 {
         let on = Square::at(a);
-        out[usize::from(a)] = row_after(source, column, men, rows, first, on, side, turn, passed);
+        out[usize::from(a)] = row_after(source, reading, men, rows, first, on, turn);
     }
     true
 }
@@ -136,76 +142,30 @@ fn turned_block<S: ShelfScores>(
 /// of the block. False where the source does not tell.
 fn home_block<S: ShelfScores>(
     source: &S,
-    column: Column,
+    reading: &Reading,
     men: &ShelfMen,
     rows: SquareSet,
-    flips: bool,
-    passed: bool,
-    side: Side,
     out: &mut Block,
 ) -> bool
-    requires there { S.has source.now column }
-    requires voids { ScoresNoVoids (S.number source.now) (S.worth source.now column) }
+    requires there { S.has source.now reading.now.column }
+    requires voids { ScoresNoVoids (S.number source.now) (S.worth source.now reading.now.column) }
     requires men { AreMenOf (S.number source.now) men.now }
-    ensures { result ≡ true → (a b : ℕ) → a < 64 → b < 64 → Has rows a → IsRaisedHome passed (S.number source.now)
-        (S.worth source.now column) flips (stand_on men.now a b) side 0 (at out.new a b) }
+    ensures { result ≡ true → (a b : ℕ) → a < 64 → b < 64 → Has rows a → IsRaisedHome reading.now.passed (S.number source.now)
+        (S.worth source.now reading.now.column) reading.now.flips (stand_on men.now a b) reading.now.side 0 (at out.new a b) }
 {
-    let (first, second) = home(has_pawns(source.class()), flips, men.white);
-    if !turned_block(source, column, men, rows, side, first, passed, out) {
+    let (first, second) = home(has_pawns(source.class()), reading.flips, men.white);
+    if !turned_block(source, reading, men, rows, first, out) {
         return false;
     }
     match second {
         Some(second) => {
             let mut other = nothing();
-            let told = turned_block(source, column, men, rows, side, second, passed, &mut other);
+            let told = turned_block(source, reading, men, rows, second, &mut other);
             raise(out, &other);
             told
         }
         None => true,
     }
-}
-
-/// Writes the scores of the codes in these colours to these rows of the one block, and where both sides have the same
-/// men those with colours exchanged to the other, there with rows for the last man's square and lanes for the first
-/// one's. False where the source does not tell.
-#[tactic(auto, using(crate::proofs::BlockRaising::all_squares))]
-pub fn gather<S: ShelfScores>(
-    source: &S,
-    column: Column,
-    men: &ShelfMen,
-    rows: SquareSet,
-    flips: bool,
-    passed: bool,
-    side: Side,
-    own: &mut Block,
-    across: &mut Block,
-) -> bool
-    requires there { S.has source.now column }
-    requires voids { ScoresNoVoids (S.number source.now) (S.worth source.now column) }
-    requires men { AreMenOf (S.number source.now) men.now }
-    ensures own { result ≡ true → (a b : ℕ) → a < 64 → b < 64 → Has rows a → IsRaisedHome passed (S.number source.now)
-        (S.worth source.now column) flips (stand_on men.now a b) side 0 (at own.new a b) }
-    ensures across { result ≡ true → has_equal_sides (S.number source.now) ≡ true → (a b : ℕ) → a < 64 → b < 64 →
-        IsRaisedHome passed (S.number source.now) (S.worth source.now column) (not flips)
-        (stand_on (men_across men.now) b a) side 0 (at across.new b a) }
-    ensures same { has_equal_sides (S.number source.now) ≡ false → across.new ≡ across.old }
-{
-    if !home_block(source, column, men, rows, flips, passed, side, own) {
-        return false;
-    }
-    if !has_equal_sides(source.class()) {
-        return true;
-    }
-    home_block(
-        source,
-        column,
-        &men_across(men),
-        SquareSet::ALL,
-        !flips,
-        passed,
-        side,
-        across,
-    )
 }
 
 /// A block of nothing.
@@ -214,19 +174,6 @@ pub fn nothing() -> Block
     ensures { (a b : ℕ) → a < 64 → b < 64 → at result a b ≡ 0 }
 {
     [Row::splat(0); 64]
-}
-
-/// The block of the codes in either order of equal men, and of those with colours exchanged where both sides have the same men.
-pub fn settle(equal: bool, sides: bool, own: &mut Block, across: &Block)
-    ensures { (a b : ℕ) → a < 64 → b < 64 → at own.new a b ≡ settled_at equal sides own.old across.now a b }
-{
-    if equal {
-        let copy = *own;
-        raise_transposed(own, &copy);
-    }
-    if sides {
-        raise_transposed(own, across);
-    }
 }
 
 /// The rows that are read for these: all of them where the men are equal, since either of them is the first.
@@ -238,38 +185,70 @@ fn rows_read(equal: bool, rows: SquareSet) -> SquareSet
     if equal { SquareSet::ALL } else { rows }
 }
 
-/// The scores of the positions with these men, in colours exchanged where `flips`, and a target where one was passed, whose squares beside the kings are
-/// those of these rows and of all lanes; other rows may lack some. False where the source does not tell.
-pub fn read_block<S: ShelfScores>(
+/// Raises the scores to those in the other order of the men, where these are equal.
+fn raise_order(equal: bool, out: &mut Block)
+    ensures { (a b : ℕ) → a < 64 → b < 64 → at out.new a b ≡ (if equal then max (at out.old a b) (at out.old b a) else at out.old a b) }
+{
+    if equal {
+        let copy = *out;
+        raise_transposed(out, &copy);
+    }
+}
+
+/// Raises the scores, where both sides have the same men, to those of the codes in the other colours, which are told
+/// with rows for the last man's square and lanes for the first one's. False where the source does not tell.
+fn raise_across<S: ShelfScores>(
     source: &S,
-    column: Column,
-    flips: bool,
-    passed: bool,
+    reading: &Reading,
     men: &ShelfMen,
-    rows: SquareSet,
-    side: Side,
     out: &mut Block,
 ) -> bool
-    requires there { S.has source.now column }
-    requires voids { ScoresNoVoids (S.number source.now) (S.worth source.now column) }
+    requires there { S.has source.now reading.now.column }
+    requires voids { ScoresNoVoids (S.number source.now) (S.worth source.now reading.now.column) }
     requires men { AreMenOf (S.number source.now) men.now }
-    ensures { result ≡ true → (a b : ℕ) → a < 64 → b < 64 → Has rows a → IsReadWith passed (S.number source.now) (S.worth source.now column) flips (stand_on men.now a b) side (at out.new a b) }
+    ensures raised { result ≡ true → has_equal_sides (S.number source.now) ≡ true → (a b : ℕ) → a < 64 → b < 64 →
+        IsRaisedHome reading.now.passed (S.number source.now) (S.worth source.now reading.now.column) (not reading.now.flips)
+        (stand_on (men_across men.now) b a) reading.now.side (at out.old a b) (at out.new a b) }
+    ensures same { has_equal_sides (S.number source.now) ≡ false → out.new ≡ out.old }
 {
+    if !has_equal_sides(source.class()) {
+        return true;
+    }
+    let exchanged = Reading {
+        flips: !reading.flips,
+        ..*reading
+    };
     let mut across = nothing();
-    let equal = are_equal(men);
-    if !gather(
+    let told = home_block(
         source,
-        column,
-        men,
-        rows_read(equal, rows),
-        flips,
-        passed,
-        side,
-        out,
+        &exchanged,
+        &men_across(men),
+        SquareSet::ALL,
         &mut across,
-    ) {
+    );
+    raise_transposed(out, &across);
+    told
+}
+
+/// The scores of the positions with these men whose squares beside the kings are those of these rows and of all lanes;
+/// other rows may lack some. False where the source does not tell.
+pub fn read_block<S: ShelfScores>(
+    source: &S,
+    reading: &Reading,
+    men: &ShelfMen,
+    rows: SquareSet,
+    out: &mut Block,
+) -> bool
+    requires there { S.has source.now reading.now.column }
+    requires voids { ScoresNoVoids (S.number source.now) (S.worth source.now reading.now.column) }
+    requires men { AreMenOf (S.number source.now) men.now }
+    ensures { result ≡ true → (a b : ℕ) → a < 64 → b < 64 → Has rows a → IsReadWith reading.now.passed (S.number source.now)
+        (S.worth source.now reading.now.column) reading.now.flips (stand_on men.now a b) reading.now.side (at out.new a b) }
+{
+    let equal = are_equal(men);
+    if !home_block(source, reading, men, rows_read(equal, rows), out) {
         return false;
     }
-    settle(equal, has_equal_sides(source.class()), out, &across);
-    true
+    raise_order(equal, out);
+    raise_across(source, reading, men, out)
 }

@@ -5,7 +5,7 @@ ghost use Rattle.std.specs.Prelude.{◌≡◌, ◌<◌, ℕ, List, [], length, f
 ghost use Rattle.egt_blocks.specs.Prelude.{Side, AreMenOf, IsSomeTurnedCode, ShelfMen, at, IsRaised, Column, stand_on};
 ghost use Rattle.egt_blocks.specs.Prelude.{AreKept, IsOfMen, IsPlaced, key_of, wide_place, IsRead, ScoresNoVoids};
 
-use crate::blocks::read_block;
+use crate::blocks::{Reading, read_block};
 use crate::men::king_of_men;
 use crate::scored::ShelfScores;
 use egt_board::{Side, Square, SquareSet};
@@ -103,7 +103,13 @@ fn read_all<S: ShelfScores>(
     requires men { AreMenOf (S.number source.now) men.now }
     ensures { result ≡ true → (a b : ℕ) → a < 64 → b < 64 → IsRead (S.number source.now) (S.worth source.now column) false (stand_on men.now a b) side (at out.new a b) }
 {
-    read_block(source, column, false, false, men, SquareSet::ALL, side, out)
+    let reading = Reading {
+        column,
+        flips: false,
+        passed: false,
+        side,
+    };
+    read_block(source, &reading, men, SquareSet::ALL, out)
 }
 
 /// Reads the block of these men into the place, where it is not there. False where the source does not tell.

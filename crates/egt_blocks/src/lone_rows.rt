@@ -1,6 +1,6 @@
 //! The scores of the positions of a class with one man beside the kings, by his square.
 ghost use Rattle.std.specs.Prelude.{◌≡◌, ℕ, ◌<◌, false, true, slice_index};
-ghost use Rattle.egt_blocks.specs.Prelude.{IsLoneMan, IsLoneRow, lone_stand, TellsMen, IsRaised, IsRaisedAfter, IsRead};
+ghost use Rattle.egt_blocks.specs.Prelude.{IsLoneMan, lone_stand, IsRaisedAfter, IsRead};
 
 use crate::men::side_after;
 use crate::scored::LoneScores;
@@ -15,27 +15,34 @@ use egt_lanes::turn::turned;
 use egt_table::Column;
 use std::simd::prelude::*;
 
+/// One man beside the kings, and where these stand.
+#[derive(Clone, Copy)]
+pub struct LoneMen {
+    pub white: Square,
+    pub black: Square,
+    pub man: Man,
+}
+
 /// Raises the row to the scores of the codes after the turn. False where it does not tell.
 fn raise_lone<S: LoneScores>(
     source: &S,
     column: Column,
-    man: Man,
-    white: Square,
-    black: Square,
+    men: &LoneMen,
     side: Side,
     turn: u8,
     out: &mut Row,
 ) -> bool
     requires there { S.has source.now column }
-    requires man { IsLoneMan (S.number source.now) man }
+    requires man { IsLoneMan (S.number source.now) men.now.man }
     requires turn { turn < 16 }
-    ensures { result ≡ true → (s : ℕ) → s < 64 → IsRaisedAfter false (S.number source.now) (S.worth source.now column) turn (lone_stand white black man s) side (slice_index out.old s) (slice_index out.new s) }
+    ensures { result ≡ true → (s : ℕ) → s < 64 → IsRaisedAfter false (S.number source.now) (S.worth source.now column) turn (lone_stand men.now.white men.now.black men.now.man s) side (slice_index out.old s) (slice_index out.new s) }
 {
-    let there = (turned_square(turn, white), turned_square(turn, black));
-    let Some(first) = lone_row(source.class(), man, there.0, there.1) else {
+    let white = turned_square(turn, men.white);
+    let black = turned_square(turn, men.black);
+    let Some(first) = lone_row(source.class(), men.man, white, black) else {
         return false;
     };
-    let row = source.lone_row(column, man, there.0, there.1, first, side_after(side, turn));
+    let row = source.lone_row(column, men.man, white, black, first, side_after(side, turn));
     *out = greater(*out, turned(row, turn));
     true
 }
@@ -45,25 +52,23 @@ fn raise_lone<S: LoneScores>(
 pub fn read_lone<S: LoneScores>(
     source: &S,
     column: Column,
-    man: Man,
-    white: Square,
-    black: Square,
+    men: &LoneMen,
     flips: bool,
     side: Side,
     out: &mut Row,
 ) -> bool
     requires there { S.has source.now column }
-    requires man { IsLoneMan (S.number source.now) man }
-    ensures { result ≡ true → (s : ℕ) → s < 64 → IsRead (S.number source.now) (S.worth source.now column) flips (lone_stand white black man s) side (slice_index out.new s) }
+    requires man { IsLoneMan (S.number source.now) men.now.man }
+    ensures { result ≡ true → (s : ℕ) → s < 64 → IsRead (S.number source.now) (S.worth source.now column) flips (lone_stand men.now.white men.now.black men.now.man s) side (slice_index out.new s) }
 {
     let _number = source.class().number();
     *out = Row::splat(0);
-    let (first, second) = home(has_pawns(source.class()), flips, white);
-    if !raise_lone(source, column, man, white, black, side, first, out) {
+    let (first, second) = home(has_pawns(source.class()), flips, men.white);
+    if !raise_lone(source, column, men, side, first, out) {
         return false;
     }
     match second {
-        Some(second) => raise_lone(source, column, man, white, black, side, second, out),
+        Some(second) => raise_lone(source, column, men, side, second, out),
         None => true,
     }
 }

@@ -6,7 +6,7 @@ ghost use Rattle.egt_blocks.specs.Prelude.{IsRead};
 
 use crate::blocks::nothing;
 use crate::king_blocks::beside_king;
-use crate::lone_rows::read_lone;
+use crate::lone_rows::{LoneMen, read_lone};
 use crate::men::{kings_of, with_king};
 use crate::own_men::{is_of, turned_man};
 use crate::scored::LoneScores;
@@ -33,10 +33,12 @@ pub fn read_left<S: LoneScores>(
     requires lone { IsLoneMan (S.number source.now) (turned_man flips men.now.one) }
     ensures { result ≡ true → (s : ℕ) → s < 64 → IsRead (S.number source.now) (S.worth source.now column) flips (stand_left flips (left_of men.now men.now.one s)) (other_side side) (slice_index out.new s) }
 {
-    let white = if flips { men.black } else { men.white };
-    let black = if flips { men.white } else { men.black };
-    let man = turned_man(men.one, flips);
-    read_lone(source, column, man, white, black, flips, side.other(), out)
+    let there = LoneMen {
+        white: if flips { men.black } else { men.white },
+        black: if flips { men.white } else { men.black },
+        man: turned_man(men.one, flips),
+    };
+    read_lone(source, column, &there, flips, side.other(), out)
 }
 
 /// The scores where that side's king takes the last man: a row for each square on which it does, a lane for each of the first man's. False where the source

@@ -10,7 +10,7 @@ use egt_blocks::advance_blocks::{leap_block, promoting_block, promotion_block, s
 use egt_blocks::blocks::nothing;
 use egt_blocks::men::{are_equal, men_swapped};
 use egt_blocks::own_men::{is_of, is_pawn, is_pawn_of};
-use egt_board::{Kind, Side};
+use egt_board::{Kind, Man, Side};
 use egt_index::ShelfMen;
 use egt_index::men::has_equal_sides;
 use egt_lanes::Block;
@@ -54,6 +54,10 @@ fn raise_promotion(
     requires mine { men.now.last.side ≡ side }
     ensures { result ≡ true → (a b : ℕ) → a < 64 → b < 64 → IsPromotionScore column promotion.now men.now side a b (at out.old a b) (at out.new a b) }
 {
+    let man = Man {
+        side,
+        kind: promotion.kind,
+    };
     let mut scores = nothing();
     if !promotion_block(
         &TableScores {
@@ -63,8 +67,7 @@ fn raise_promotion(
         promotion.before,
         promotion.both_flips,
         men,
-        promotion.kind,
-        side,
+        man,
         &mut scores,
     ) {
         return false;
@@ -77,8 +80,7 @@ fn raise_promotion(
         column,
         promotion.alone_flips,
         men,
-        promotion.kind,
-        side,
+        man,
         &mut scores,
     ) {
         return false;

@@ -36,7 +36,8 @@ impl Ranks {
         requires { first + length entries.now ≤ length self.old }
         ensures length { length self.new ≡ length self.old }
         ensures here { (k : ℕ) → k < length entries.now → slice_index self.new (first + k) ≡ slice_index entries.now k }
-        ensures others { (i : ℕ) → (i < first) ⊎ (first + length entries.now ≤ i) → slice_index self.new i ≡ slice_index self.old i }
+        ensures others { (i : ℕ) → (i < first) ⊎ (first + length entries.now ≤ i) →
+            slice_index self.new i ≡ slice_index self.old i }
     {
         let first = first as usize;
         self.entries[first..first + entries.len()].copy_from_slice(entries);

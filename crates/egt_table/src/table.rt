@@ -1,5 +1,6 @@
 //! Tables.
-ghost use Rattle.std.specs.Prelude.{◌≡◌, ◌≢◌, ◌<◌, ◌≤◌, ◌+◌, ◌⊎◌, ◌↔◌, ℕ, length, slice_index, IsSome, IsOk, IfOk, IfErr, IsTrue};
+ghost use Rattle.std.specs.Prelude.{◌≡◌, ◌≢◌, ◌<◌, ◌≤◌, ◌+◌, ◌⊎◌, ◌↔◌, ℕ, length, slice_index, IsSome, IsOk, IfOk};
+ghost use Rattle.std.specs.Prelude.{IfErr, IsTrue};
 ghost use Rattle.egt_table.specs.Prelude.{size_of, HasColumn, IsTable, columns_of, entries_of, Reach};
 
 use crate::column::Column;
@@ -147,8 +148,10 @@ impl Table {
         ensures there { (other : Column) → HasColumn other self.old → HasColumn other self.new }
         ensures columns { (other : Column) → other ≢ column → entries_of other self.new ≡ entries_of other self.old }
         ensures reach { column ≢ Reach → self.new.reach ≡ self.old.reach }
-        ensures here { (k : ℕ) → k < length entries.now → slice_index (entries_of column self.new) (first + k) ≡ slice_index entries.now k }
-        ensures others { (i : ℕ) → (i < first) ⊎ (first + length entries.now ≤ i) → slice_index (entries_of column self.new) i ≡ slice_index (entries_of column self.old) i }
+        ensures here { (k : ℕ) → k < length entries.now →
+            slice_index (entries_of column self.new) (first + k) ≡ slice_index entries.now k }
+        ensures others { (i : ℕ) → (i < first) ⊎ (first + length entries.now ≤ i) →
+            slice_index (entries_of column self.new) i ≡ slice_index (entries_of column self.old) i }
     {
         match column {
             Column::Mate => self.mate.put(first, entries),

@@ -1,6 +1,6 @@
 use Rattle.std.proofs.Common.{◌≡◌, ◌<◌, ◌+◌, inl, inr, refl, ◌/◌, ◌%◌, eqb, arith, sym, ap, ◌∙◌, subst, slice_index}
 use Rattle.egt_blocks.specs.Prelude.{false≢true, get_or-replicate, MayStand, turned_side, turned_square, Side}
-use Rattle.egt_blocks.specs.Prelude.{kind_digits, kind_less, IsShelfOf, IsWithin, stand_with, TellsMen, turned_by}
+use Rattle.egt_blocks.specs.Prelude.{kind_digits, kind_less, IsShelfOf, stand_with, TellsMen, turned_by}
 use Rattle.egt_blocks.specs.Prelude.{ShelfMen, IsRaised, men_on, stand_on, IsCodeAfter, IsRaisedAfter, turned_from}
 use Rattle.egt_blocks.proofs.BlockRaising.{raised_by_none, turned_in}
 use Rattle.egt_blocks.proofs.ShelfRuns.{digit_there}
@@ -10,8 +10,8 @@ pub overflow_add-shelf : goal.overflow_add-shelf
 overflow_add-shelf g c = omega (arith, c.from.ensures, c.number.ensures.on_board, c.requires.room)
 
 -- the shelf is that of the first man's square there
-shelf_there : (g : _) (c : goal.After-side_after g) → IsShelfOf c.args.passed (g.S.ShelfScores.number c.args.source.now) (c.args.first + c.from.result) c.turned_from-there.result × IsWithin (g.S.ShelfScores.number c.args.source.now) (c.args.first + c.from.result)
-shelf_there g c =
+pub shelf_row-row-requires : goal.shelf_row-row-requires
+shelf_row-row-requires g c =
     let number = g.S.ShelfScores.number c.args.source.now in
     let there : ShelfMen = c.turned_from-there.result in
     let after = turned_from c.args.men.now c.args.on c.args.turn in
@@ -23,13 +23,11 @@ shelf_there g c =
     let square : c.from.result + kind_less there.one.kind ≡ there.on = omega (arith, c.from.ensures, c.number.ensures.value, c.first_square.ensures, low, high) in
     let shelf = c.requires.shelves c.from.result (subst (λ (men : ShelfMen). c.from.result < kind_digits men.one.kind) is below) in
     let on : c.from.result + kind_less after.one.kind ≡ after.on = subst (λ (men : ShelfMen). c.from.result + kind_less men.one.kind ≡ men.on) is square in
-    (subst (λ (men : ShelfMen). IsShelfOf c.args.passed number (c.args.first + c.from.result) men) (ap (men_on after) on ∙ sym is) shelf.0, shelf.1)
-
-pub shelf_row-row-requires-clause-shelf : goal.shelf_row-row-requires-clause-shelf
-shelf_row-row-requires-clause-shelf g c = (shelf_there g c).0
-
-pub shelf_row-row-requires-clause-within : goal.shelf_row-row-requires-clause-within
-shelf_row-row-requires-clause-within g c = (shelf_there g c).1
+    record {
+      there = c.requires.there;
+      shelf = subst (λ (men : ShelfMen). IsShelfOf c.args.reading.now.passed number (c.args.first + c.from.result) men) (ap (men_on after) on ∙ sym is) shelf.0;
+      within = shelf.1;
+    }
 
 pub returns-then-not-contains : goal.returns-then-not-contains
 returns-then-not-contains g c = λ b b_in here. absurd (false≢true (sym c.if-not-contains.true ∙ c.contains.ensures.1 here))
@@ -37,23 +35,23 @@ returns-then-not-contains g c = λ b b_in here. absurd (false≢true (sym c.if-n
 pub returns-then-not-may_stand : goal.returns-then-not-may_stand
 returns-then-not-may_stand g c = λ b b_in _.
     let number = g.S.ShelfScores.number c.args.source.now in
-    let worth = g.S.ShelfScores.worth c.args.source.now c.args.column in
+    let worth = g.S.ShelfScores.worth c.args.source.now c.args.reading.now.column in
     let stand = stand_on c.args.men.now c.args.on b in
-    subst (IsRaisedAfter c.args.passed number worth c.args.turn stand c.args.side 0) (sym (get_or-replicate 64 b 0 0 b_in))
-    (raised_by_none 0 (λ code. IsCodeAfter c.args.passed number c.args.turn code stand c.args.side) worth
+    subst (IsRaisedAfter c.args.reading.now.passed number worth c.args.turn stand c.args.reading.now.side 0) (sym (get_or-replicate 64 b 0 0 b_in))
+    (raised_by_none 0 (λ code. IsCodeAfter c.args.reading.now.passed number c.args.turn code stand c.args.reading.now.side) worth
     (λ code tells.
-    let may = c.codes_tell_turned_men.ensures.pawns c.args.passed number code (turned_by c.args.turn stand) (turned_side (eqb (c.args.turn / 8) 1) c.args.side) c.args.men.now.one (turned_square (c.args.turn % 8) (eqb (c.args.turn / 8) 1) c.args.on) tells (inr (inr (inl (refl, refl)))) in
+    let may = c.codes_tell_turned_men.ensures.pawns c.args.reading.now.passed number code (turned_by c.args.turn stand) (turned_side (eqb (c.args.turn / 8) 1) c.args.reading.now.side) c.args.men.now.one (turned_square (c.args.turn % 8) (eqb (c.args.turn / 8) 1) c.args.on) tells (inr (inr (inl (refl, refl)))) in
     let there = subst (λ (men : ShelfMen). MayStand men.one men.on) (sym c.turned_from-there.ensures) may in
     false≢true (sym c.if-not-may_stand.true ∙ c.may_stand.ensures.1 there)))
 
 pub returns : goal.returns
 returns g c = λ b b_in _.
     let number = g.S.ShelfScores.number c.args.source.now in
-    let worth = g.S.ShelfScores.worth c.args.source.now c.args.column in
+    let worth = g.S.ShelfScores.worth c.args.source.now c.args.reading.now.column in
     let flips = eqb (c.args.turn / 8) 1 in
     let s = turned_square (c.args.turn % 8) flips b in
     let row = slice_index c.shelf_row-row.result s in
-    subst (IsRaisedAfter c.args.passed number worth c.args.turn (stand_on c.args.men.now c.args.on b) c.args.side 0) (sym (c.turned.ensures b b_in))
-    (subst (λ (men : ShelfMen). IsRaised 0 (λ code. TellsMen c.args.passed number code (stand_with men s) (turned_side flips c.args.side)) worth row) c.turned_from-there.ensures
-    (subst (λ (side : Side). IsRaised 0 (λ code. TellsMen c.args.passed number code (stand_with c.turned_from-there.result s) side) worth row) c.side_after.ensures
+    subst (IsRaisedAfter c.args.reading.now.passed number worth c.args.turn (stand_on c.args.men.now c.args.on b) c.args.reading.now.side 0) (sym (c.turned.ensures b b_in))
+    (subst (λ (men : ShelfMen). IsRaised 0 (λ code. TellsMen c.args.reading.now.passed number code (stand_with men s) (turned_side flips c.args.reading.now.side)) worth row) c.turned_from-there.ensures
+    (subst (λ (side : Side). IsRaised 0 (λ code. TellsMen c.args.reading.now.passed number code (stand_with c.turned_from-there.result s) side) worth row) c.side_after-side.ensures
     (c.shelf_row-row.ensures s (turned_in flips (c.args.turn % 8) b (omega arith) b_in))))
