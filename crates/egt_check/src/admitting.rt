@@ -1,7 +1,7 @@
 //! A library takes a table that passes the check beside its own.
 ghost use Rattle.std.specs.Prelude.{◌≡◌, ◌↔◌, ℕ, None, IsOk, IfErr};
 
-use crate::checking::check;
+use crate::checking::checked;
 use crate::laws::rules_are_kept_by_true_tables_alone;
 use crate::library::Library;
 use crate::shelved::Shelved;
@@ -32,10 +32,12 @@ impl Library {
         if self.places[place].is_some() {
             return Err((table, Reject::AlreadyThere));
         }
-        if let Err(reject) = check(&table, self) {
-            return Err((table, reject));
+        match checked(&table, self) {
+            Ok(telling) => {
+                self.places[place] = Some(Shelved::new(table, telling));
+                Ok(())
+            }
+            Err(reject) => Err((table, reject)),
         }
-        self.places[place] = Some(Shelved::new(table));
-        Ok(())
     }
 }

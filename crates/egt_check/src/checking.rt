@@ -1,9 +1,9 @@
 //! The judgement of a whole table.
-ghost use Rattle.std.specs.Prelude.{◌≡◌, ◌↔◌, ◌≤◌, IsOk, IfOk, IfErr, IfSome, IfNone, IsSome, IsTrue};
+ghost use Rattle.std.specs.Prelude.{◌≡◌, ◌↔◌, ◌≤◌, IsOk, IfOk, IfErr, IfSome, IfNone, IsSome, IsTrue, true};
 ghost use Rattle.egt_check.specs.Prelude.{size_of, Metric, Mate, table_at, beside, HasChildren, HasReachChildren};
 ghost use Rattle.egt_check.specs.Prelude.{IsAccepted, IsRefused, IsFirstBreak, IsFirstLacking, IsFirstMissing};
 ghost use Rattle.egt_check.specs.Prelude.{LacksReach, ReachesDown, KeepsBelow, KeepsReachBelow, earlier, IsFirstBad};
-ghost use Rattle.egt_check.specs.Prelude.{IsFirstBadReach, AreRuns, Reach};
+ghost use Rattle.egt_check.specs.Prelude.{IsFirstBadReach, AreRuns, IsKnownToTell, TellsPart, Reach, Values};
 ghost use Rattle.egt_table.specs.declared.column.Column.TheVariants as columns;
 
 use crate::judging::judge;
@@ -11,6 +11,7 @@ use crate::library::Library;
 use crate::reach_blocks::reach_runs_by_blocks;
 use crate::reach_judging::judge_reach;
 use crate::runs::{Runs, is_right, runs_or_one};
+use crate::shelved::Telling;
 use crate::table_judging::runs_by_blocks;
 use egt_class::laws::children_have_smaller_numbers;
 use egt_class::{Class, children};
@@ -105,17 +106,21 @@ fn judge_run(
 }
 
 /// Judges all entries of these columns, those of each run that blocks do not tell to be right one by one.
-fn judge_table(table: &Table, library: &Library) -> Result<Option<(u32, Rule)>, (u32, Rule)>
-    requires { HasChildren (table_at library.now) table.now.class }
+fn judge_table(
+    table: &Table,
+    library: &Library,
+    runs: &Runs,
+) -> Result<Option<(u32, Rule)>, (u32, Rule)>
+    requires children { HasChildren (table_at library.now) table.now.class }
+    requires runs { AreRuns Values (beside (table_at library.now) table.now) table.now runs.now }
     ensures kept { IfOk result (λ bad. KeepsBelow (beside (table_at library.now) table.now) table.now Mate (size_of table.now.class)) }
     ensures zeroing { IfOk result (IsFirstBad (beside (table_at library.now) table.now) table.now (size_of table.now.class)) }
     ensures broken { IfErr result (λ bad. IsFirstBreak (beside (table_at library.now) table.now) table.now columns.Mate bad.0 bad.1) }
 {
     let _size = size(table.class());
-    let runs = runs_or_one(runs_by_blocks(table, library), table.class());
     let mut bad = None;
     for run in 0..runs.count {
-        if is_right(&runs, run) {
+        if is_right(runs, run) {
             continue;
         }
         let first = run * runs.len;
@@ -125,14 +130,16 @@ fn judge_table(table: &Table, library: &Library) -> Result<Option<(u32, Rule)>, 
 }
 
 /// Judges every entry of the mate column and of the zeroing column of a table whose class's children have their tables: the mate column to its first
-/// bad entry, and the zeroing column beside it.
-fn judge_values(table: &Table, library: &Library) -> Result<(), Reject>
+/// bad entry, and the zeroing column beside it. Whether the table's bytes were found to tell their entries.
+fn judge_values(table: &Table, library: &Library) -> Result<bool, Reject>
     requires children { HasChildren (table_at library.now) table.now.class }
     requires down { ReachesDown (table_at library.now) table.now }
     ensures exact { IsOk result ↔ ((metric : Metric) → KeepsBelow (beside (table_at library.now) table.now) table.now metric (size_of table.now.class)) }
     ensures reason { IfErr result (IsRefused (table_at library.now) table.now) }
+    ensures told { IfOk result (λ tells. tells ≡ true → TellsPart Values table.now) }
 {
-    match judge_table(table, library) {
+    let runs = runs_or_one(runs_by_blocks(table, library), table.class());
+    match judge_table(table, library, &runs) {
         Err((index, rule)) => Err(Reject::Rejected {
             column: Column::Mate,
             index,
@@ -143,7 +150,7 @@ fn judge_values(table: &Table, library: &Library) -> Result<(), Reject>
             index,
             rule,
         }),
-        Ok(None) => Ok(()),
+        Ok(None) => Ok(runs.tells),
     }
 }
 
@@ -189,14 +196,15 @@ fn first_bad_reach(table: &Table, library: &Library, runs: &Runs) -> Option<(u32
 }
 
 /// Judges every entry of the column of the nearest mates, where all others keep the rules: those of each run that blocks do
-/// not tell to be right one by one.
-fn judge_reaches(table: &Table, library: &Library) -> Result<(), Reject>
+/// not tell to be right one by one. Whether the table's bytes were found to tell its entries.
+fn judge_reaches(table: &Table, library: &Library) -> Result<bool, Reject>
     requires there { IsSome table.now.reach }
     requires children { HasChildren (table_at library.now) table.now.class }
     requires reach_children { HasReachChildren (table_at library.now) table.now.class }
     requires values { (metric : Metric) → KeepsBelow (beside (table_at library.now) table.now) table.now metric (size_of table.now.class) }
     ensures exact { IsOk result ↔ KeepsReachBelow (beside (table_at library.now) table.now) table.now (size_of table.now.class) }
     ensures reason { IfErr result (IsRefused (table_at library.now) table.now) }
+    ensures told { IfOk result (λ tells. tells ≡ true → TellsPart Reach table.now) }
 {
     let runs = runs_or_one(reach_runs_by_blocks(table, library), table.class());
     match first_bad_reach(table, library, &runs) {
@@ -205,7 +213,7 @@ fn judge_reaches(table: &Table, library: &Library) -> Result<(), Reject>
             index,
             rule,
         }),
-        None => Ok(()),
+        None => Ok(runs.tells),
     }
 }
 
@@ -238,11 +246,25 @@ pub fn check(table: &Table, library: &Library) -> Result<(), Reject>
     ensures exact { IsOk result ↔ IsAccepted (table_at library.now) table.now }
     ensures reason { IfErr result (IsRefused (table_at library.now) table.now) }
 {
+    let _telling = checked(table, library)?;
+    Ok(())
+}
+
+/// What `check` says, and of an accepted table what it found its bytes to tell.
+pub(crate) fn checked(table: &Table, library: &Library) -> Result<Telling, Reject>
+    ensures exact { IsOk result ↔ IsAccepted (table_at library.now) table.now }
+    ensures reason { IfErr result (IsRefused (table_at library.now) table.now) }
+    ensures told { IfOk result (λ telling. IsKnownToTell table.now telling.values telling.reach) }
+{
     check_children(table, library)?;
-    judge_values(table, library)?;
+    let values = judge_values(table, library)?;
     if table.has_reach() {
-        judge_reaches(table, library)
+        let reach = judge_reaches(table, library)?;
+        Ok(Telling { values, reach })
     } else {
-        Ok(())
+        Ok(Telling {
+            values,
+            reach: false,
+        })
     }
 }

@@ -17,6 +17,8 @@ pub struct Runs {
     pub white: [bool; MOST_PAIRS],
     /// And those with Black to move.
     pub black: [bool; MOST_PAIRS],
+    /// Whether the table's bytes are known to tell its entries.
+    pub tells: bool,
 }
 
 /// These runs, or all codes of the class in one, of which nothing is known.
@@ -30,6 +32,7 @@ pub(crate) fn runs_or_one(known: Option<Runs>, class: Class) -> Runs
             count: 1,
             white: [false; MOST_PAIRS],
             black: [false; MOST_PAIRS],
+            tells: false,
         },
     }
 }

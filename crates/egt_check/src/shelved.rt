@@ -1,19 +1,24 @@
 //! Tables of a library, with what is known of their bytes.
 ghost use Rattle.std.specs.Prelude.{◌≡◌, true};
-ghost use Rattle.egt_check.specs.Prelude.{HasColumn, IsTrueTable, HasBytes, column_of, table_in};
+ghost use Rattle.egt_check.specs.Prelude.{HasColumn, IsTrueTable, HasBytes, IsKnownToTell, column_of, table_in};
 
 use crate::bytes::true_table_tells;
 use crate::part::Part;
 use egt_table::Table;
 use std::marker::Model;
 
-/// A table, and of which parts its bytes are known to tell its entries: whoever reads it does not ask all its entries
-/// again.
+/// Of which parts a table's bytes are known to tell its entries.
+#[derive(Clone, Copy)]
+pub(crate) struct Telling {
+    pub(crate) values: bool,
+    pub(crate) reach: bool,
+}
+
+/// A table with what is known so: whoever reads it does not ask all its entries again.
 #[derive(Drop)]
 pub(crate) struct Shelved {
     table: Table,
-    values_tell: bool,
-    reach_tells: bool,
+    telling: Telling,
 }
 
 impl Model for Shelved {
@@ -24,21 +29,21 @@ impl Model for Shelved {
 
     ghost view = { λ s. s.table };
 
-    ghost invariant = { λ s. IsKnownToTell s.table s.values_tell s.reach_tells };
+    ghost invariant = { λ s. IsKnownToTell s.table s.telling.values s.telling.reach };
 }
 
 impl Shelved {
-    /// A true table, whose entries are asked here.
-    pub(crate) fn new(table: Table) -> Shelved
-        requires { IsTrueTable table }
+    /// A true table, of which this was found: its entries are asked where it was not.
+    pub(crate) fn new(table: Table, found: Telling) -> Shelved
+        requires holds { IsTrueTable table }
+        requires told { IsKnownToTell table found.values found.reach }
         ensures { result ≡ table }
     {
-        let values_tell = true_table_tells(&table, Part::Values);
-        let reach_tells = true_table_tells(&table, Part::Reach);
+        let values = found.values || true_table_tells(&table, Part::Values);
+        let reach = found.reach || true_table_tells(&table, Part::Reach);
         Shelved {
             table,
-            values_tell,
-            reach_tells,
+            telling: Telling { values, reach },
         }
     }
 
@@ -55,8 +60,8 @@ impl Shelved {
         ensures bytes { result ≡ true → HasBytes (table_in part self.now) }
     {
         match part {
-            Part::Values => self.values_tell,
-            Part::Reach => self.reach_tells,
+            Part::Values => self.telling.values,
+            Part::Reach => self.telling.reach,
         }
     }
 }

@@ -130,6 +130,7 @@ pub(crate) fn right_runs(four: &FourMen, men: &ShelfMen, part: Part) -> Option<R
         count: 64 * pairs.kings,
         white: right_pairs(four, men, part, &pairs, Side::White),
         black: right_pairs(four, men, part, &pairs, Side::Black),
+        tells: true,
     })
 }
 

@@ -1,5 +1,5 @@
-use Rattle.std.proofs.Common.{◌≡◌, ◌+◌, ◌*◌, ℕ, ◌<◌, ◌≤◌, None, ap, sym, subst, ◌∙◌, arith}
-use Rattle.egt_check.specs.Prelude.{size_of, Metric, Mate, Zeroing, IsFirstBad, IsJudged, Keeps, table_at, beside, Values}
+use Rattle.std.proofs.Common.{◌≡◌, ◌+◌, ◌*◌, ℕ, ◌<◌, ◌≤◌, None, ap, subst, ◌∙◌, arith}
+use Rattle.egt_check.specs.Prelude.{size_of, Metric, Mate, Zeroing, IsFirstBad, IsJudged, Keeps, table_at, beside}
 use Rattle.egt_check.proofs.RunsKept.{first_bad_kept, run_kept, run_within}
 use Rattle.egt_check.proofs.checking.judge_table.Goals as goal
 
@@ -7,10 +7,10 @@ pub loop-run-preserved-then-is_right : goal.loop-run-preserved-then-is_right
 loop-run-preserved-then-is_right c =
     let t = c.args.table.now in
     let tables = beside (table_at c.args.library.now) t in
-    let len = c.runs_or_one-runs.result.len in
+    let len = c.args.runs.now.len in
     let run = c.loop-run.run in
-    let runs = c.runs_or_one-runs.ensures Values tables t (sym c.class-2.ensures.class) c.runs_by_blocks.ensures in
-    let within = run_within run c.runs_or_one-runs.result.count len (size_of t.class) c.loop-run-test.true runs.all in
+    let runs = c.requires.runs in
+    let within = run_within run c.args.runs.now.count len (size_of t.class) c.loop-run-test.true runs.all in
     let right : (i : ℕ) → run * len ≤ i → i < (run + 1) * len → (metric : Metric) → IsJudged tables t metric i None =
     λ i from under. runs.right run i (c.is_right.ensures c.if-is_right.true) from under (omega (arith, within, under)) in
     record {
@@ -22,8 +22,8 @@ pub returns-clause-zeroing : goal.returns-clause-zeroing
 returns-clause-zeroing c =
     let t = c.args.table.now in
     let tables = beside (table_at c.args.library.now) t in
-    let runs = c.runs_or_one-runs.ensures Values tables t (sym c.class-2.ensures.class) c.runs_by_blocks.ensures in
+    let runs = c.requires.runs in
     let below = c.loop-run.auto.run-end in
     let past = c.loop-run-test.false in
-    let end : c.loop-run.run ≡ c.runs_or_one-runs.result.count = omega (arith, below, past) in
-    subst (λ n. IsFirstBad tables t n c.loop-run.bad) (ap (λ k. k * c.runs_or_one-runs.result.len) end ∙ runs.all) c.loop-run.invariant.zeroing
+    let end : c.loop-run.run ≡ c.args.runs.now.count = omega (arith, below, past) in
+    subst (λ n. IsFirstBad tables t n c.loop-run.bad) (ap (λ k. k * c.args.runs.now.len) end ∙ runs.all) c.loop-run.invariant.zeroing

@@ -12,6 +12,7 @@ returns c = λ tables are.
     record {
       all = here.all;
       few = omega (arith, few);
+      told = λ _. (c.requires.men.own_there, are.bytes);
       right = λ run i marked from under below. c.judged_pairs_hold_all_codes.ensures.pair c.args.part tables t men pairs run i here
           (λ (side : Side). elim side as (λ s. IsJudgedPair c.args.part tables t men pairs s run) [
             | White ↦ c.right_pairs.ensures tables are run marked.white

@@ -3,9 +3,9 @@ use Rattle.egt_check.specs.Prelude.{TableValue, IsLibrary, IsAccepted, table_at}
 use Rattle.egt_check.proofs.Shelving.{accepted_is_true, one_more, turned_away}
 use Rattle.egt_check.proofs.library.Library.admit.Goals as goal
 
-pub new-requires : goal.new-requires
-new-requires c =
-    let accepted = subst (λ v. IsAccepted (table_at v) c.args.table) (sym c.self.view_is) (c.in_default.ensures.exact.0 refl) in
+pub new-requires-clause-holds : goal.new-requires-clause-holds
+new-requires-clause-holds c =
+    let accepted = subst (λ v. IsAccepted (table_at v) c.args.table) (sym c.self.view_is) (c.in-Ok.ensures.exact.0 refl) in
     accepted_is_true c.children_have_smaller_numbers.ensures.smaller c.self.inside.places.items c.self.invariant c.args.table c.class.ensures.table c.rules_are_kept_by_true_tables_alone.ensures accepted
 
 pub invariant_of-self : goal.invariant_of-self
@@ -14,7 +14,7 @@ invariant_of-self c =
     let t = c.args.table in
     let table = c.class.ensures.table in
     let child = c.children_have_smaller_numbers.ensures.smaller in
-    let accepted = subst (λ v. IsAccepted (table_at v) t) (sym c.self.view_is) (c.in_default.ensures.exact.0 refl) in
+    let accepted = subst (λ v. IsAccepted (table_at v) t) (sym c.self.view_is) (c.in-Ok.ensures.exact.0 refl) in
     let free : table_at places t.class ≡ None = search rules in
     let holds = accepted_is_true child places c.self.invariant t table c.rules_are_kept_by_true_tables_alone.ensures accepted in
     subst (λ (u : TableValue). IsLibrary (set places c.from-place.result (Some u))) (sym c.new.ensures)
