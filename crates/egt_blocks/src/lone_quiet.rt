@@ -5,7 +5,7 @@ ghost use Rattle.egt_blocks.specs.Prelude.{K, IsLoneMan, IsRaised, AreCodesAlone
 
 use crate::advance_blocks::past_kings;
 use crate::king_blocks::beside_king;
-use crate::lone_rows::read_lone;
+use crate::lone_rows::{LoneMen, read_lone};
 use crate::men::with_king;
 use crate::own_men::is_own_piece;
 use crate::scored::LoneScores;
@@ -34,16 +34,12 @@ fn king_row<S: LoneScores>(
     let mut rest = beside_king(men, side);
     while let Some(to) = rest.pop_first() {
         let there = with_king(men, side, to);
-        if !read_lone(
-            source,
-            column,
-            there.last,
-            there.white,
-            there.black,
-            false,
-            side.other(),
-            &mut scores,
-        ) {
+        let stepped = LoneMen {
+            white: there.white,
+            black: there.black,
+            man: there.last,
+        };
+        if !read_lone(source, column, &stepped, false, side.other(), &mut scores) {
             return false;
         }
         *out = greater(*out, scores);
@@ -70,17 +66,13 @@ pub fn quiet_row<S: LoneScores>(
     if !is_own_piece(men.last, side) {
         return true;
     }
+    let still = LoneMen {
+        white: men.white,
+        black: men.black,
+        man: men.last,
+    };
     let mut scores = Row::splat(0);
-    if !read_lone(
-        source,
-        column,
-        men.last,
-        men.white,
-        men.black,
-        false,
-        side.other(),
-        &mut scores,
-    ) {
+    if !read_lone(source, column, &still, false, side.other(), &mut scores) {
         return false;
     }
     *out = last_man_raised(*out, scores, past_kings(men), men.last);

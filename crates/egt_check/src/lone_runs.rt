@@ -130,5 +130,6 @@ pub(crate) fn runs_by_rows(table: &Table, library: &Library, part: Part) -> Opti
         count: codes / len,
         white: right_rows(table, library, man, part, Side::White),
         black: right_rows(table, library, man, part, Side::Black),
+        tells: true,
     })
 }
