@@ -19,6 +19,7 @@ returns c =
     record {
       all = omega (arith, split, whole, size);
       few = omega (arith, few);
+      told = λ _. (c.requires.there, c.tells_part.ensures c.if-not-tells_part.false);
       right = λ run i marked from under below. run_keeps (KeepsPart part tables t) (run * (2 * kind_digits man.kind)) (kind_digits man.kind) i
           (λ (side : Side). elim side as (λ s. IsJudgedRow part tables t man (run * (2 * kind_digits man.kind)) s) [
             | White ↦ c.right_rows.ensures run marked.white
