@@ -18,14 +18,14 @@ bit_shifted n down k = ap (λ m. m % 2) (shr-shr n down k ∙ ap (λ s. n / 2 ^ 
 abbrev pub mark : ℕ → ℕ
 mark score = if score == 0 then 0 else 1
 
-mark_none : (score : ℕ) → mark score ≡ 0 → score ≡ 0
+pub mark_none : (score : ℕ) → mark score ≡ 0 → score ≡ 0
 mark_none score is = grind (arith, nat_tests)
 
 -- where no bit is set there are no scores
 pub none_marked : (marks k : ℕ) → marks ≡ 0 → (score : ℕ) → bit_at marks k ≡ mark score → score ≡ 0
 none_marked marks k none score is = mark_none score (sym is ∙ ap (λ m. bit_at m k) none ∙ bit_at-zero k)
 
-mark_some : (score : ℕ) → mark score ≡ 1 → score ≢ 0
+pub mark_some : (score : ℕ) → mark score ≡ 1 → score ≢ 0
 mark_some score one none = let is = ap mark none in absurd (omega (arith, is, one))
 
 module _ (t : TableValue) where

@@ -32,7 +32,7 @@ pub use Rattle.egt_board.specs.declared.man.Side.{Side}
 pub use Rattle.egt_board.specs.declared.man.Side.TheVariants.{Black, White}
 pub use Rattle.egt_board.specs.declared.square_set.SquareSet.{SquareSet}
 pub use Rattle.egt_check.specs.Alike.{StepAlike}
-pub use Rattle.egt_check.specs.Alone.{IsClockDue, IsDueAlone, IsJudgedRow, IsToldTable, MayJudge}
+pub use Rattle.egt_check.specs.Alone.{AreThreeMen, IsDueAlone, IsJudgedRow, IsToldTable, KeepsCode, MayJudge}
 pub use Rattle.egt_check.specs.Blank.{AreBlank, IsBlank}
 pub use Rattle.egt_check.specs.Found.{AreFound, AreTold, IsNearScore, IsPutIn, IsToldAt, IsToldEntry, IsToldFrom}
 pub use Rattle.egt_check.specs.Found.{IsValueScore, TellColumn, TellsEntry, near_told, table_told, told, value_told}
@@ -62,6 +62,7 @@ pub use Rattle.egt_check.specs.Taken.{IsTableAfter, IsTableOf}
 pub use Rattle.egt_check.specs.Voids.{AreAllAlike, TellsVoid, TellsVoids, TellsVoidsIn}
 pub use Rattle.egt_check.specs.Worth.{HasBytes, IsBestOf, IsBestWith, IsScoreWith, column_score, entry_score, score_at}
 pub use Rattle.egt_check.specs.declared.found.Found.TheInside.{Inside}
+pub use Rattle.egt_check.specs.declared.lone_judging.ThreeMen.{ThreeMen}
 pub use Rattle.egt_check.specs.declared.move_scores.Children.{Children}
 pub use Rattle.egt_check.specs.declared.move_scores.FourMen.{FourMen}
 pub use Rattle.egt_check.specs.declared.pairs.Pairs.{Pairs}

@@ -1,9 +1,10 @@
-//! The judgement of the entries with the kings on two squares and one side to move, in classes with one man beside the kings: he is the last of the men.
-ghost use Rattle.std.specs.Prelude.{◌≡◌, ◌≢◌, ◌+◌, ◌*◌, ◌<◌, ℕ, true, slice_index};
-ghost use Rattle.egt_check.specs.Prelude.{Has, K, side_number, kind_digits, kind_less, size_of, column_of, table_in};
-ghost use Rattle.egt_check.specs.Prelude.{HasColumn, HasBytes, IsLoneMan, IsLoneRow, NoneZeroes, KeepsPart, MayJudge};
-ghost use Rattle.egt_check.specs.Prelude.{IsClockDue, IsJudgedRow, beside, table_at};
+//! The judgement of the entries with the kings on two squares and one side to move, in classes with one man beside the kings.
+ghost use Rattle.std.specs.Prelude.{◌≡◌, ◌+◌, ◌*◌, ◌<◌, ℕ, true};
+ghost use Rattle.egt_check.specs.Prelude.{bit_at, Has, side_number, kind_digits, kind_less, size_of, HasColumn};
+ghost use Rattle.egt_check.specs.Prelude.{IsLoneRow, NoneZeroes, AreThreeMen, IsDueAlone, IsJudgedRow, KeepsCode};
+ghost use Rattle.egt_check.specs.Prelude.{column_score, column_of};
 ghost use Rattle.egt_check.specs.declared.part.Part.TheVariants as parts;
+ghost use Rattle.egt_table.specs.declared.column.Column.TheVariants as columns;
 
 use crate::judging::judge;
 use crate::lane_sets::unlike;
@@ -18,51 +19,52 @@ use egt_blocks::king_blocks::beside_king;
 use egt_blocks::lone_quiet::quiet_row;
 use egt_blocks::own_men::{is_of, is_pawn};
 use egt_blocks::scored::LoneScores;
-use egt_board::{Man, Side, SquareSet};
+use egt_board::{Side, SquareSet};
 use egt_index::laws::codes_tell_turned_men;
 use egt_index::{ShelfMen, size};
 use egt_lanes::Row;
-use egt_lanes::row::differ;
-use egt_lanes::score::due;
-use egt_lanes::sets::{kept, lanes_of};
+use egt_lanes::sets::lanes_of;
 use egt_table::{Column, Table};
 use std::simd::prelude::*;
 
+/// The table of a class with one man beside the kings, the library of its children's, and the part that is judged.
+#[derive(Clone, Copy)]
+pub struct ThreeMen<'t> {
+    pub table: &'t Table,
+    pub library: &'t Library,
+    /// The kings on their squares, and the man, the last one: the first is nobody's.
+    pub men: ShelfMen,
+    pub part: Part,
+}
+
 /// Whether the part's entries at the code keep the rules, judged alone.
-fn keeps_alone(table: &Table, library: &Library, part: Part, code: u32) -> bool
-    requires may { MayJudge part (table_at library.now) table.now }
-    requires below { code < size_of table.now.class }
-    ensures { result ≡ true → KeepsPart part (beside (table_at library.now) table.now) table.now code }
+fn keeps_alone(three: &ThreeMen, code: u32) -> bool
+    requires three { AreThreeMen three.now }
+    requires below { code < size_of three.now.table.now.class }
+    ensures { result ≡ true → KeepsCode three.now code }
 {
-    match part {
+    match three.part {
         Part::Values => {
-            let (mate, zeroing) = judge(table, library, code);
+            let (mate, zeroing) = judge(three.table, three.library, code);
             mate.is_none() && zeroing.is_none()
         }
-        Part::Reach => judge_reach(table, library, code).is_none(),
+        Part::Reach => judge_reach(three.table, three.library, code).is_none(),
     }
 }
 
 /// Whether they do at the codes of these squares of the man, every other one from his first digit's on.
-fn keep_alone(
-    table: &Table,
-    library: &Library,
-    part: Part,
-    man: Man,
-    first: u32,
-    squares: SquareSet,
-) -> bool
-    requires may { MayJudge part (table_at library.now) table.now }
-    requires codes { (digit : ℕ) → digit < kind_digits man.kind → first + 2 * digit < size_of table.now.class }
-    ensures { result ≡ true → (digit : ℕ) → digit < kind_digits man.kind → Has squares (digit + kind_less man.kind) → KeepsPart part (beside (table_at library.now) table.now) table.now (first + 2 * digit) }
+fn keep_alone(three: &ThreeMen, first: u32, squares: SquareSet) -> bool
+    requires three { AreThreeMen three.now }
+    requires codes { (digit : ℕ) → digit < kind_digits three.now.men.last.kind → first + 2 * digit < size_of three.now.table.now.class }
+    ensures { result ≡ true → (digit : ℕ) → digit < kind_digits three.now.men.last.kind → Has squares (digit + kind_less three.now.men.last.kind) → KeepsCode three.now (first + 2 * digit) }
 {
-    let _size = size(table.class());
+    let _size = size(three.table.class());
     let mut rest = squares;
     while let Some(square) = rest.pop_first() {
-        let Some(digit) = digit_on(man, square) else {
+        let Some(digit) = digit_on(three.men.last, square) else {
             return false;
         };
-        if !keeps_alone(table, library, part, first + 2 * digit) {
+        if !keeps_alone(three, first + 2 * digit) {
             return false;
         }
     }
@@ -94,81 +96,55 @@ fn first_code(first: u32, side: Side) -> u32
     }
 }
 
-/// Whether the zeroing entries, which are judged with the mate entries, are due to the greatest scores after quiet steps on the squares where `within` is
-/// not 0.
+/// The squares of the man where the column has scores at the codes from this one on, with that side to move, and where they are due to the greatest after
+/// quiet steps.
 #[inline(always)]
-fn clock_is_due(
-    table: &Table,
-    men: &ShelfMen,
-    part: Part,
-    first: u32,
-    side: Side,
-    within: Row,
-) -> bool
-    requires man { IsLoneMan table.now.class men.now.last }
-    requires last { men.now.last.kind ≢ K }
-    requires row { IsLoneRow table.now.class first men.now.white men.now.black men.now.last }
-    ensures { result ≡ true → part ≡ parts.Values → (digit : ℕ) → digit < kind_digits men.now.last.kind → slice_index within (digit + kind_less men.now.last.kind) ≢ 0 →
-        IsClockDue table.now men.now side (digit + kind_less men.now.last.kind) (first + side_number side + 2 * digit) }
+fn due_lanes(three: &ThreeMen, column: Column, first: u32, side: Side) -> (SquareSet, SquareSet)
+    requires three { AreThreeMen three.now }
+    requires there { HasColumn column three.now.table.now }
+    requires row { IsLoneRow three.now.table.now.class first three.now.men.white three.now.men.black three.now.men.last }
+    ensures none { (digit : ℕ) → digit < kind_digits three.now.men.last.kind → bit_at result.0.bits (digit + kind_less three.now.men.last.kind) ≡ 0 →
+        column_score three.now.table.now column (first + side_number side + 2 * digit) ≡ 0 }
+    ensures due { (digit : ℕ) → digit < kind_digits three.now.men.last.kind → Has result.1 (digit + kind_less three.now.men.last.kind) →
+        IsDueAlone three.now column side (digit + kind_less three.now.men.last.kind) (first + side_number side + 2 * digit) }
 {
     codes_tell_turned_men();
-    match part {
-        Part::Values => {
-            let source = TableScores { table };
-            let mut scores = Row::splat(0);
-            if !quiet_row(&source, Column::Zeroing, men, side, &mut scores) {
-                return false;
-            }
-            let own = source.lone_row(Column::Zeroing, men.last, men.white, men.black, first, side);
-            !differ(own, due(scores), within)
-        }
-        Part::Reach => true,
+    let men = &three.men;
+    let source = TableScores { table: three.table };
+    let own = source.lone_row(column, men.last, men.white, men.black, first, side);
+    let mut scores = Row::splat(0);
+    if !quiet_row(&source, column, men, side, &mut scores) {
+        return (lanes_of(own), SquareSet::EMPTY);
+    }
+    let other = unlike(own, due_in(three.part, scores), Row::splat(1));
+    (lanes_of(own), lanes_of(scores).without(lanes_of(other)))
+}
+
+/// The squares of the man where the zeroing scores, which are judged with the mate scores, are due; all where they are not judged.
+#[inline(always)]
+fn clock_lanes(three: &ThreeMen, first: u32, side: Side) -> SquareSet
+    requires three { AreThreeMen three.now }
+    requires row { IsLoneRow three.now.table.now.class first three.now.men.white three.now.men.black three.now.men.last }
+    ensures { three.now.part ≡ parts.Values → (digit : ℕ) → digit < kind_digits three.now.men.last.kind → Has result (digit + kind_less three.now.men.last.kind) →
+        IsDueAlone three.now columns.Zeroing side (digit + kind_less three.now.men.last.kind) (first + side_number side + 2 * digit) }
+{
+    match three.part {
+        Part::Values => due_lanes(three, Column::Zeroing, first, side).1,
+        Part::Reach => SquareSet::ALL,
     }
 }
 
 /// Whether the part's entries of the codes from this one on, with that side to move, are due to the greatest scores after quiet steps, or keep the rules
 /// judged alone: where a move may zero, and where none scores.
-pub(crate) fn lone_row_is_right(
-    table: &Table,
-    library: &Library,
-    men: &ShelfMen,
-    part: Part,
-    first: u32,
-    side: Side,
-) -> bool
-    requires may { MayJudge part (table_at library.now) table.now }
-    requires there { HasColumn (column_of part) table.now }
-    requires bytes { HasBytes (table_in part table.now) }
-    requires man { IsLoneMan table.now.class men.now.last }
-    requires last { men.now.last.kind ≢ K }
-    requires row { IsLoneRow table.now.class first men.now.white men.now.black men.now.last }
-    ensures { result ≡ true → IsJudgedRow part (beside (table_at library.now) table.now) table.now men.now.last first side }
+pub(crate) fn lone_row_is_right(three: &ThreeMen, first: u32, side: Side) -> bool
+    requires three { AreThreeMen three.now }
+    requires row { IsLoneRow three.now.table.now.class first three.now.men.white three.now.men.black three.now.men.last }
+    ensures { result ≡ true → IsJudgedRow three.now first side }
 {
-    codes_tell_turned_men();
     entries_due_to_quiet_steps_are_right();
-    let _size = size(table.class());
-    let source = TableScores { table };
-    let column = column_of(part);
-    let mut scores = Row::splat(0);
-    if !quiet_row(&source, column, men, side, &mut scores) {
-        return false;
-    }
-    let own = source.lone_row(column, men.last, men.white, men.black, first, side);
-    let quiet = kept(own, quiet_lanes(men, side));
-    let within = unlike(scores, Row::splat(0), quiet);
-    if differ(own, due_in(part, scores), within)
-        || !clock_is_due(table, men, part, first, side, within)
-    {
-        return false;
-    }
-    // Told by these rows: a comparison that is kept across the branch would be taken apart lane by lane.
-    let rest = lanes_of(unlike(own, within, own));
-    keep_alone(
-        table,
-        library,
-        part,
-        men.last,
-        first_code(first, side),
-        rest,
-    )
+    let _size = size(three.table.class());
+    let (some, due) = due_lanes(three, column_of(three.part), first, side);
+    let quiet = quiet_lanes(&three.men, side).common(clock_lanes(three, first, side));
+    let rest = some.without(due.common(quiet));
+    keep_alone(three, first_code(first, side), rest)
 }

@@ -1,18 +1,18 @@
 //! The judgement of a whole table of a class with one man beside the kings, by the squares of the kings.
-ghost use Rattle.std.specs.Prelude.{◌≡◌, ◌≢◌, ◌*◌, ◌<◌, ℕ, false, true, IfSome, get_or};
-ghost use Rattle.egt_check.specs.Prelude.{K, kind_digits, column_of, table_in, HasColumn, HasBytes, IsLoneMan};
-ghost use Rattle.egt_check.specs.Prelude.{AreRuns, IsJudgedRow, MayJudge, TellsVoid, TellsVoids, beside, table_at, size_of};
+ghost use Rattle.std.specs.Prelude.{◌≡◌, ◌*◌, ◌<◌, ℕ, false, true, IfSome, get_or};
+ghost use Rattle.egt_check.specs.Prelude.{kind_digits, column_of, size_of, table_in, HasColumn, HasBytes, AreThreeMen};
+ghost use Rattle.egt_check.specs.Prelude.{AreRuns, IsJudgedRow, MayJudge, TellsVoid, TellsVoids, beside, table_at};
 ghost use Rattle.egt_check.specs.declared.part.Part.TheVariants as parts;
 
 use crate::bytes::{are_alike, tells_reach_bytes};
 use crate::library::Library;
-use crate::lone_judging::lone_row_is_right;
+use crate::lone_judging::{ThreeMen, lone_row_is_right};
 use crate::pairs::MOST_PAIRS;
 use crate::part::Part;
 use crate::runs::Runs;
 use crate::table_judging::is_king;
 use egt_blocks::digits::digits_of;
-use egt_board::{Man, Side, Square};
+use egt_board::{Side, Square};
 use egt_index::{ShelfMen, lone_man, lone_row, position, size};
 use egt_table::{Column, Table};
 
@@ -53,57 +53,38 @@ fn tells_part(table: &Table, part: Part) -> bool
 }
 
 /// The number of the run of codes with the kings on these squares, if its entries of the part with that side to move were found to keep the rules.
-fn right_run(
-    table: &Table,
-    library: &Library,
-    men: &ShelfMen,
-    part: Part,
-    side: Side,
-) -> Option<usize>
-    requires may { MayJudge part (table_at library.now) table.now }
-    requires there { HasColumn (column_of part) table.now }
-    requires bytes { HasBytes (table_in part table.now) }
-    requires man { IsLoneMan table.now.class men.now.last }
-    requires last { men.now.last.kind ≢ K }
+fn right_run(three: &ThreeMen, side: Side) -> Option<usize>
+    requires { AreThreeMen three.now }
     ensures few { IfSome result (λ run. run < 2048) }
-    ensures right { IfSome result (λ run. IsJudgedRow part (beside (table_at library.now) table.now) table.now men.now.last (run * (2 * kind_digits men.now.last.kind)) side) }
+    ensures right { IfSome result (λ run. IsJudgedRow three.now (run * (2 * kind_digits three.now.men.last.kind)) side) }
 {
-    let first = lone_row(table.class(), men.last, men.white, men.black)?;
+    let men = &three.men;
+    let first = lone_row(three.table.class(), men.last, men.white, men.black)?;
     let len = 2 * u32::from(digits_of(men.last));
     let run = first / len;
-    if first % len == 0 && run < 2048 && lone_row_is_right(table, library, men, part, first, side) {
+    if first % len == 0 && run < 2048 && lone_row_is_right(three, first, side) {
         Some(run as usize)
     } else {
         None
     }
 }
 
-/// The runs of which all entries of the part with that side to move were found to keep the rules.
-fn right_rows(
-    table: &Table,
-    library: &Library,
-    man: Man,
-    part: Part,
-    side: Side,
-) -> [bool; MOST_PAIRS]
-    requires may { MayJudge part (table_at library.now) table.now }
-    requires there { HasColumn (column_of part) table.now }
-    requires bytes { HasBytes (table_in part table.now) }
-    requires man { IsLoneMan table.now.class man }
-    requires last { man.kind ≢ K }
-    ensures { (run : ℕ) → get_or result run false ≡ true → IsJudgedRow part (beside (table_at library.now) table.now) table.now man (run * (2 * kind_digits man.kind)) side }
+/// The runs of which all entries of the part with that side to move were found to keep the rules, wherever the kings stand.
+fn right_rows(three: &ThreeMen, side: Side) -> [bool; MOST_PAIRS]
+    requires { AreThreeMen three.now }
+    ensures { (run : ℕ) → get_or result run false ≡ true → IsJudgedRow three.now (run * (2 * kind_digits three.now.men.last.kind)) side }
 {
     let mut right = [false; MOST_PAIRS];
     for kings in 0..4096u16 {
-        let white = Square::at((kings / 64) as u8);
-        let men = ShelfMen {
-            white,
-            black: Square::at((kings % 64) as u8),
-            one: man,
-            on: white,
-            last: man,
+        let there = ThreeMen {
+            men: ShelfMen {
+                white: Square::at((kings / 64) as u8),
+                black: Square::at((kings % 64) as u8),
+                ..three.men
+            },
+            ..*three
         };
-        let Some(run) = right_run(table, library, &men, part, side) else {
+        let Some(run) = right_run(&there, side) else {
             continue;
         };
         right[run] = true;
@@ -125,11 +106,25 @@ pub(crate) fn runs_by_rows(table: &Table, library: &Library, part: Part) -> Opti
     if is_king(man) || codes % len != 0 || codes / len > 2048 || !tells_part(table, part) {
         return None;
     }
+    let first = Square::at(0);
+    let men = ShelfMen {
+        white: first,
+        black: first,
+        one: man,
+        on: first,
+        last: man,
+    };
+    let three = ThreeMen {
+        table,
+        library,
+        men,
+        part,
+    };
     Some(Runs {
         len,
         count: codes / len,
-        white: right_rows(table, library, man, part, Side::White),
-        black: right_rows(table, library, man, part, Side::Black),
+        white: right_rows(&three, Side::White),
+        black: right_rows(&three, Side::Black),
         tells: true,
     })
 }

@@ -1,11 +1,11 @@
 use Rattle.std.proofs.Common.{◌≡◌, ◌∙◌, ◌+◌, ◌*◌, ℕ, arith, ap, inl, inr, sym, subst}
-use Rattle.egt_check.specs.Prelude.{cases_eq, kind_less, size_of, KeepsPart, beside, table_at}
+use Rattle.egt_check.specs.Prelude.{cases_eq, kind_less, size_of, KeepsCode}
 use Rattle.egt_check.proofs.lone_judging.keep_alone.Goals as goal
 
 pub overflow_add-first : goal.overflow_add-first
 overflow_add-first c =
     let below = c.requires.codes c.in-Some-digit_on.digit c.in-Some-digit_on.ensures.below in
-    let size : c.size-size.result ≡ size_of c.args.table.now.class = c.size-size.ensures ∙ ap (λ k. size_of k) c.class.ensures.class in
+    let size : c.size-size.result ≡ size_of c.args.three.now.table.now.class = c.size-size.ensures ∙ ap (λ k. size_of k) c.class.ensures.class in
     let fits = c.size-size.type_inv in
     omega (arith, below, size, fits)
 
@@ -13,13 +13,13 @@ pub loop-square-init : goal.loop-square-init
 loop-square-init c = λ digit below has none. absurd (omega (arith, has, none))
 
 pub loop-square-preserved : goal.loop-square-preserved
-loop-square-preserved c = λ digit below has gone. elim (cases_eq (digit + kind_less c.args.man.kind) c.in-Some.square) [
+loop-square-preserved c = λ digit below has gone. elim (cases_eq (digit + kind_less c.args.three.now.men.last.kind) c.in-Some.square) [
   | inl same ↦
       let is = c.in-Some-digit_on.ensures.is in
       let digit_is : c.in-Some-digit_on.digit ≡ digit = omega (arith, same, is) in
-      subst (λ (k : ℕ). KeepsPart c.args.part (beside (table_at c.args.library.now) c.args.table.now) c.args.table.now (c.args.first + 2 * k)) digit_is (c.keeps_alone.ensures c.if-not-keeps_alone.false)
-  | inr other ↦ c.loop-square.invariant digit below has (sym (c.in-Some.ensures.others (digit + kind_less c.args.man.kind) other) ∙ gone)
+      subst (λ (k : ℕ). KeepsCode c.args.three.now (c.args.first + 2 * k)) digit_is (c.keeps_alone.ensures c.if-not-keeps_alone.false)
+  | inr other ↦ c.loop-square.invariant digit below has (sym (c.in-Some.ensures.others (digit + kind_less c.args.three.now.men.last.kind) other) ∙ gone)
 ]
 
 pub returns : goal.returns
-returns c = λ right digit below has. c.loop-square.invariant digit below has (c.in_default.ensures.empty (digit + kind_less c.args.man.kind))
+returns c = λ right digit below has. c.loop-square.invariant digit below has (c.in_default.ensures.empty (digit + kind_less c.args.three.now.men.last.kind))

@@ -2,7 +2,8 @@ use Rattle.std.proofs.Common.{◌≡◌, ◌≢◌, ◌*◌, ◌-◌, ◌%◌, �
 use Rattle.egt_check.specs.Prelude.{other_side, Setup, Side, Spells, IsVoid, size_of, TellsMen, HasStand}
 use Rattle.egt_check.specs.Prelude.{ShelfMen, IsRaised, reach_score, Zeroes, IsTable, TableValue, Mate, Zeroing, Part}
 use Rattle.egt_check.specs.Prelude.{Values, Reach, AreCodesAlone, IsQuietAlone, NoneZeroes, stand_alone, AreGiven}
-use Rattle.egt_check.specs.Prelude.{IsDueAlone, IsToldTable, KeepsPart, column_of, near_tables, Tables, entry_at}
+use Rattle.egt_check.specs.Prelude.{AreThreeMen, IsDueAlone, IsToldTable, KeepsCode, KeepsPart, ThreeMen, beside}
+use Rattle.egt_check.specs.Prelude.{table_at, due_in, column_of, near_tables, Tables, entry_at}
 use Rattle.egt_check.specs.Prelude.{reach_at, HasBytes, column_score, score_at}
 use Rattle.egt_check.proofs.AllJudged.{some_score}
 use Rattle.egt_check.proofs.EitherGiven.{same_given}
@@ -12,6 +13,7 @@ use Rattle.egt_check.proofs.NearReading.{found_in, is_table_in, low_reach, near,
 use Rattle.egt_check.proofs.NearScores.{near_raised}
 use Rattle.egt_check.proofs.QuietGiven.{alone_whole, low_score, quiet_given}
 use Rattle.egt_check.proofs.Worth.{Turning}
+use Rattle.egt_table.specs.declared.column.Column.TheVariants as columns
 use Rattle.egt_check.proofs.lone_laws.entries_due_to_quiet_steps_are_right.Goals as goal
 
 pub returns : goal.returns
@@ -49,35 +51,43 @@ returns c = record { due = due; none = none }
         (λ q m leads any. law.quiet t.class men side false s p q m is_table.class_in has quiet leads) (λ m keeps. tt)
 
     of_index : (part : Part) (tables : Tables) (t : TableValue) (men : ShelfMen) (side : Side) (s i score : ℕ) → IsToldTable part tables t → i < size_of t.class → (p : Setup) → Spells t.class i p → ¬ IsVoid t.class i
-        → HasStand t.class false (stand_alone men s) side false p → NoneZeroes men side s → IsDueAlone part t men side s i score → KeepsPart part tables t i
-    of_index Values tables t men side s i score told below p spells index has quiet d =
+        → HasStand t.class false (stand_alone men s) side false p → NoneZeroes men side s → score ≢ 0 → IsRaised 0 (AreCodesAlone t.class men side s) (column_score t (column_of part)) score
+        → column_score t (column_of part) i ≡ due_in part score → (part ≡ Values → (z : ℕ) × IsRaised 0 (AreCodesAlone t.class men side s) (score_at t Zeroing) z × (score_at t Zeroing i ≡ due_in part z)) → KeepsPart part tables t i
+    of_index Values tables t men side s i score told below p spells index has quiet some raised due clock =
         let alike = told.bytes.alike i below index in
-        let (z, raised, clock) = d.clock refl in
-        c.due_bytes_are_right.ensures.due tables t i p score z spells index alike (given tables t men side s p score z told.is_table told.found told.bytes has quiet d.raised raised) d.some
-        (sym (low_score (entry_at t Mate i) alike.mate_known.low) ∙ d.due) (sym (low_score (entry_at t Zeroing i) alike.zeroing_known.low) ∙ clock)
-    of_index Reach tables t men side s i score told below p spells index has quiet d =
+        let (z, z_raised, z_due) = clock refl in
+        c.due_bytes_are_right.ensures.due tables t i p score z spells index alike (given tables t men side s p score z told.is_table told.found told.bytes has quiet raised z_raised) some
+        (sym (low_score (entry_at t Mate i) alike.mate_known.low) ∙ due) (sym (low_score (entry_at t Zeroing i) alike.zeroing_known.low) ∙ z_due)
+    of_index Reach tables t men side s i score told below p spells index has quiet some raised due clock =
         let is_near = is_table_in Reach t told.there told.is_table in
         let e = reach_at t i in
         let low : e < 128 = low_reach t is_near told.bytes (λ j. c.a_code_is_an_index_or_void.ensures t.class j told.is_table.class_in) i in
         let read = near_at t i in
-        let some : e ≢ 0 = λ zero. (told.bytes.alike i below index).mate_known.some (let is : 2 * e - 1 ≡ 0 = omega (arith, zero) in read ∙ is) in
-        let raised = near_raised c.a_code_is_an_index_or_void.ensures t 0 score (AreCodesAlone t.class men side s) is_near told.bytes d.raised in
+        let there : e ≢ 0 = λ zero. (told.bytes.alike i below index).mate_known.some (let is : 2 * e - 1 ≡ 0 = omega (arith, zero) in read ∙ is) in
+        let by_near = near_raised c.a_code_is_an_index_or_void.ensures t 0 score (AreCodesAlone t.class men side s) is_near told.bytes raised in
         let same : e % 256 ≡ e = omega (arith, low) in
-        c.due_reaches_are_right.ensures.due tables t i p score score spells index some low
-        (given (near_tables tables) (near t) men side s p score score is_near (found_in Reach tables t told.there told.found) told.bytes has quiet raised raised) d.some (sym (ap reach_score same) ∙ d.due)
+        c.due_reaches_are_right.ensures.due tables t i p score score spells index there low
+        (given (near_tables tables) (near t) men side s p score score is_near (found_in Reach tables t told.there told.found) told.bytes has quiet by_near by_near) some (sym (ap reach_score same) ∙ due)
 
-    due : (part : Part) (tables : Tables) (t : TableValue) (men : ShelfMen) (side : Side) (s i score : ℕ) → IsToldTable part tables t → i < size_of t.class → TellsMen false t.class i (stand_alone men s) side
-        → NoneZeroes men side s → IsDueAlone part t men side s i score → KeepsPart part tables t i
-    due part tables t men side s i score told below tells quiet d = elim (c.a_code_is_an_index_or_void.ensures t.class i told.is_table.class_in) [
-      | inl (p, spells, index) ↦
-          let settled = c.numbers_stand_for_codes.ensures.indexes_are_settled t.class i p p spells.admissible index spells in
-          let has = c.codes_tell_their_men.ensures false t.class i p (stand_alone men s) side told.is_table.class_in spells settled tells in
-          of_index part tables t men side s i score told below p spells (λ void. void p spells.admissible index) has quiet d
-      | inr void ↦ of_void part tables t i told below void
-    ]
+    due : (three : ThreeMen) (side : Side) (s i : ℕ) → AreThreeMen three → i < size_of three.table.now.class → TellsMen false three.table.now.class i (stand_alone three.men s) side → NoneZeroes three.men side s
+        → IsDueAlone three (column_of three.part) side s i → (three.part ≡ Values → IsDueAlone three columns.Zeroing side s i) → KeepsCode three i
+    due three side s i are below tells quiet d clock =
+        let t = three.table.now in
+        let class_in = are.told.is_table.class_in in
+        let tables = beside (table_at three.library.now) t in
+        elim (c.a_code_is_an_index_or_void.ensures t.class i class_in) [
+          | inl (p, spells, index) ↦
+              let settled = c.numbers_stand_for_codes.ensures.indexes_are_settled t.class i p p spells.admissible index spells in
+              let has = c.codes_tell_their_men.ensures false t.class i p (stand_alone three.men s) side class_in spells settled tells in
+              of_index three.part tables t three.men side s i d.score are.told below p spells (λ void. void p spells.admissible index) has quiet d.some d.raised d.due (λ values. let z = clock values in (z.score, z.raised, z.due))
+          | inr void ↦ of_void three.part tables t i are.told below void
+        ]
 
-    none : (part : Part) (tables : Tables) (t : TableValue) (i : ℕ) → IsToldTable part tables t → i < size_of t.class → column_score t (column_of part) i ≡ 0 → KeepsPart part tables t i
-    none part tables t i told below zero = elim (c.a_code_is_an_index_or_void.ensures t.class i told.is_table.class_in) [
-      | inl spelled ↦ absurd (scored part tables t i told below (λ void. void spelled.0 spelled.1.admissible spelled.2) zero)
-      | inr void ↦ of_void part tables t i told below void
-    ]
+    none : (three : ThreeMen) (i : ℕ) → AreThreeMen three → i < size_of three.table.now.class → column_score three.table.now (column_of three.part) i ≡ 0 → KeepsCode three i
+    none three i are below zero =
+        let t = three.table.now in
+        let tables = beside (table_at three.library.now) t in
+        elim (c.a_code_is_an_index_or_void.ensures t.class i are.told.is_table.class_in) [
+          | inl spelled ↦ absurd (scored three.part tables t i are.told below (λ void. void spelled.0 spelled.1.admissible spelled.2) zero)
+          | inr void ↦ of_void three.part tables t i are.told below void
+        ]
