@@ -218,6 +218,20 @@ module _ (passed : Bool) (c : ℕ) (worth : ℕ → ℕ) (men : ShelfMen) (flips
 abbrev pub GoneKing : ShelfMen → Side → SquareSet → ℕ → Type 0
 GoneKing men side rest k = IsBesideKing men side k × (bit_at rest.bits k ≡ 0)
 
+-- one square more is gone, and those left are still beside the king
+module _ (men : ShelfMen) (side : Side) (rest after : SquareSet) (to : ℕ) (gone : bit_at after.bits to ≡ 0) (others : (t : ℕ) → t ≢ to → bit_at after.bits t ≡ bit_at rest.bits t) where
+  pub gone_before : (k : ℕ) → GoneKing men side after k → GoneKing men side rest k ⊎ (k ≡ to)
+  gone_before k h = elim (cases_eq k to) [ inl same ↦ inr same | inr other ↦ inl (h.0, sym (others k other) ∙ h.1) ]
+
+  pub gone_after : (k : ℕ) → GoneKing men side rest k → GoneKing men side after k
+  gone_after k h = elim (cases_eq k to) [ inl same ↦ (h.0, ap (bit_at after.bits) same ∙ gone) | inr other ↦ (h.0, others k other ∙ h.1) ]
+
+  pub left_beside : ((k : ℕ) → k < 64 → Has rest k → IsBesideKing men side k) → (k : ℕ) → k < 64 → Has after k → IsBesideKing men side k
+  left_beside beside k k_in has = elim (cases_eq k to) [
+    | inl same ↦ absurd (let none = ap (bit_at after.bits) same ∙ gone in omega (arith, has, none))
+    | inr other ↦ beside k k_in (sym (others k other) ∙ has)
+  ]
+
 -- the same men beside the kings
 pub same_beside : (men : ShelfMen) (side : Side) (k : ℕ) → ((with_king men side k).one ≡ men.one) × ((with_king men side k).last ≡ men.last)
 same_beside men side k = grind arith

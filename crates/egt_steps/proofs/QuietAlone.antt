@@ -1,8 +1,8 @@
 -- The quiet moves of three men lead to the men after quiet steps, and to all of them that are positions; and where no move zeroes.
-use Rattle.std.proofs.Common.{◌≡◌, ◌≢◌, ℕ, ◌<◌, Bool, false, Some, refl, sym, ap, ◌∙◌, subst, inl, inr}
+use Rattle.std.proofs.Common.{◌≡◌, ◌≢◌, ℕ, ◌<◌, ◌⊎◌, Bool, false, Some, refl, sym, ap, ◌∙◌, subst, inl, inr}
 use Rattle.egt_steps.specs.Prelude.{bit_at, king_of, Reaches, Reaches-free, other_side, sides_differ, IsFree, IsHeld}
 use Rattle.egt_steps.specs.Prelude.{one_man, Setup, P, Man, Side, White, Black, IsListed, AllStand, HasStand, IsOff}
-use Rattle.egt_steps.specs.Prelude.{list_of, IsMovedStand, ShelfMen, Stand, Zeroes, Leads, Move, IsBesideKing}
+use Rattle.egt_steps.specs.Prelude.{list_of, IsMovedStand, ShelfMen, Stand, Zeroes, Leads, Move}
 use Rattle.egt_steps.specs.Prelude.{king_of_men, with_king, Facts, IsPastKings, IsQuietAlone, NoneZeroes, stand_alone}
 use Rattle.egt_steps.proofs.Fanned.{king_reaches}
 use Rattle.egt_steps.proofs.QuietSteps.{Following, king_piece, stayed, steps, went, went_to}
@@ -53,76 +53,60 @@ module _ (facts : Facts) (keeps : KeepsClass) (follow : Following) (c : ℕ) (cl
       (stand_alone men t) (man_moves t) q (subst (λ (x : Stand). HasStand c false x (other_side side) false q) is there)
 
   module _ (q : Setup) (m : Move) (leads : Leads p m q) where
-    listed : IsListed (list_of here) leads.man m.from
-    listed = (follow.listed c here side passed p m.from leads.man has).0 leads.stands
-
     own : leads.man.side ≡ side
     own = leads.mine ∙ has.side_is
 
-    module _ (keeps_count : ¬ Zeroes p m) where
-      abbrev pub Result : Side → Type 0
-      Result x = (stand : Stand) × IsQuietAlone men x s stand × HasStand c false stand (other_side side) false q
+    -- that side's king goes, or the man
+    abbrev Mover : Side → Type 0
+    Mover x = ((king_of x ≡ leads.man) × (king_of_men men x ≡ m.from)) ⊎ ((men.last ≡ leads.man) × (s ≡ m.from))
 
-      -- that king goes, so that it is his side's move
-      by_king : (x : Side) → king_of x ≡ leads.man → king_of_men men x ≡ m.from → Result side
-      by_king x is at =
-          let w = went_to facts keeps follow c class_in here side passed p has q m leads keeps_count (king_of x) (king_of_men men x) is at (stand_alone (with_king men x m.to) s) (king_moves x m.to) in
-          subst Result w.own (
-            stand_alone (with_king men x m.to) s,
-            inl (m.to, (w.on_board, king_reaches (IsOff (list_of here)) (λ u. bit_at 0 u ≡ 0) (king_of x) (king_of_men men x) m.to refl w.reaches), refl),
-            w.there,
-          )
+    mover : Mover side
+    mover = of_man ((follow.listed c here side passed p m.from leads.man has).0 leads.stands)
+      where
+        some_king : (x : Side) → king_of x ≡ leads.man → king_of_men men x ≡ m.from → Mover side
+        some_king x is at = subst Mover (ap (λ (man : Man). man.side) is ∙ own) (inl (is, at))
 
-      by_man : men.last ≡ leads.man → s ≡ m.from → Result side
-      by_man is at =
-          let w = went_to facts keeps follow c class_in here side passed p has q m leads keeps_count men.last s is at (stand_alone men m.to) (man_moves m.to) in (
-            stand_alone men m.to,
-            inr (w.own, w.piece, m.to, w.on_board, Reaches-free (IsOff (list_of here)) (IsPastKings men) men.last s m.to (λ u u_in o. ((λ e. o.0 (sym e)), (λ e. o.1.0 (sym e)))) w.reaches, refl),
-            w.there,
-          )
+        of_man : IsListed (list_of here) leads.man m.from → Mover side
+        of_man (inl k) = some_king White k.0 k.1
+        of_man (inr (inl k)) = some_king Black k.0 k.1
+        of_man (inr (inr (inl k))) = inr k
+        of_man (inr (inr (inr none))) = absurd none
 
-      pub goes : Result side
-      goes = of_man listed
-        where
-          of_man : IsListed (list_of here) leads.man m.from → Result side
-          of_man (inl k) = by_king White k.0 k.1
-          of_man (inr (inl k)) = by_king Black k.0 k.1
-          of_man (inr (inr (inl k))) = by_man k.0 k.1
-          of_man (inr (inr (inr none))) = absurd none
+    pub goes : ¬ Zeroes p m → (stand : Stand) × IsQuietAlone men side s stand × HasStand c false stand (other_side side) false q
+    goes keeps_count = elim mover [
+      | inl k ↦
+          let w = went_to facts keeps follow c class_in here side passed p has q m leads keeps_count (king_of side) (king_of_men men side) k.0 k.1 (stand_alone (with_king men side m.to) s) (king_moves side m.to) in
+          (stand_alone (with_king men side m.to) s, inl (m.to, (w.on_board, king_reaches (IsOff (list_of here)) (λ u. bit_at 0 u ≡ 0) (king_of side) (king_of_men men side) m.to refl w.reaches), refl), w.there)
+      | inr k ↦
+          let w = went_to facts keeps follow c class_in here side passed p has q m leads keeps_count men.last s k.0 k.1 (stand_alone men m.to) (man_moves m.to) in
+          let past = Reaches-free (IsOff (list_of here)) (IsPastKings men) men.last s m.to (λ u u_in o. ((λ e. o.0 (sym e)), (λ e. o.1.0 (sym e)))) w.reaches in
+          (stand_alone men m.to, inr (w.own, w.piece, m.to, w.on_board, past, refl), w.there)
+    ]
 
     -- ---- where no move zeroes
 
     module _ (none : NoneZeroes men side s) where
       -- a king is no pawn, and the man is none of the side
       no_pawn : (man : Man) → leads.man ≡ man → man.kind ≢ P
-      no_pawn man same pawn = of_man listed
-        where
-          of_man : IsListed (list_of here) leads.man m.from → ⊥
-          of_man (inl k) = king_piece White (ap (λ (x : Man). x.kind) (k.0 ∙ same) ∙ pawn)
-          of_man (inr (inl k)) = king_piece Black (ap (λ (x : Man). x.kind) (k.0 ∙ same) ∙ pawn)
-          of_man (inr (inr (inl k))) = none.own (ap (λ (x : Man). x.side) k.0 ∙ own) (ap (λ (x : Man). x.kind) (k.0 ∙ same) ∙ pawn)
-          of_man (inr (inr (inr never))) = absurd never
+      no_pawn man same pawn = elim mover [
+        | inl k ↦ king_piece side (ap (λ (x : Man). x.kind) (k.0 ∙ same) ∙ pawn)
+        | inr k ↦ none.own (ap (λ (x : Man). x.side) k.0 ∙ own) (ap (λ (x : Man). x.kind) (k.0 ∙ same) ∙ pawn)
+      ]
 
       module _ (held : IsHeld p.men m.to (other_side p.side)) where
+        reached : (man : Man) (from : ℕ) → man ≡ leads.man → from ≡ m.from → Reaches (IsFree p.men) man from m.to
+        reached man from is at = subst (λ (x : Man). Reaches (IsFree p.men) x from m.to) (sym is) (subst (λ u. Reaches (IsFree p.men) leads.man u m.to) (sym at) (taking_reaches p leads.man m.from m.to held leads.goes))
+
         -- only the king could take the man, whom he does not attack
         man_taken : men.last ≡ held.man → s ≡ m.to → ⊥
-        man_taken taken there = of_man listed
-          where
-            theirs : men.last.side ≡ other_side side
-            theirs = ap (λ (x : Man). x.side) taken ∙ held.theirs ∙ ap other_side has.side_is
-
-            by : (x : Side) → king_of x ≡ leads.man → king_of_men men x ≡ m.from → ⊥
-            by x is at =
-                let reaches = subst (λ (man : Man). Reaches (IsFree p.men) man (king_of_men men x) s) (sym is)
-                (subst (λ from. Reaches (IsFree p.men) leads.man from s) (sym at) (subst (Reaches (IsFree p.men) leads.man m.from) (sym there) (taking_reaches p leads.man m.from m.to held leads.goes))) in
-                none.other theirs (subst (λ (y : Side). IsBesideKing men y s) (ap (λ (man : Man). man.side) is ∙ own)
-                (apart.3.3.0, king_reaches (IsFree p.men) (λ u. bit_at 0 u ≡ 0) (king_of x) (king_of_men men x) s refl reaches))
-
-            of_man : IsListed (list_of here) leads.man m.from → ⊥
-            of_man (inl k) = by White k.0 k.1
-            of_man (inr (inl k)) = by Black k.0 k.1
-            of_man (inr (inr (inl k))) = sides_differ side (sym own ∙ ap (λ (x : Man). x.side) (sym k.0) ∙ theirs)
-            of_man (inr (inr (inr never))) = absurd never
+        man_taken taken there =
+            let theirs : men.last.side ≡ other_side side = ap (λ (x : Man). x.side) taken ∙ held.theirs ∙ ap other_side has.side_is in
+            elim mover [
+              | inl k ↦
+                  let reaches = subst (Reaches (IsFree p.men) (king_of side) (king_of_men men side)) (sym there) (reached (king_of side) (king_of_men men side) k.0 k.1) in
+                  none.other theirs (apart.3.3.0, king_reaches (IsFree p.men) (λ u. bit_at 0 u ≡ 0) (king_of side) (king_of_men men side) s refl reaches)
+              | inr k ↦ sides_differ side (sym own ∙ ap (λ (x : Man). x.side) (sym k.0) ∙ theirs)
+            ]
 
         nobody_taken : IsListed (list_of here) held.man m.to → ⊥
         nobody_taken (inl k) = no_king_taken p q m has.admissible leads held White k.0

@@ -1,7 +1,7 @@
-use Rattle.std.proofs.Common.{◌≡◌, ◌∙◌, ℕ, List, Option, false, arith, sym, ap, subst, inl, inr}
-use Rattle.egt_blocks.specs.Prelude.{bit_at, cases_eq, other_side, Side, Column, ShelfMen, IsSomeTurnedCode, at}
+use Rattle.std.proofs.Common.{◌≡◌, ℕ, List, Option, false, arith, sym, subst}
+use Rattle.egt_blocks.specs.Prelude.{other_side, Side, Column, ShelfMen, IsSomeTurnedCode, at}
 use Rattle.egt_blocks.specs.Prelude.{IsRaised, IsBesideKing, stand_on, with_king, AreKingCodes, AreKept, BlockKey}
-use Rattle.egt_blocks.proofs.BlockRaising.{GoneKing, kept_beside, one_more, raised_alike, raised_by_none}
+use Rattle.egt_blocks.proofs.BlockRaising.{GoneKing, gone_after, gone_before, kept_beside, left_beside, one_more, raised_alike, raised_by_none}
 use Rattle.egt_blocks.proofs.king_blocks.king_block.Goals as goal
 
 -- what is kept after a step
@@ -44,19 +44,9 @@ loop-to-preserved g c =
           (subst (λ (s : Side). IsRaised (at c.loop-to.out a b) (λ code. IsSomeTurnedCode number code false (stand_on (with_king men side to) a b) s) worth (at c.raise_kept.new.out a b)) c.other.ensures
           (subst (λ (m : ShelfMen). IsRaised (at c.loop-to.out a b) (λ code. IsSomeTurnedCode number code false (stand_on m a b) c.other.result) worth (at c.raise_kept.new.out a b)) c.with_king-stepped.ensures
           (c.raise_kept.ensures.raised c.if-not-raise_kept.false a b a_in b_in)))
-          (λ k gone. elim (cases_eq k to) [
-            | inl same ↦ inr same
-            | inr other ↦ inl (gone.0, sym (c.in-Some.ensures.others k other) ∙ gone.1)
-          ])
-          (λ k gone. elim (cases_eq k to) [
-            | inl same ↦ (gone.0, ap (bit_at c.pop_first.new.self.bits) same ∙ c.in-Some.ensures.gone)
-            | inr other ↦ (gone.0, c.in-Some.ensures.others k other ∙ gone.1)
-          ])
+          (gone_before men side c.loop-to.rest c.pop_first.new.self to c.in-Some.ensures.gone c.in-Some.ensures.others) (gone_after men side c.loop-to.rest c.pop_first.new.self to c.in-Some.ensures.gone c.in-Some.ensures.others)
           (here, c.in-Some.ensures.gone),
-      λ k k_in has. elim (cases_eq k to) [
-        | inl same ↦ absurd (let none = ap (bit_at c.pop_first.new.self.bits) same ∙ c.in-Some.ensures.gone in omega (arith, has, none))
-        | inr other ↦ c.loop-to.invariant.1 k k_in (sym (c.in-Some.ensures.others k other) ∙ has)
-      ],
+      left_beside men side c.loop-to.rest c.pop_first.new.self to c.in-Some.ensures.gone c.in-Some.ensures.others c.loop-to.invariant.1,
       kept_after number (g.S.ShelfScores.worth c.args.source.now) men side to c.other.result c.with_king-stepped.result c.raise_kept.new.keys c.raise_kept.new.blocks c.other.ensures c.with_king-stepped.ensures c.raise_kept.ensures.kept,
     )
 

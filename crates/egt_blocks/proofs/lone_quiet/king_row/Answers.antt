@@ -1,8 +1,8 @@
-use Rattle.std.proofs.Common.{◌∙◌, ℕ, false, arith, sym, ap, subst, inl, inr, slice_index}
-use Rattle.egt_blocks.specs.Prelude.{bit_at, cases_eq, get_or-replicate, other_side, Man, Side, IsLoneMan}
+use Rattle.std.proofs.Common.{◌∙◌, ℕ, false, arith, sym, ap, subst, slice_index}
+use Rattle.egt_blocks.specs.Prelude.{get_or-replicate, other_side, Man, Side, IsLoneMan}
 use Rattle.egt_blocks.specs.Prelude.{IsSomeTurnedCode, ShelfMen, IsRaised, AreKingCodesAlone, stand_alone}
 use Rattle.egt_blocks.specs.Prelude.{IsBesideKing, with_king, IsRead}
-use Rattle.egt_blocks.proofs.BlockRaising.{GoneKing, one_more, raised_alike, raised_by_none, raised_max, same_beside}
+use Rattle.egt_blocks.proofs.BlockRaising.{GoneKing, gone_after, gone_before, left_beside, one_more, raised_alike, raised_by_none, raised_max, same_beside}
 use Rattle.egt_blocks.proofs.lone_quiet.king_row.Goals as goal
 
 pub loop-to-init : goal.loop-to-init
@@ -37,19 +37,9 @@ loop-to-preserved g c =
           (subst (λ (x : Side). IsRead number worth false (stand_alone (with_king men side to) s) x read) c.other.ensures
           (subst (λ (m : ShelfMen). IsRead number worth false (stand_alone m s) c.other.result read) c.with_king-there.ensures (c.read_lone.ensures c.if-not-read_lone.false s s_in)))
           (c.greater.ensures s s_in))
-          (λ k gone. elim (cases_eq k to) [
-            | inl same ↦ inr same
-            | inr other ↦ inl (gone.0, sym (c.in-Some.ensures.others k other) ∙ gone.1)
-          ])
-          (λ k gone. elim (cases_eq k to) [
-            | inl same ↦ (gone.0, ap (bit_at c.pop_first.new.self.bits) same ∙ c.in-Some.ensures.gone)
-            | inr other ↦ (gone.0, c.in-Some.ensures.others k other ∙ gone.1)
-          ])
+          (gone_before men side c.loop-to.rest c.pop_first.new.self to c.in-Some.ensures.gone c.in-Some.ensures.others) (gone_after men side c.loop-to.rest c.pop_first.new.self to c.in-Some.ensures.gone c.in-Some.ensures.others)
           (here, c.in-Some.ensures.gone),
-      λ k k_in has. elim (cases_eq k to) [
-        | inl same ↦ absurd (let none = ap (bit_at c.pop_first.new.self.bits) same ∙ c.in-Some.ensures.gone in omega (arith, has, none))
-        | inr other ↦ c.loop-to.invariant.1 k k_in (sym (c.in-Some.ensures.others k other) ∙ has)
-      ],
+      left_beside men side c.loop-to.rest c.pop_first.new.self to c.in-Some.ensures.gone c.in-Some.ensures.others c.loop-to.invariant.1,
     )
 
 pub returns : goal.returns
