@@ -17,7 +17,7 @@ use Rattle.egt_fill.specs.Mended.{AllEnded, AreRightRows}
 use Rattle.egt_fill.specs.Settled.{AreScoresIn}
 use Rattle.egt_fill.specs.declared.filling.Filling.{Filling}
 use Rattle.egt_fill.specs.declared.items.Item.{Item}
-use Rattle.egt_fill.specs.declared.looking.Scores.{Scores}
+use Rattle.egt_fill.specs.declared.kept.Scores.{Scores}
 use Rattle.egt_check.specs.declared.shelf.Shelf.{Shelf}
 
 -- the men with the item's kings

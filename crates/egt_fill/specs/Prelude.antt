@@ -74,7 +74,7 @@ pub use Rattle.egt_fill.specs.declared.filling.Filling.{Filling}
 pub use Rattle.egt_fill.specs.declared.items.Item.{Item}
 pub use Rattle.egt_fill.specs.declared.kept.Kept.{Kept}
 pub use Rattle.egt_fill.specs.declared.kept.Near.{Near}
-pub use Rattle.egt_fill.specs.declared.looking.Scores.{Scores}
+pub use Rattle.egt_fill.specs.declared.kept.Scores.{Scores}
 pub use Rattle.egt_fill.specs.declared.mending.Mended.{Mended}
 pub use Rattle.egt_check.specs.declared.shelf.Shelf.{Shelf}
 pub use Rattle.egt_fill.specs.declared.rounds.Visited.{Visited}

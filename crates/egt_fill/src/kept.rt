@@ -2,7 +2,6 @@
 ghost use Rattle.std.specs.Prelude.{◌<◌, IfOk};
 ghost use Rattle.egt_fill.specs.Prelude.{AreAllKept, AreBothKept, Filling, Side, TableValue};
 
-use crate::looking::{Scores, room};
 use egt_blocks::blocks::nothing;
 use egt_blocks::kept_blocks::BlockKey;
 use egt_lanes::Block;
@@ -13,6 +12,15 @@ use std::alloc::{AllocError, Global};
 pub(crate) struct Near {
     pub(crate) keys: Vec<Option<BlockKey>>,
     pub(crate) blocks: Vec<Block>,
+}
+
+/// The greatest scores of all moves, where there is no target and where there is one; the second of each are of the zeroing column alone.
+#[derive(Drop)]
+pub(crate) struct Scores {
+    pub(crate) plain: Box<Block>,
+    pub(crate) clocks: Box<Block>,
+    pub(crate) passed: Box<Block>,
+    pub(crate) passed_clocks: Box<Block>,
 }
 
 /// The blocks that are kept, by the side to move, and room for the scores of a look.
@@ -31,6 +39,16 @@ fn no_blocks(alloc: Global, places: usize) -> Result<Near, AllocError>
     Ok(Near {
         keys: vec![in alloc; None; places]?,
         blocks: vec![in alloc; nothing(); places]?,
+    })
+}
+
+/// Room for the scores of a look.
+fn room(alloc: Global) -> Result<Scores, AllocError> {
+    Ok(Scores {
+        plain: Box::new(alloc, nothing())?,
+        clocks: Box::new(alloc, nothing())?,
+        passed: Box::new(alloc, nothing())?,
+        passed_clocks: Box::new(alloc, nothing())?,
     })
 }
 

@@ -6,7 +6,7 @@ ghost use Rattle.egt_fill.specs.declared.mending.Mended.TheVariants as mends;
 
 use crate::filling::Filling;
 use crate::items::Item;
-use crate::kept::Near;
+use crate::kept::{Near, Scores};
 use crate::mending::{Mended, mend_shelves};
 use egt_blocks::blocks::nothing;
 use egt_check::block_judging::{part_scores, raise_part_passed};
@@ -17,27 +17,6 @@ use egt_check::shelf::Shelf;
 use egt_check::table_judging::with_kings;
 use egt_index::ShelfMen;
 use egt_index::laws::numbers_stand_for_codes;
-use egt_lanes::Block;
-use std::alloc::{AllocError, Global};
-
-/// The greatest scores of all moves, where there is no target and where there is one; the second of each are of the zeroing column alone.
-#[derive(Drop)]
-pub(crate) struct Scores {
-    pub(crate) plain: Box<Block>,
-    pub(crate) clocks: Box<Block>,
-    pub(crate) passed: Box<Block>,
-    pub(crate) passed_clocks: Box<Block>,
-}
-
-/// Room for the scores of a look.
-pub(crate) fn room(alloc: Global) -> Result<Scores, AllocError> {
-    Ok(Scores {
-        plain: Box::new(alloc, nothing())?,
-        clocks: Box::new(alloc, nothing())?,
-        passed: Box::new(alloc, nothing())?,
-        passed_clocks: Box::new(alloc, nothing())?,
-    })
-}
 
 /// The greatest scores of all moves from the item's positions. False where a table does not tell.
 fn item_scores(

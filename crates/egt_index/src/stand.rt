@@ -1,8 +1,8 @@
 //! The men of a class on their squares.
-ghost use Rattle.std.specs.Prelude.{◌≡◌, ◌<◌, ◌%◌, ◌/◌, ◌==◌, ◌++◌, ◌↔◌, IsTrue, IfSome, Bool, true, false, None};
+ghost use Rattle.std.specs.Prelude.{◌≡◌, ◌<◌, ◌%◌, ◌/◌, ◌==◌, ◌↔◌, IsTrue, IfSome, Bool, true, false, None};
 ghost use Rattle.std.specs.Prelude.{if◌then◌else◌};
 ghost use Rattle.egt_index.specs.Prelude.{option_to_list, option_map, HasAllMen, Setup, IsAdmissible, turned_man};
-ghost use Rattle.egt_index.specs.Prelude.{material_of, IsOf, men_beside, Stood, Holds, IsOn, IsAmong, IsFirst, list_of};
+ghost use Rattle.egt_index.specs.Prelude.{IsOf, Stood, Holds, IsOn, IsAmong, IsFirst, list_of};
 ghost use Rattle.egt_index.specs.Prelude.{before_last, with_last, IsOff, AllApart, AreNear, entry_after, on_square_of};
 ghost use Rattle.egt_index.specs.Prelude.{IsInOrder, IsOrdered, AreExchanged, IsTurned, IsStandAfter};
 
@@ -112,22 +112,19 @@ pub(crate) struct Standing {
     pub(crate) stand: Stand,
 }
 
-/// Where these men, in whatever order beside the kings, stand in the class, whose men beside the kings are `first` and `second`.
+/// Where these men, in whatever order beside the kings, stand in the class.
 #[inline(always)]
 pub(crate) fn stand_by(
     class: Class,
     flipped: bool,
     white: Square,
     black: Square,
-    first: Option<Man>,
-    second: Option<Man>,
     one: &Option<(Man, Square)>,
     other: &Option<(Man, Square)>,
 ) -> Stand
-    requires men { option_to_list first ++ option_to_list second ≡ men_beside (material_of class) }
-    requires from_first { first ≡ None → second ≡ None }
     ensures { (p : Setup) → IsAdmissible p → IsOf class flipped p → HasAllMen p.men white black one.now other.now → Stood class flipped p.men (list_of result) }
 {
+    let (first, second) = non_kings(class);
     let in_order = is_first(&first, flipped, one);
     let (one, other) = (square_of(one), square_of(other));
     Stand {
@@ -149,14 +146,14 @@ pub(crate) fn standing_of(class: Class, position: &Position) -> Standing
     facts();
     let _number = class.number();
     let _side = position.side();
-    let (first, second) = non_kings(class);
+    let (first, _) = non_kings(class);
     let (one, other) = position.board().non_kings();
     let white = position.king(Side::White);
     let black = position.king(Side::Black);
     let flipped = !is_among(&first, &one, &other);
     Standing {
         flipped,
-        stand: stand_by(class, flipped, white, black, first, second, &one, &other),
+        stand: stand_by(class, flipped, white, black, &one, &other),
     }
 }
 
@@ -173,10 +170,9 @@ pub(crate) fn standing_by(
     ensures flipped { result.flipped ≡ flipped }
     ensures stood { (p : Setup) → IsAdmissible p → IsOf class flipped p → HasAllMen p.men white black one.now other.now → Stood class flipped p.men (list_of result.stand) }
 {
-    let (first, second) = non_kings(class);
     Standing {
         flipped,
-        stand: stand_by(class, flipped, white, black, first, second, one, other),
+        stand: stand_by(class, flipped, white, black, one, other),
     }
 }
 
