@@ -10,7 +10,7 @@ use Rattle.egt_table.specs.declared.column.Column.TheVariants as columns
 use Rattle.egt_sweep.proofs.Linked.{spelled_there, void_is}
 use Rattle.egt_sweep.proofs.OutOfClass.{beside_own}
 use Rattle.egt_sweep.proofs.Shown.{beside_children, beside_reach}
-use Rattle.egt_sweep.proofs.FilledTables.{RulesTell}
+use Rattle.egt_sweep.proofs.TablesFilled.{RulesTell}
 
 abbrev pub with_nears : TableValue → List ℕ → TableValue
 with_nears t nears = record { class = t.class; mate = t.mate; zeroing = t.zeroing; reach = Some nears }

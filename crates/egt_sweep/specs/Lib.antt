@@ -1,3 +1,17 @@
+pub mod Mended
+pub mod Turns
+pub mod Reads
+pub mod Settled
+pub mod Items
+pub mod Covered
+pub mod Stamps
+pub mod Begun
+pub mod Filled
+pub mod Rounds
+pub mod UnderWay
+pub mod Forgotten
+pub mod Ends
+pub mod FillPrelude
 pub mod Laws
 pub mod Nodes
 pub mod Edges

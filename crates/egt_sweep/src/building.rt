@@ -5,7 +5,7 @@ ghost use Rattle.egt_sweep.specs.Prelude.{HasReachChildren, IsTrueTable, AllWith
 ghost use Rattle.egt_sweep.specs.Prelude.{HasNoFalseChild, SomeReachesFar, class_game, mate_table, reach_game};
 
 use crate::build_fault::BuildFault;
-use crate::filling::filled;
+use crate::filled::filled;
 use crate::laws::laws;
 use crate::limit::within_limit;
 use crate::mate_game::MateGame;
@@ -17,7 +17,7 @@ use crate::zero_game::ZeroGame;
 use egt_check::laws::rules_are_kept_by_true_tables_alone;
 use egt_check::{Library, first_lacking, first_missing};
 use egt_class::{Class, children};
-use egt_fill::ROUNDS;
+use crate::ROUNDS;
 use egt_graph::{Nears, Ranks, SolveFault, nearest, solve};
 use egt_moves::laws::one_value;
 use egt_table::Table;

@@ -8,7 +8,7 @@ use crate::migrate_fault::MigrateFault;
 use crate::ranks::reach_numbers_are_the_nearest_mates;
 use egt_check::laws::rules_are_kept_by_true_tables_alone;
 use egt_check::{Library, first_lacking};
-use egt_fill::{ROUNDS, Reached, filled_reach};
+use crate::{ROUNDS, Reached, filled_reach};
 use egt_graph::SolveFault;
 use egt_table::Table;
 use std::alloc::Global;

@@ -2,7 +2,7 @@
 
 use super::built;
 use egt_check::first_missing;
-use egt_fill::{ROUNDS, filled_values};
+use egt_sweep::{ROUNDS, filled_values};
 use egt_plain::shelf::named;
 use std::test::*;
 

@@ -2,7 +2,7 @@ use Rattle.std.proofs.Common.{◌≡◌, ℕ, Result, Ok, Err, IfOk, IfErr, refl
 use Rattle.egt_sweep.specs.Prelude.{Tables, table_at, HasChildren, HasReachChildren, HasTrueChildren, TableValue}
 use Rattle.egt_sweep.specs.Prelude.{AllWithinLimit, IsBuilt, IsNotBuilt, SomeAboveLimit, BuildFault}
 use Rattle.egt_sweep.specs.declared.build_fault.BuildFault.TheVariants as faults
-use Rattle.egt_sweep.proofs.FilledTables.{true_is_accepted}
+use Rattle.egt_sweep.proofs.TablesFilled.{true_is_accepted}
 use Rattle.egt_sweep.proofs.TrueChildren.{true_children}
 use Rattle.egt_sweep.proofs.building.kept.Goals as goal
 

@@ -1,6 +1,6 @@
 use Rattle.std.proofs.Common.{sym, subst}
 use Rattle.egt_sweep.specs.Prelude.{table_at, HasChildren, HasReachChildren, HasTrueChildren, HasNoFalseChild}
-use Rattle.egt_sweep.proofs.FilledTables.{kept_is_true, true_is_accepted}
+use Rattle.egt_sweep.proofs.TablesFilled.{kept_is_true, true_is_accepted}
 use Rattle.egt_sweep.proofs.JoinedTables.{not_there}
 use Rattle.egt_sweep.proofs.TrueChildren.{true_children}
 use Rattle.egt_sweep.proofs.migrating.migrate.Goals as goal

@@ -1,7 +1,7 @@
 use Rattle.std.proofs.Common.{ℕ, Err, refl, sym, ap, subst}
 use Rattle.egt_sweep.specs.Prelude.{AreNears, IsTable, Tables, table_at, HasTrueChildren, IsTrueTable, HasNoFalseChild}
 use Rattle.egt_sweep.specs.Prelude.{IsMigrated, SomeReachesFar, reach_game, reaches_below}
-use Rattle.egt_sweep.proofs.FilledTables.{kept_is_true}
+use Rattle.egt_sweep.proofs.TablesFilled.{kept_is_true}
 use Rattle.egt_sweep.proofs.JoinedTables.{NearsTell, joined_is_accepted, joined_reach}
 use Rattle.egt_sweep.proofs.TrueChildren.{true_children}
 use Rattle.egt_sweep.proofs.migrating.solved.Goals as goal

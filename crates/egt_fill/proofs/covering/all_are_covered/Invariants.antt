@@ -1,7 +1,0 @@
-use Rattle.std.specs.Prelude.{ℕ, ◌*◌, ◌<◌}
-use Rattle.egt_fill.specs.Prelude.{Side, AreAllJudged}
-use Rattle.egt_fill.proofs.covering.all_are_covered.Given as goal
-
--- the pairs that came before are right
-abbrev pub invariant-loop-pair : goal.invariant-loop-pair
-invariant-loop-pair l = (pair : ℕ) (side : Side) → pair < l.pair → AreAllJudged l.filling l.table (pair * l.pairs.step) side

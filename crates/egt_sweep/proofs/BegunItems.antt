@@ -1,0 +1,25 @@
+-- Items of which no ends are known.
+use Rattle.std.proofs.Common.{◌≡◌, ◌≢◌, ℕ, ◌+◌, ◌<◌, true, false, List, slice_index_or, arith, ap, ◌∙◌, subst}
+use Rattle.egt_sweep.specs.FillPrelude.{bit_at, bit_at-zero, SquareSet, kind_less, ShelfMen, TableValue, AreShelvesOf}
+use Rattle.egt_sweep.specs.FillPrelude.{HoldsExits, column_of, Part, IsItem, men_of, passed_shelves_of, shelves_of, AllEnded}
+use Rattle.egt_sweep.specs.FillPrelude.{no_squares, Filling, Item, Shelf}
+
+-- there are no entries at the ends where no square is one
+none_ended : (part : Part) (t : TableValue) (shelves : Shelf) (ended : List SquareSet) → ((s : ℕ) → slice_index_or ended s no_squares ≡ no_squares) → AllEnded part t shelves ended
+none_ended part t shelves ended none = λ x _ digit _ has.
+    let lane = digit + kind_less shelves.men.last.kind in
+    let gone = ap (λ (set : SquareSet). bit_at set.bits lane) (none (x + kind_less shelves.men.one.kind)) ∙ bit_at-zero lane in
+    absurd (omega (arith, has, gone))
+
+-- what is kept of such an item holds of any table
+pub begun_item : (f : Filling) (t : TableValue) (men : ShelfMen) (item : Item) → men ≡ men_of f item → item.first + f.half + 64 < 4294967296
+    → HoldsExits (column_of f.part) f.children men item.side item.leaving.value → AreShelvesOf false f.class men item.first → (f.half ≢ 0 → AreShelvesOf true f.class men (item.first + f.half))
+    → ((s : ℕ) → slice_index_or item.ended s no_squares ≡ no_squares) → ((s : ℕ) → slice_index_or item.passed_ended s no_squares ≡ no_squares) → IsItem f t item
+begun_item f t men item is room leaving plain passed ended passed_ended = record {
+  room = room;
+  leaving = subst (λ (m : ShelfMen). HoldsExits (column_of f.part) f.children m item.side item.leaving.value) is leaving;
+  plain = subst (λ (m : ShelfMen). AreShelvesOf false f.class m item.first) is plain;
+  passed = λ some. subst (λ (m : ShelfMen). AreShelvesOf true f.class m (item.first + f.half)) is (passed some);
+  ended = none_ended f.part t (shelves_of f item) item.ended ended;
+  passed_ended = λ _. none_ended f.part t (passed_shelves_of f item) item.passed_ended passed_ended;
+}

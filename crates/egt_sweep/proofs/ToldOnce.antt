@@ -1,0 +1,54 @@
+-- A code tells one side to move and one square for each man.
+use Rattle.std.proofs.Common.{◌≡◌, ℕ, ◌<◌, Bool, true, false, cond, List, [], ◌∷◌, refl, sym, ap, subst, ◌∙◌, arith}
+use Rattle.egt_sweep.specs.FillPrelude.{king_of, side_number, Man, Side, White, Black, material_of, AreDigits, has_target}
+use Rattle.egt_sweep.specs.FillPrelude.{men_bases, men_at, list_of, TellsMen, Stand, number_from-same, side_few, heads, tails}
+
+flag_few : (passed : Bool) → cond passed 1 0 < 2
+flag_few passed = grind arith
+
+-- the lowest digits
+ends_fit : (target : Bool) (side : Side) (passed : Bool) → AreDigits (2 ∷ cond target (2 ∷ []) []) (side_number side ∷ cond target (cond passed 1 0 ∷ []) [])
+ends_fit true side passed = (side_few side, (flag_few passed, tt))
+ends_fit false side passed = (side_few side, tt)
+
+one_flag : (p q : Bool) → ◌≡◌ {A = ℕ} (cond p 1 0) (cond q 1 0) → p ≡ q
+one_flag p q e = grind arith
+
+one_side : (side other : Side) → side_number side ≡ side_number other → side ≡ other
+one_side side other e = grind arith
+
+-- of two lists of men the squares of the kings
+first_squares : (white black white' black' : ℕ) (rest rest' : List (Man × ℕ)) → ◌≡◌ {A = List (Man × ℕ)} ((king_of White, white) ∷ (king_of Black, black) ∷ rest) ((king_of White, white') ∷ (king_of Black, black') ∷ rest') → (white ≡ white') × (black ≡ black')
+first_squares white black white' black' rest rest' e = (ap first e, ap second e)
+  where
+    first : List (Man × ℕ) → ℕ
+    first [] = 0
+    first (x ∷ xs) = x.1
+
+    second : List (Man × ℕ) → ℕ
+    second [] = 0
+    second (x ∷ xs) = first xs
+
+module _ (c code : ℕ) (p q : Bool) (s t : Stand) (side other : Side) (here : TellsMen p c code s side) (there : TellsMen q c code t other) where
+  both : (here.number ≡ there.number) × (side_number side ∷ cond (has_target (material_of c)) (cond p 1 0 ∷ []) [] ≡ side_number other ∷ cond (has_target (material_of c)) (cond q 1 0 ∷ []) [])
+  both = number_from-same (2 ∷ cond (has_target (material_of c)) (2 ∷ []) []) (side_number side ∷ cond (has_target (material_of c)) (cond p 1 0 ∷ []) []) (side_number other ∷ cond (has_target (material_of c)) (cond q 1 0 ∷ []) [])
+      here.number there.number (ends_fit (has_target (material_of c)) side p) (ends_fit (has_target (material_of c)) other q) (sym here.ends.number_is ∙ there.ends.number_is)
+
+  pub side_told : side ≡ other
+  side_told = one_side side other (heads both.1)
+
+  same_list : list_of s ≡ list_of t
+  same_list =
+      here.men.list_is
+      ∙ ap (men_at (material_of c)) (number_from-same (men_bases (material_of c)) here.men.digits there.men.digits 0 0 here.men.are there.men.are (sym here.men.number_is ∙ both.0 ∙ there.men.number_is)).1
+      ∙ sym there.men.list_is
+
+  pub kings_told : (s.white ≡ t.white) × (s.black ≡ t.black)
+  kings_told = first_squares s.white s.black t.white t.black _ _ same_list
+
+  same_flag : (b : Bool) → has_target (material_of c) ≡ b → p ≡ q
+  same_flag false none = here.ends.never none ∙ sym (there.ends.never none)
+  same_flag true some = one_flag p q (heads (tails (subst (λ (t : Bool). ◌≡◌ {A = List ℕ} (side_number side ∷ cond t (cond p 1 0 ∷ []) []) (side_number other ∷ cond t (cond q 1 0 ∷ []) [])) some both.1)))
+
+  pub passed_told : p ≡ q
+  passed_told = same_flag (has_target (material_of c)) refl
