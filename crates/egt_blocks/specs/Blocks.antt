@@ -1,19 +1,14 @@
 -- What a block holds: a number for each square of the first man beside the kings and of the last.
 use Rattle.std.specs.Prelude.{ℕ, ◌+◌, ◌/◌, ◌%◌, ◌<◌, ◌==◌, Bool, false}
-use Rattle.egt_board.specs.Turned.{turned_side, turned_square}
-use Rattle.egt_board.specs.Man.{other_side}
+use Rattle.egt_index.specs.Prelude.{turned_side, turned_square, other_side, material_of, IsTurnWith, kind_digits}
+use Rattle.egt_index.specs.Prelude.{kind_less, IsShelfOf, IsWithin, has_pawns, TellsMen, turned_by}
+use Rattle.egt_steps.specs.Prelude.{stand_on, with_king}
+use Rattle.egt_lanes.specs.Prelude.{IsRaised}
 use Rattle.egt_board.specs.declared.man.Side.{Side}
-use Rattle.egt_class.specs.Material.{material_of}
-use Rattle.egt_index.specs.Home.{IsTurnWith}
-use Rattle.egt_index.specs.Scales.{kind_digits, kind_less}
-use Rattle.egt_index.specs.ShelfCodes.{IsShelfOf, IsWithin}
-use Rattle.egt_index.specs.Size.{has_pawns}
-use Rattle.egt_index.specs.TellsMen.{TellsMen}
-use Rattle.egt_index.specs.TurnedMen.{IsSomeTurnedCode, turned_by}
+use Rattle.egt_index.specs.TurnedMen.{IsSomeTurnedCode}
 use Rattle.egt_index.specs.declared.shelf_codes.ShelfMen.{ShelfMen}
 use Rattle.egt_index.specs.declared.stand.Stand.{Stand}
-use Rattle.egt_lanes.specs.Raised.{IsRaised}
-use Rattle.egt_steps.specs.Stands.{men_on, stand_on, with_king}
+use Rattle.egt_steps.specs.Stands.{men_on}
 
 -- the men with the kings on these squares
 abbrev pub with_kings : ShelfMen → (white black : ℕ) → ShelfMen

@@ -1,12 +1,10 @@
 -- Where pawns arrive, and what the men are worth before they go.
 use Rattle.std.specs.Prelude.{ℕ, ◌<◌, Bool, true, false, List}
-use Rattle.egt_board.specs.Man.{other_side}
-use Rattle.egt_board.specs.Pawn.{IsBeside}
+use Rattle.egt_steps.specs.Prelude.{other_side, IsBeside, stand_after}
+use Rattle.egt_lanes.specs.Prelude.{at}
 use Rattle.egt_board.specs.declared.man.Side.{Side}
 use Rattle.egt_board.specs.declared.man.Side.TheVariants.{White, Black}
 use Rattle.egt_index.specs.declared.shelf_codes.ShelfMen.{ShelfMen}
-use Rattle.egt_lanes.specs.Blocks.{at}
-use Rattle.egt_steps.specs.PawnMoves.{stand_after}
 use Rattle.egt_blocks.specs.Scored.{IsRead}
 
 -- t is beside a, or is not

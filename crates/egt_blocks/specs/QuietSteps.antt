@@ -1,10 +1,9 @@
 -- Where the pieces beside the kings go quietly.
 use Rattle.std.specs.Prelude.{◌≡◌, ◌≢◌, ℕ}
-use Rattle.egt_board.specs.AttackLines.{Reaches}
+use Rattle.egt_steps.specs.Prelude.{Reaches, IsClear}
 use Rattle.egt_board.specs.declared.man.Kind.TheVariants.{P}
 use Rattle.egt_board.specs.declared.man.Side.{Side}
 use Rattle.egt_index.specs.declared.shelf_codes.ShelfMen.{ShelfMen}
-use Rattle.egt_steps.specs.QuietStands.{IsClear}
 
 -- the first man, a piece of that side, from a
 abbrev pub IsFirstStep : ShelfMen → Side → (a b t : ℕ) → Type 0

@@ -1,10 +1,9 @@
 -- What the men of a class are worth on their squares, by a function from codes to scores.
 use Rattle.std.specs.Prelude.{◌≡◌, ℕ, Bool, false}
+use Rattle.egt_index.specs.Prelude.{IsVoid, IsSomeTurnedCodeWith}
+use Rattle.egt_lanes.specs.Prelude.{IsRaised}
 use Rattle.egt_board.specs.declared.man.Side.{Side}
-use Rattle.egt_index.specs.Index.{IsVoid}
-use Rattle.egt_index.specs.TurnedMen.{IsSomeTurnedCodeWith}
 use Rattle.egt_index.specs.declared.stand.Stand.{Stand}
-use Rattle.egt_lanes.specs.Raised.{IsRaised}
 
 -- the codes of no position are worth nothing
 abbrev pub ScoresNoVoids : (c : ℕ) → (worth : ℕ → ℕ) → Type 0

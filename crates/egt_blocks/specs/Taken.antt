@@ -1,12 +1,10 @@
 -- The codes of the positions after a capture, in the class that is left.
 use Rattle.std.specs.Prelude.{◌≡◌, ℕ, ◌⊎◌, Bool}
-use Rattle.egt_board.specs.AttackLines.{Reaches}
-use Rattle.egt_board.specs.Man.{other_side}
+use Rattle.egt_steps.specs.Prelude.{Reaches, other_side, IsBesideKing, with_king, IsPastKings, Left, left_of}
+use Rattle.egt_steps.specs.Prelude.{stand_left}
 use Rattle.egt_board.specs.declared.man.Side.{Side}
 use Rattle.egt_index.specs.TurnedMen.{IsSomeTurnedCode}
 use Rattle.egt_index.specs.declared.shelf_codes.ShelfMen.{ShelfMen}
-use Rattle.egt_steps.specs.Stands.{IsBesideKing, with_king}
-use Rattle.egt_steps.specs.Takings.{IsPastKings, Left, left_of, stand_left}
 
 -- that side takes the last man, on b, by its king or by the first man, on a
 abbrev pub IsLastTaken : ShelfMen → Side → (a b : ℕ) → Left → Type 0

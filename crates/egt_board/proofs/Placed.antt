@@ -1,8 +1,7 @@
 -- Entries of a placement, found by their squares.
-use Rattle.std.proofs.Common.{◌≡◌, ◌≢◌, ◌<◌, ℕ, List, ◌∷◌, Some, Bool, true, cond, refl, ap, ltb, eqb, T}
+use Rattle.std.proofs.Common.{◌≡◌, ◌≢◌, ◌<◌, ℕ, List, ◌∷◌, Some, Bool, true, cond, refl, ap, ltb, eqb, T, arith}
 use Rattle.egt_board.specs.Prelude.{ltb-true, nat_cmp, is_lt, Less, Equal, Greater, Man, tied, untied}
 use Rattle.std.specs.FinMap as map
-use Rattle.std.proofs.Common.{arith}
 
 pub find-here : (q k : ℕ) (man : Man) (es : List (ℕ × Man)) → q ≡ k → map.find nat_cmp q ((k, man) ∷ es) ≡ Some man
 find-here q k man es e = ap (λ b. cond b (Some man) (map.find nat_cmp q es)) (tied q k e)

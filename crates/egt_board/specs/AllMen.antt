@@ -1,12 +1,8 @@
 -- All men of a board, those beside the kings in whatever order.
 use Rattle.std.specs.Prelude.{◌≡◌, ◌≢◌, ℕ, ◌<◌, ◌⊎◌, Option, Some, None, IfSome}
 use Rattle.std.proofs.Common.{arith}
-use Rattle.egt_board.specs.declared.man.Kind.TheVariants.{K}
-use Rattle.egt_board.specs.declared.man.Man.{Man}
-use Rattle.egt_board.specs.declared.man.Side.TheVariants.{White, Black}
-use Rattle.egt_board.specs.NonKings.{StandsBeside, AreBeside}
-use Rattle.egt_board.specs.Placement.{Placement, Stands}
-use Rattle.egt_board.specs.Setup.{IsKingOn}
+use Rattle.egt_board.specs.Prelude.{K, Man, White, Black, AreBeside, Placement, Stands, IsKingOn}
+use Rattle.egt_board.specs.NonKings.{StandsBeside}
 
 -- the two, if there are both, are on squares of their own
 abbrev pub AreApart : Option (Man × ℕ) → Option (Man × ℕ) → Type 0

@@ -1,26 +1,18 @@
 -- What the calls that C makes answer. Where there is a fault, what was there before stays.
 use Rattle.std.specs.Prelude.{◌≡◌, ◌≢◌, ◌↔◌, ℕ, ◌≤◌, Bool, true, false, List, length, map, take, Option, Some, None}
-use Rattle.std.specs.List.{Contains}
-use Rattle.egt_board.specs.Setup.{Setup}
+use Rattle.egt_probe.specs.Prelude.{Contains, Setup, IsLegal, IsInOrder, TableValue, table_at, IsBest, Loaded}
+use Rattle.egt_probe.specs.Prelude.{IsMissing, IsRoot, IsVerdict}
+use Rattle.egt_check.specs.Prelude.{IsAccepted, IsTurnedAway, beside}
+use Rattle.egt_fen.specs.Prelude.{Spells, IsFirstFault}
+use Rattle.egt_table.specs.Prelude.{IsAnswer, bytes_of}
 use Rattle.egt_moves.specs.declared.chess_move.Move.{Move}
-use Rattle.egt_moves.specs.Legal.{IsLegal}
-use Rattle.egt_moves.specs.Order.{IsInOrder}
 use Rattle.egt_fen.specs.declared.fault.FenFault.{FenFault}
 use Rattle.egt_fen.specs.declared.fen.Fen.{Fen}
-use Rattle.egt_fen.specs.Fen.{Spells, IsFirstFault}
 use Rattle.egt_table.specs.declared.fault.FileFault.{FileFault}
 use Rattle.egt_table.specs.declared.fault.FileFault.TheVariants.{Device}
-use Rattle.egt_table.specs.File.{IsAnswer, bytes_of}
-use Rattle.egt_table.specs.Table.{TableValue}
 use Rattle.egt_entries.specs.declared.reject.Reject.{Reject}
-use Rattle.egt_entries.specs.Library.{IsAccepted, IsTurnedAway}
-use Rattle.egt_entries.specs.Tables.{table_at, beside}
 use Rattle.egt_probe.specs.declared.outcome.Verdict.{Verdict}
 use Rattle.egt_probe.specs.declared.ranking.RootMove.{RootMove}
-use Rattle.egt_probe.specs.Best.{IsBest}
-use Rattle.egt_probe.specs.Loaded.{Loaded, IsMissing}
-use Rattle.egt_probe.specs.Root.{IsRoot}
-use Rattle.egt_probe.specs.Verdict.{IsVerdict}
 use Rattle.egt_c.specs.declared.fault.EgtbFault.{EgtbFault}
 use Rattle.egt_c.specs.declared.moves.EgtbMove.{EgtbMove}
 use Rattle.egt_c.specs.declared.moves.EgtbMoves.{EgtbMoves}

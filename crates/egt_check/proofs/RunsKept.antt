@@ -1,9 +1,8 @@
 -- Runs whose entries keep the rules.
-use Rattle.std.proofs.Common.{◌≡◌, ℕ, ◌+◌, ◌*◌, ◌<◌, ◌≤◌, ◌∙◌, inl, inr, sym, arith, true, false, get_or}
-use Rattle.std.proofs.Common.{replicate, Option, Some, None}
-use Rattle.egt_check.specs.Prelude.{cases_lt, false≢true, get_or-replicate, get_or_past}
-use Rattle.egt_check.specs.Prelude.{length-replicate, mul-le-mul_right, Rule, TableValue, IsFirstBad, Zeroing, IsJudged}
-use Rattle.egt_check.specs.Prelude.{Keeps, Tables}
+use Rattle.std.proofs.Common.{◌≡◌, ℕ, ◌+◌, ◌*◌, ◌<◌, ◌≤◌, ◌∙◌, inl, inr, sym, arith, true, false, get_or, replicate}
+use Rattle.std.proofs.Common.{Option, Some, None}
+use Rattle.egt_check.specs.Prelude.{cases_lt, false≢true, get_or-replicate, get_or_past, length-replicate}
+use Rattle.egt_check.specs.Prelude.{mul-le-mul_right, Rule, TableValue, IsFirstBad, Zeroing, IsJudged, Keeps, Tables}
 
 -- nothing is marked at first
 pub unmarked : (n i : ℕ) → get_or (replicate n false) i false ≡ true → ⊥

@@ -1,8 +1,6 @@
 -- Positions whose steps lead to images of one another.
 use Rattle.std.specs.Prelude.{◌↔◌}
-use Rattle.egt_board.specs.Images.{AreImages}
-use Rattle.egt_board.specs.Setup.{Setup}
-use Rattle.egt_moves.specs.Chess.{chess}
+use Rattle.egt_moves.specs.Prelude.{AreImages, Setup, chess}
 
 -- each step from p has its like from p', to an image
 abbrev pub HasImageSteps : Setup → Setup → Type 0

@@ -1,15 +1,12 @@
 -- The entries of a class with one man beside the kings, by the squares of the kings: he is the last of the men.
 use Rattle.std.specs.Prelude.{◌≡◌, ◌≢◌, ℕ, ◌+◌, ◌*◌, ◌<◌, Some, IsSome}
-use Rattle.egt_board.specs.Images.{side_number}
+use Rattle.egt_blocks.specs.Prelude.{side_number, IsLoneMan, kind_digits, IsRaised, AreCodesAlone}
+use Rattle.egt_table.specs.Prelude.{HasColumn, IsTable, TableValue}
+use Rattle.egt_entries.specs.Prelude.{Tables}
 use Rattle.egt_board.specs.declared.man.Kind.TheVariants.{K}
 use Rattle.egt_board.specs.declared.man.Side.{Side}
-use Rattle.egt_index.specs.LoneCodes.{IsLoneMan}
-use Rattle.egt_index.specs.Scales.{kind_digits}
-use Rattle.egt_lanes.specs.Raised.{IsRaised}
-use Rattle.egt_table.specs.Table.{HasColumn, IsTable, TableValue}
 use Rattle.egt_table.specs.declared.column.Column.{Column}
-use Rattle.egt_entries.specs.Tables.{HasChildren, HasReachChildren, Tables, beside, table_at}
-use Rattle.egt_steps.specs.QuietAlone.{AreCodesAlone}
+use Rattle.egt_entries.specs.Tables.{HasChildren, HasReachChildren, beside, table_at}
 use Rattle.egt_check.specs.Parts.{column_of, table_in}
 use Rattle.egt_check.specs.RightBlock.{KeepsPart}
 use Rattle.egt_check.specs.RightRow.{due_in}

@@ -1,12 +1,9 @@
 -- Codes whose entries have no score.
 use Rattle.std.specs.Prelude.{◌≡◌, ℕ, ◌+◌, ◌<◌}
+use Rattle.egt_index.specs.Prelude.{code_of, kind_digits, number_in, size_of}
+use Rattle.egt_table.specs.Prelude.{TableValue}
 use Rattle.egt_board.specs.declared.man.Side.{Side}
-use Rattle.egt_index.specs.Numbers.{code_of}
-use Rattle.egt_index.specs.Scales.{kind_digits}
-use Rattle.egt_index.specs.ShelfCodes.{number_in}
-use Rattle.egt_index.specs.Size.{size_of}
 use Rattle.egt_index.specs.declared.shelf_codes.ShelfMen.{ShelfMen}
-use Rattle.egt_table.specs.Table.{TableValue}
 use Rattle.egt_table.specs.declared.column.Column.{Column}
 use Rattle.egt_check.specs.Worth.{column_score}
 

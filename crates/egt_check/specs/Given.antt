@@ -1,12 +1,11 @@
 -- Scores in bytes of the moves from a position.
 use Rattle.std.specs.Prelude.{◌≡◌, ◌≢◌, ◌↔◌, ◌⊎◌, ℕ, ◌%◌, ◌<◌, ◌≤◌, Bool, true, false, IsTrue}
-use Rattle.egt_board.specs.Setup.{Setup}
-use Rattle.egt_lanes.specs.Scores.{byte_score, zeroing_score}
-use Rattle.egt_moves.specs.Chess.{Zeroes}
-use Rattle.egt_moves.specs.Legal.{Leads}
+use Rattle.egt_moves.specs.Prelude.{Setup, Zeroes, Leads}
+use Rattle.egt_lanes.specs.Prelude.{byte_score, zeroing_score}
+use Rattle.egt_entries.specs.Prelude.{Tables}
 use Rattle.egt_moves.specs.declared.chess_move.Move.{Move}
 use Rattle.egt_entries.specs.declared.metric.Metric.TheVariants.{Mate, Zeroing}
-use Rattle.egt_entries.specs.Tables.{Tables, HasEntry}
+use Rattle.egt_entries.specs.Tables.{HasEntry}
 
 -- the entry has a byte of its own
 pub record IsKnown (entry : ℕ) : Type 0 where

@@ -1,29 +1,22 @@
 -- The greatest scores of all moves, in both columns.
 use Rattle.std.specs.Prelude.{◌≡◌, ◌≢◌, ℕ, ◌<◌, Bool, true, false, max, Some, IfSome, List}
-use Rattle.egt_board.specs.Turned.{turned_man}
+use Rattle.egt_blocks.specs.Prelude.{turned_man, IsLoneMan, AreMenOf, at, IsRaised, ArePassingCodes, AreQuietCodes}
+use Rattle.egt_blocks.specs.Prelude.{AreLeftCodes, men_swapped, ScoresNoVoids}
+use Rattle.egt_table.specs.Prelude.{HasColumn, IsTable}
+use Rattle.egt_lanes.specs.Prelude.{zeroing_score}
+use Rattle.egt_steps.specs.Prelude.{IsClassOfTwo}
+use Rattle.egt_entries.specs.Prelude.{Tables}
 use Rattle.egt_board.specs.declared.man.Kind.TheVariants.{K}
 use Rattle.egt_board.specs.declared.man.Side.{Side}
-use Rattle.egt_index.specs.LoneCodes.{IsLoneMan}
-use Rattle.egt_index.specs.ShelfCodes.{AreMenOf}
 use Rattle.egt_index.specs.declared.shelf_codes.ShelfMen.{ShelfMen}
-use Rattle.egt_lanes.specs.Blocks.{at}
-use Rattle.egt_lanes.specs.Raised.{IsRaised}
-use Rattle.egt_lanes.specs.Scores.{zeroing_score}
-use Rattle.egt_table.specs.Table.{HasColumn, IsTable}
 use Rattle.egt_table.specs.declared.column.Column.{Column}
-use Rattle.egt_table.specs.declared.column.Column.TheVariants as columns
 use Rattle.egt_entries.specs.declared.metric.Metric.TheVariants.{Mate, Zeroing}
-use Rattle.egt_steps.specs.InPassing.{ArePassingCodes}
-use Rattle.egt_steps.specs.PawnMoves.{IsClassOfTwo}
 use Rattle.egt_check.specs.PawnScores.{ArePromotionsOf, AreRaisedByPawns, HasPromotions, IsBestPromotion}
-use Rattle.egt_steps.specs.QuietStands.{AreQuietCodes}
-use Rattle.egt_entries.specs.Tables.{Tables}
 use Rattle.egt_check.specs.Taken.{IsTableOf}
-use Rattle.egt_blocks.specs.Taken.{AreLeftCodes, men_swapped}
 use Rattle.egt_check.specs.Worth.{HasBytes, column_score, score_at}
-use Rattle.egt_blocks.specs.Scored.{ScoresNoVoids}
 use Rattle.egt_check.specs.declared.move_scores.Children.{Children}
 use Rattle.egt_check.specs.declared.move_scores.FourMen.{FourMen}
+use Rattle.egt_table.specs.declared.column.Column.TheVariants as columns
 
 -- the tables are those of the classes that the moves of these men lead to when they leave their own, and have the column
 pub record AreChildren (column : Column) (children : Children) (men : ShelfMen) : Type 0 where

@@ -1,13 +1,9 @@
 -- The shelves of a class with two men beside the kings, by the pairs of squares that the kings stand on.
 use Rattle.std.specs.Prelude.{◌≡◌, ℕ, ◌+◌, ◌*◌, ◌<◌, ◌≤◌, true}
+use Rattle.egt_index.specs.Prelude.{material_of, places, ends_of, kind_digits, has_target, size_of}
+use Rattle.egt_entries.specs.Prelude.{TableValue, Tables}
 use Rattle.egt_board.specs.declared.man.Side.{Side}
-use Rattle.egt_class.specs.Material.{material_of}
-use Rattle.egt_index.specs.Numbers.{places}
-use Rattle.egt_index.specs.Scales.{ends_of, kind_digits}
-use Rattle.egt_index.specs.Size.{has_target, size_of}
 use Rattle.egt_index.specs.declared.shelf_codes.ShelfMen.{ShelfMen}
-use Rattle.egt_table.specs.Table.{TableValue}
-use Rattle.egt_entries.specs.Tables.{Tables}
 use Rattle.egt_check.specs.RightBlock.{AreJudged}
 use Rattle.egt_check.specs.declared.pairs.Pairs.{Pairs}
 use Rattle.egt_check.specs.declared.part.Part.{Part}

@@ -1,23 +1,17 @@
 -- The greatest scores of the moves of a pawn, with the tables of the classes that he leads to.
 use Rattle.std.specs.Prelude.{◌≡◌, ◌⊎◌, ℕ, max, if◌then◌else◌, Bool, false, true, Option, Some}
-use Rattle.egt_board.specs.Turned.{turned_man}
+use Rattle.egt_blocks.specs.Prelude.{turned_man, IsLoneMan, AreMenOf, IsRaised, IsOfficer, arriving, AreLeapCodes}
+use Rattle.egt_blocks.specs.Prelude.{AreStepCodes, AreAdvancedCodes, ArePromotedCodes, men_after, officer_of}
+use Rattle.egt_blocks.specs.Prelude.{men_swapped, ScoresNoVoids}
+use Rattle.egt_table.specs.Prelude.{HasColumn, TableValue}
+use Rattle.egt_entries.specs.Prelude.{Tables}
 use Rattle.egt_board.specs.declared.man.Kind.TheVariants.{Q, R, B, N, P}
 use Rattle.egt_board.specs.declared.man.Man.{Man}
 use Rattle.egt_board.specs.declared.man.Side.{Side}
-use Rattle.egt_index.specs.LoneCodes.{IsLoneMan}
-use Rattle.egt_index.specs.ShelfCodes.{AreMenOf}
 use Rattle.egt_index.specs.declared.shelf_codes.ShelfMen.{ShelfMen}
-use Rattle.egt_lanes.specs.Raised.{IsRaised}
-use Rattle.egt_moves.specs.Promotion.{IsOfficer, arriving}
-use Rattle.egt_table.specs.Table.{HasColumn, TableValue}
 use Rattle.egt_table.specs.declared.column.Column.{Column}
-use Rattle.egt_steps.specs.InPassing.{AreLeapCodes, AreStepCodes}
-use Rattle.egt_steps.specs.PawnMoves.{AreAdvancedCodes, ArePromotedCodes, men_after, officer_of}
 use Rattle.egt_check.specs.Taken.{IsTableAfter, IsTableOf}
-use Rattle.egt_blocks.specs.Taken.{men_swapped}
-use Rattle.egt_entries.specs.Tables.{Tables}
 use Rattle.egt_check.specs.Worth.{column_score}
-use Rattle.egt_blocks.specs.Scored.{ScoresNoVoids}
 use Rattle.egt_check.specs.declared.pawn_scores.Promotion.{Promotion}
 use Rattle.egt_check.specs.declared.pawn_scores.Promotions.{Promotions}
 

@@ -1,10 +1,7 @@
 -- Where the entries of a position stand.
 use Rattle.std.specs.Prelude.{◌≡◌, ℕ, ◌<◌, Bool, Some, IsSome}
-use Rattle.egt_board.specs.Setup.{Setup}
-use Rattle.egt_class.specs.Membership.{IsOf}
-use Rattle.egt_index.specs.Index.{IsIndex}
-use Rattle.egt_table.specs.Table.{TableValue}
-use Rattle.egt_entries.specs.Tables.{Tables}
+use Rattle.egt_index.specs.Prelude.{Setup, IsOf, IsIndex}
+use Rattle.egt_entries.specs.Prelude.{TableValue, Tables}
 use Rattle.egt_check.specs.declared.successors.Place.{Place}
 
 -- the class and the index of the position

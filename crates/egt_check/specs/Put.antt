@@ -1,13 +1,10 @@
 -- Entries that are put by their scores.
 use Rattle.std.specs.Prelude.{◌≡◌, ◌≢◌, ℕ, ◌+◌, ◌<◌, Bool, true, false, List, slice_index}
-use Rattle.egt_board.specs.SquareSet.{Has}
+use Rattle.egt_index.specs.Prelude.{Has, code_of, kind_digits, kind_less, number_in}
+use Rattle.egt_table.specs.Prelude.{TableValue}
 use Rattle.egt_board.specs.declared.man.Side.{Side}
 use Rattle.egt_board.specs.declared.square_set.SquareSet.{SquareSet}
-use Rattle.egt_index.specs.Numbers.{code_of}
-use Rattle.egt_index.specs.Scales.{kind_digits, kind_less}
-use Rattle.egt_index.specs.ShelfCodes.{number_in}
 use Rattle.egt_index.specs.declared.shelf_codes.ShelfMen.{ShelfMen}
-use Rattle.egt_table.specs.Table.{TableValue}
 use Rattle.egt_check.specs.Found.{IsPutIn, IsToldAt}
 use Rattle.egt_check.specs.Parts.{column_of}
 use Rattle.egt_check.specs.ScoreRows.{IsLaneIn}

@@ -1,11 +1,10 @@
 -- The greatest scores of all moves in the column of the nearest mates.
 use Rattle.std.specs.Prelude.{◌≡◌, ℕ, Bool, true, false, max}
+use Rattle.egt_blocks.specs.Prelude.{IsRaised, AreQuietCodes}
 use Rattle.egt_board.specs.declared.man.Side.{Side}
 use Rattle.egt_index.specs.declared.shelf_codes.ShelfMen.{ShelfMen}
-use Rattle.egt_lanes.specs.Raised.{IsRaised}
 use Rattle.egt_table.specs.declared.column.Column.TheVariants.{Reach}
 use Rattle.egt_check.specs.MoveScores.{AreAllScores, ArePassingCaptures, AreZeroingMoves}
-use Rattle.egt_steps.specs.QuietStands.{AreQuietCodes}
 use Rattle.egt_check.specs.Worth.{column_score}
 use Rattle.egt_check.specs.declared.move_scores.FourMen.{FourMen}
 use Rattle.egt_check.specs.declared.part.Part.{Part}

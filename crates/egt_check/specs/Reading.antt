@@ -1,9 +1,8 @@
 -- What an entry shows, as a function.
 use Rattle.std.proofs.Common.{◌≡◌, ◌≢◌, ℕ, ◌/◌, ◌%◌, ◌-◌, ◌≤◌, inl, inr, arith}
-use Rattle.std.proofs.lemmas.Bool.{cases_eq, cases_lt}
-use Rattle.egt_board.specs.Decided.{Decided}
-use Rattle.egt_moves.specs.Arena.{Value, Win, Loss, Draw}
-use Rattle.egt_entries.specs.Entry.{Shows, IsShort}
+use Rattle.egt_moves.specs.Prelude.{cases_eq, cases_lt, Decided, Value, Win, Loss, Draw}
+use Rattle.egt_entries.specs.Prelude.{IsShort}
+use Rattle.egt_entries.specs.Entry.{Shows}
 
 -- an entry that is not 0, not 2 and at most 64,003 shows a value
 pub in_range : (x : ℕ) → x ≢ 0 → x ≢ 2 → x ≤ 64003 → (v : Value) × Shows x v

@@ -1,21 +1,14 @@
 -- Entries of a class with two men beside the kings, by their shelves.
 use Rattle.std.specs.Prelude.{◌≢◌, ℕ, ◌+◌, ◌<◌, Bool, None}
+use Rattle.egt_blocks.specs.Prelude.{code_of, kind_digits, number_in, size_of, TellsMen, stand_on}
+use Rattle.egt_entries.specs.Prelude.{TableValue, IsJudged, IsJudgedBy, KeepsReach, Tables}
 use Rattle.egt_board.specs.declared.man.Side.{Side}
-use Rattle.egt_index.specs.Numbers.{code_of}
-use Rattle.egt_index.specs.Scales.{kind_digits}
-use Rattle.egt_index.specs.ShelfCodes.{number_in}
-use Rattle.egt_index.specs.Size.{size_of}
-use Rattle.egt_index.specs.TellsMen.{TellsMen}
 use Rattle.egt_index.specs.declared.shelf_codes.ShelfMen.{ShelfMen}
-use Rattle.egt_table.specs.Table.{TableValue}
 use Rattle.egt_entries.specs.declared.metric.Metric.{Metric}
 use Rattle.egt_check.specs.declared.part.Part.{Part}
 use Rattle.egt_check.specs.declared.part.Part.TheVariants.{Values, Reach}
-use Rattle.egt_steps.specs.Stands.{stand_on}
 use Rattle.egt_check.specs.Parts.{column_of}
 use Rattle.egt_check.specs.RightRow.{IsRightAtOf}
-use Rattle.egt_entries.specs.Rules.{IsJudged, IsJudgedBy, KeepsReach}
-use Rattle.egt_entries.specs.Tables.{Tables}
 use Rattle.egt_check.specs.Worth.{column_score}
 
 -- the code tells the men with the first on a and the last on b, and a target where one was passed, and the part's entries are due to these greatest scores

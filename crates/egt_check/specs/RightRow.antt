@@ -1,17 +1,14 @@
 -- Entries judged by the greatest bytes of the moves.
 use Rattle.std.specs.Prelude.{◌≡◌, ◌≢◌, ℕ}
-use Rattle.egt_board.specs.Setup.{Setup}
-use Rattle.egt_index.specs.Code.{Spells}
-use Rattle.egt_lanes.specs.Scores.{due_score, reach_due_score}
-use Rattle.egt_table.specs.Table.{TableValue}
-use Rattle.egt_table.specs.declared.column.Column.TheVariants as columns
+use Rattle.egt_entries.specs.Prelude.{Setup, Spells, TableValue, IsAtEnd, reach_at}
+use Rattle.egt_lanes.specs.Prelude.{due_score, reach_due_score}
 use Rattle.egt_entries.specs.declared.metric.Metric.TheVariants.{Mate, Zeroing}
 use Rattle.egt_check.specs.declared.part.Part.{Part}
 use Rattle.egt_check.specs.declared.part.Part.TheVariants.{Values, Reach}
 use Rattle.egt_entries.specs.NearTables.{near_entry}
-use Rattle.egt_entries.specs.Score.{IsAtEnd}
-use Rattle.egt_entries.specs.Tables.{entry_at, reach_at}
+use Rattle.egt_entries.specs.Tables.{entry_at}
 use Rattle.egt_check.specs.Worth.{column_score, score_at}
+use Rattle.egt_table.specs.declared.column.Column.TheVariants as columns
 
 -- the entries at a code without a move, told by checkmate or stalemate
 abbrev pub IsRightEnd : TableValue → ℕ → Type 0

@@ -1,8 +1,7 @@
 -- The codes of a class in runs, and which of these were found right.
 use Rattle.std.specs.Prelude.{◌≡◌, ℕ, ◌+◌, ◌*◌, ◌<◌, ◌≤◌, true, false, get_or}
-use Rattle.egt_index.specs.Size.{size_of}
-use Rattle.egt_table.specs.Table.{TableValue}
-use Rattle.egt_entries.specs.Tables.{Tables}
+use Rattle.egt_table.specs.Prelude.{size_of, TableValue}
+use Rattle.egt_entries.specs.Prelude.{Tables}
 use Rattle.egt_check.specs.Parts.{TellsPart}
 use Rattle.egt_check.specs.RightBlock.{KeepsPart}
 use Rattle.egt_check.specs.declared.part.Part.{Part}

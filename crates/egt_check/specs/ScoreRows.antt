@@ -1,17 +1,13 @@
 -- The scores of all codes of a class, kept as rows.
-use Rattle.std.specs.Prelude.{◌≡◌, ℕ, ◌+◌, ◌*◌, ◌/◌, ◌%◌, ◌<◌, ◌≤◌, ◌⊎◌, ◌==◌, if◌then◌else◌, List, [], length, map, slice_index, slice_index_or}
-use Rattle.std.specs.Int.{bit_at}
-use Rattle.std.specs.List.{range_with_len}
-use Rattle.egt_board.specs.SquareSet.{Has}
+use Rattle.std.specs.Prelude.{◌≡◌, ℕ, ◌+◌, ◌*◌, ◌/◌, ◌%◌, ◌<◌, ◌≤◌, ◌⊎◌, ◌==◌, if◌then◌else◌, List, [], length, map}
+use Rattle.std.specs.Prelude.{slice_index, slice_index_or}
+use Rattle.egt_index.specs.Prelude.{bit_at, range_with_len, Has, IsVoid, code_of, places, kind_digits, kind_less}
+use Rattle.egt_index.specs.Prelude.{AreMenOf, HasTwoBeside, number_in, size_of}
 use Rattle.egt_board.specs.declared.man.Kind.TheVariants.{P}
 use Rattle.egt_board.specs.declared.man.Man.{Man}
 use Rattle.egt_board.specs.declared.man.Side.{Side}
 use Rattle.egt_board.specs.declared.square_set.SquareSet.{SquareSet}
-use Rattle.egt_index.specs.Index.{IsVoid}
-use Rattle.egt_index.specs.Numbers.{code_of, number_of, places}
-use Rattle.egt_index.specs.Scales.{kind_digits, kind_less}
-use Rattle.egt_index.specs.ShelfCodes.{AreMenOf, HasTwoBeside, number_in}
-use Rattle.egt_index.specs.Size.{size_of}
+use Rattle.egt_index.specs.Numbers.{number_of}
 use Rattle.egt_index.specs.declared.shelf_codes.ShelfMen.{ShelfMen}
 
 -- a score for each code of the class

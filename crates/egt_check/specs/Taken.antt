@@ -1,10 +1,9 @@
 -- The tables of the classes that captures and advances lead to.
 use Rattle.std.specs.Prelude.{◌≡◌, Bool, Some}
+use Rattle.egt_table.specs.Prelude.{IsTable, TableValue}
+use Rattle.egt_steps.specs.Prelude.{IsClassAfter, IsClassOf}
+use Rattle.egt_entries.specs.Prelude.{Tables}
 use Rattle.egt_board.specs.declared.man.Man.{Man}
-use Rattle.egt_table.specs.Table.{IsTable, TableValue}
-use Rattle.egt_steps.specs.PawnMoves.{IsClassAfter}
-use Rattle.egt_steps.specs.Takings.{IsClassOf}
-use Rattle.egt_entries.specs.Tables.{Tables}
 use Rattle.egt_check.specs.Worth.{HasBytes}
 
 -- the table of the class of three in which the man is left, who is its own in colours exchanged where `flips`

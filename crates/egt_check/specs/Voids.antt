@@ -1,12 +1,9 @@
 -- Tables whose mate entries are 0 exactly at the codes that no position has.
 use Rattle.std.specs.Prelude.{◌≡◌, ◌≢◌, ℕ, ◌<◌}
+use Rattle.egt_index.specs.Prelude.{IsVoid, code_of, places, number_in, size_of}
+use Rattle.egt_lanes.specs.Prelude.{AreVoidOrAlike}
+use Rattle.egt_table.specs.Prelude.{TableValue}
 use Rattle.egt_board.specs.declared.man.Side.{Side}
-use Rattle.egt_index.specs.Index.{IsVoid}
-use Rattle.egt_index.specs.Numbers.{code_of, places}
-use Rattle.egt_index.specs.ShelfCodes.{number_in}
-use Rattle.egt_index.specs.Size.{size_of}
-use Rattle.egt_lanes.specs.Alike.{AreVoidOrAlike}
-use Rattle.egt_table.specs.Table.{TableValue}
 use Rattle.egt_entries.specs.declared.metric.Metric.TheVariants.{Mate, Zeroing}
 use Rattle.egt_entries.specs.Tables.{entry_at}
 

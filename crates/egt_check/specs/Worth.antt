@@ -1,19 +1,16 @@
 -- What a table says of a class's men on their squares, as scores in bytes.
 use Rattle.std.specs.Prelude.{◌≡◌, ℕ, ◌%◌, ◌<◌, ◌≤◌, ◌⊎◌, Bool, false, slice_index}
-use Rattle.egt_board.specs.Setup.{Setup}
+use Rattle.egt_index.specs.Prelude.{Setup, IsIndex, IsVoid, size_of, HasStand}
+use Rattle.egt_lanes.specs.Prelude.{byte_score, reach_score}
+use Rattle.egt_table.specs.Prelude.{TableValue, entries_of}
 use Rattle.egt_board.specs.declared.man.Side.{Side}
-use Rattle.egt_index.specs.Index.{IsIndex, IsVoid}
-use Rattle.egt_index.specs.Size.{size_of}
-use Rattle.egt_index.specs.Stood.{HasStand}
 use Rattle.egt_index.specs.declared.stand.Stand.{Stand}
-use Rattle.egt_lanes.specs.Scores.{byte_score, reach_score}
-use Rattle.egt_table.specs.Table.{TableValue, entries_of}
 use Rattle.egt_table.specs.declared.column.Column.{Column}
-use Rattle.egt_table.specs.declared.column.Column.TheVariants as columns
 use Rattle.egt_entries.specs.declared.metric.Metric.{Metric}
 use Rattle.egt_entries.specs.declared.metric.Metric.TheVariants.{Mate, Zeroing}
 use Rattle.egt_check.specs.Given.{AreAlike}
 use Rattle.egt_entries.specs.Tables.{entry_at}
+use Rattle.egt_table.specs.declared.column.Column.TheVariants as columns
 
 -- the score of the entry at the code
 abbrev pub score_at : TableValue → Metric → ℕ → ℕ

@@ -1,8 +1,6 @@
 -- Counts of men that agree at every man but the kings.
-use Rattle.std.proofs.Common.{◌≡◌, ◌≢◌, ℕ, Bool, true, false, eqb, List, [], ◌∷◌, refl, ap, ◌∙◌}
-use Rattle.egt_class.specs.Prelude.{eq-eqb, eqb-true, Side, Kind, K, Man}
-use Rattle.egt_class.specs.Prelude.{men_beside, agree_at, man_of}
-use Rattle.std.proofs.Common.{arith}
+use Rattle.std.proofs.Common.{◌≡◌, ◌≢◌, ℕ, Bool, true, false, eqb, List, [], ◌∷◌, refl, ap, ◌∙◌, arith}
+use Rattle.egt_class.specs.Prelude.{eq-eqb, eqb-true, Side, Kind, K, Man, men_beside, agree_at, man_of}
 
 abbrev Agree : List Man → (Man → ℕ) → (Man → ℕ) → Type 0
 Agree [] f g = Unit {0}

@@ -1,12 +1,11 @@
 -- Positions of a class: one class, the settled form, the images.
-use Rattle.std.proofs.Common.{◌≡◌, ℕ, ◌<◌, ◌⊎◌, ◌↔◌, Bool, true, not, if◌then◌else◌, refl, sym, ap, ◌∙◌, inl}
-use Rattle.std.proofs.Common.{inr}
+use Rattle.std.proofs.Common.{◌≡◌, ℕ, ◌<◌, ◌⊎◌, ◌↔◌, Bool, true, not, if◌then◌else◌, refl, sym, ap, ◌∙◌, inl, inr}
+use Rattle.std.proofs.Common.{arith}
 use Rattle.egt_class.specs.Prelude.{Side, White, Black, Kind, Man, other_side, Placement, Setup, SettlesTo, count_of}
 use Rattle.egt_class.specs.Prelude.{SameMen, ExchangedMen, men_in, has_equal_sides, IsOf}
 use Rattle.egt_class.proofs.ClassTests.{one_class, equal_sides}
 use Rattle.egt_board.proofs.SettledForms.{settles_men}
 use Rattle.egt_board.proofs.Sides.{side_twice}
-use Rattle.std.proofs.Common.{arith}
 
 pub same_class : (p : Setup) (c d : ℕ) (flipped turned : Bool) → c < 36 → d < 36 → IsOf c flipped p → IsOf d turned p → (c ≡ d) × ((flipped ≡ turned) ⊎ (has_equal_sides c ≡ true))
 unfolding men_in

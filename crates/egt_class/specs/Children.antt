@@ -1,15 +1,13 @@
 -- Which classes a capture, a promotion or both lead to: FIDE Laws of Chess 2023, articles 3.1 and 3.7.
-use Rattle.std.specs.Prelude.{ℕ, ◌+◌, ◌==◌, nat_lt, ◌&&◌, ◌||◌, not, if◌then◌else◌, Bool, true, false, List, [], ◌∷◌, ◌++◌, Option, Some, None, map}
+use Rattle.std.specs.Prelude.{ℕ, ◌+◌, ◌==◌, nat_lt, ◌&&◌, ◌||◌, not, if◌then◌else◌, Bool, true, false, List, [], ◌∷◌}
+use Rattle.std.specs.Prelude.{◌++◌, Option, Some, None, map}
 use Rattle.std.specs.List.{filter, list_any, flat_map, range_with_len}
-use Rattle.std.specs.Option.{option_map, is_some}
+use Rattle.egt_board.specs.Prelude.{option_map, is_some, other_side, pawn_of, stands_here}
 use Rattle.egt_board.specs.declared.man.Side.{Side}
 use Rattle.egt_board.specs.declared.man.Side.TheVariants.{White, Black}
 use Rattle.egt_board.specs.declared.man.Kind.{Kind}
 use Rattle.egt_board.specs.declared.man.Kind.TheVariants.{Q, R, B, N, P}
 use Rattle.egt_board.specs.declared.man.Man.{Man}
-use Rattle.egt_board.specs.Man.{other_side}
-use Rattle.egt_board.specs.Pawn.{pawn_of}
-use Rattle.egt_board.specs.Images.{stands_here}
 use Rattle.egt_class.specs.Material.{Material, material_of, kinds_of, count_in}
 
 -- what a move changes of the men: the side that moves, the kind of the man that it takes, and what a pawn becomes

@@ -1,9 +1,7 @@
 -- Of what class a position is.
 use Rattle.std.specs.Prelude.{◌≡◌, ℕ, Bool, if◌then◌else◌}
+use Rattle.egt_board.specs.Prelude.{other_side, Setup, count_of}
 use Rattle.egt_board.specs.declared.man.Man.{Man}
-use Rattle.egt_board.specs.Man.{other_side}
-use Rattle.egt_board.specs.Setup.{Setup}
-use Rattle.egt_board.specs.Images.{count_of}
 use Rattle.egt_class.specs.Material.{men_in}
 
 -- the men of p are those of the class, White being the side named first, or those with colours exchanged where flipped

@@ -1,13 +1,11 @@
 -- The two men beside the kings, and the table of classes by them.
 use Rattle.std.specs.Prelude.{◌≡◌, ◌≢◌, ℕ, ◌+◌, Bool, false, Option, Some, None, IfSome, slice_index, slice_index_or}
+use Rattle.egt_board.specs.Prelude.{king_of, Setup, stands_here, count_of}
 use Rattle.egt_board.specs.declared.man.Side.{Side}
 use Rattle.egt_board.specs.declared.man.Side.TheVariants.{White, Black}
 use Rattle.egt_board.specs.declared.man.Kind.{Kind}
 use Rattle.egt_board.specs.declared.man.Kind.TheVariants.{Q, R, B, N, P, K}
 use Rattle.egt_board.specs.declared.man.Man.{Man}
-use Rattle.egt_board.specs.Attack.{king_of}
-use Rattle.egt_board.specs.Setup.{Setup}
-use Rattle.egt_board.specs.Images.{stands_here, count_of}
 use Rattle.egt_class.specs.declared.membership.TheConstants.{NUMBERS, FLIPS}
 
 abbrev pub first_slot : Side → ℕ

@@ -1,8 +1,6 @@
 -- Which classes play can lead to: by captures and promotions, one after another.
 use Rattle.std.specs.Prelude.{◌≡◌, ◌↔◌, ℕ, zero, suc, Bool, IsTrue, List, IsSome, slice_index_or, false}
-use Rattle.std.specs.List.{Contains}
-use Rattle.egt_class.specs.Children.{children_of}
-use Rattle.egt_entries.specs.Tables.{Tables}
+use Rattle.egt_check.specs.Prelude.{Contains, children_of, Tables}
 
 -- d comes from c by so many steps to a child
 abbrev pub DescendsBy : ℕ → ℕ → ℕ → Type 0

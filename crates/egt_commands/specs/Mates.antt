@@ -1,14 +1,12 @@
 -- The line that tells of a search for mate.
 use Rattle.std.specs.Prelude.{◌≡◌, ℕ, ◌+◌, List, [], ◌∷◌, ◌++◌, codes}
+use Rattle.egt_moves.specs.Prelude.{AnswersWithin, chess, found}
+use Rattle.egt_fen.specs.Prelude.{Spells}
 use Rattle.egt_board.specs.declared.man.Side.{Side}
 use Rattle.egt_board.specs.declared.man.Side.TheVariants.{White, Black}
 use Rattle.egt_fen.specs.declared.fen.Fen.{Fen}
-use Rattle.egt_fen.specs.Fen.{Spells}
 use Rattle.egt_moves.specs.declared.found.Search.{Search}
 use Rattle.egt_moves.specs.declared.found.Search.TheVariants.{Mate, NotWithin}
-use Rattle.egt_moves.specs.Arena.{AnswersWithin}
-use Rattle.egt_moves.specs.Chess.{chess}
-use Rattle.egt_moves.specs.Found.{found}
 
 abbrev pub side_name : Side → List ℕ
 side_name White = codes "white"

@@ -1,13 +1,10 @@
 -- The text of all legal moves, one a line.
 use Rattle.std.specs.Prelude.{◌≡◌, ◌↔◌, ℕ, List, [], ◌∷◌, ◌++◌}
-use Rattle.std.specs.List.{Contains, flat_map}
-use Rattle.egt_board.specs.Setup.{Setup}
+use Rattle.egt_moves.specs.Prelude.{Contains, Setup, IsLegal, IsInOrder, text_of}
+use Rattle.egt_fen.specs.Prelude.{Spells}
+use Rattle.egt_table.specs.Prelude.{flat_map}
 use Rattle.egt_fen.specs.declared.fen.Fen.{Fen}
-use Rattle.egt_fen.specs.Fen.{Spells}
 use Rattle.egt_moves.specs.declared.chess_move.Move.{Move}
-use Rattle.egt_moves.specs.Legal.{IsLegal}
-use Rattle.egt_moves.specs.Order.{IsInOrder}
-use Rattle.egt_moves.specs.Text.{text_of}
 
 -- each move's text, followed by a line feed
 abbrev pub lines_of : List Move → List ℕ

@@ -1,8 +1,7 @@
 -- The scores of what entries show.
 use Rattle.std.proofs.Common.{◌≡◌, ◌≢◌, ℕ, ◌-◌, ◌/◌, ◌%◌, ◌<◌, ◌≤◌, leb, Option, Some, None, arith, inl, inr}
-use Rattle.std.proofs.lemmas.Bool.Decides.{nat_tests}
-use Rattle.egt_entries.specs.Prelude.{cases_eq, cases_lt, Win, Loss, Draw, Outcome, IsShownBy}
-use Rattle.egt_entries.specs.Prelude.{is_decisive, score_of}
+use Rattle.egt_entries.specs.Prelude.{cases_eq, cases_lt, Win, Loss, Draw, Outcome, IsShownBy, is_decisive, score_of}
+use Rattle.egt_index.specs.Prelude.{nat_tests}
 use Rattle.egt_entries.specs.declared.outcome.Outcome.TheVariants as outcomes
 
 -- an entry from 3 to 64,003 shows something

@@ -1,10 +1,9 @@
 -- The first bad entry of a column, as far as it is judged.
 use Rattle.std.specs.Prelude.{ℕ, ◌<◌, Option, Some, None}
+use Rattle.egt_table.specs.Prelude.{TableValue, size_of}
 use Rattle.egt_entries.specs.declared.metric.Metric.TheVariants.{Zeroing}
-use Rattle.egt_table.specs.Table.{TableValue}
 use Rattle.egt_entries.specs.declared.rule.Rule.{Rule}
 use Rattle.egt_entries.specs.Rules.{Breaks, IsFirstBroken, KeepsBelow, KeepsReach, KeepsReachBelow}
-use Rattle.egt_index.specs.Size.{size_of}
 use Rattle.egt_entries.specs.Tables.{Tables}
 
 -- the one that is known, or that of this index

@@ -1,8 +1,6 @@
 -- What a value must be beside what the successors show. One look forward, no search.
 use Rattle.std.specs.Prelude.{◌≡◌, ℕ, zero, suc, ◌⊎◌}
-use Rattle.egt_board.specs.Setup.{Setup}
-use Rattle.egt_moves.specs.Arena.{Value, Win, Loss, Draw, SomeMove, EachMove, IsStalemate}
-use Rattle.egt_moves.specs.Chess.{chess}
+use Rattle.egt_moves.specs.Prelude.{Setup, Value, Win, Loss, Draw, SomeMove, EachMove, IsStalemate, chess}
 use Rattle.egt_moves.specs.Entries.{IsLeast, IsGreatest}
 use Rattle.egt_entries.specs.declared.metric.Metric.{Metric}
 use Rattle.egt_entries.specs.declared.metric.Metric.TheVariants.{Mate, Zeroing}

@@ -1,15 +1,10 @@
 -- What comparing an entry with the one that is due finds.
 use Rattle.std.specs.Prelude.{◌≡◌, ◌≢◌, ℕ, Option, Some, None}
-use Rattle.egt_moves.specs.Arena.{Value}
-use Rattle.egt_moves.specs.Entries.{SameKind}
-use Rattle.egt_entries.specs.declared.metric.Metric.{Metric}
-use Rattle.egt_entries.specs.declared.metric.Metric.TheVariants.{Mate, Zeroing}
-use Rattle.egt_entries.specs.declared.outcome.Outcome.{Outcome}
-use Rattle.egt_entries.specs.declared.outcome.Outcome.TheVariants as outcomes
-use Rattle.egt_entries.specs.declared.rule.Rule.{Rule}
-use Rattle.egt_entries.specs.declared.rule.Rule.TheVariants as rules
+use Rattle.egt_entries.specs.Prelude.{Value, Metric, Mate, Zeroing, Outcome, Rule, value_of}
+use Rattle.egt_moves.specs.Prelude.{SameKind}
 use Rattle.egt_entries.specs.Entry.{Shows}
-use Rattle.egt_entries.specs.Score.{value_of}
+use Rattle.egt_entries.specs.declared.outcome.Outcome.TheVariants as outcomes
+use Rattle.egt_entries.specs.declared.rule.Rule.TheVariants as rules
 
 -- the rule for entries that show this
 abbrev pub rule_of : Outcome → Rule

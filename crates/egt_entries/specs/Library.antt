@@ -1,19 +1,15 @@
 -- Libraries: a place for each class, with a true table of the class or none.
 use Rattle.std.specs.Prelude.{◌≡◌, ℕ, ◌<◌, ◌≤◌, List, length, Option, Some, None, IfSome, IsSome}
-use Rattle.std.specs.List.{Contains}
-use Rattle.egt_class.specs.Children.{children_of}
-use Rattle.egt_entries.specs.declared.metric.Metric.{Metric}
-use Rattle.egt_entries.specs.declared.metric.Metric.TheVariants.{Mate}
+use Rattle.egt_entries.specs.Prelude.{Contains, Metric, Mate, TableValue, Rule, Tables, KeepsBelow}
+use Rattle.egt_table.specs.Prelude.{HasColumn, IsTable, size_of}
+use Rattle.egt_class.specs.Prelude.{children_of}
 use Rattle.egt_table.specs.declared.column.Column.{Column}
-use Rattle.egt_table.specs.declared.column.Column.TheVariants as columns
-use Rattle.egt_table.specs.Table.{TableValue, HasColumn, IsTable}
 use Rattle.egt_entries.specs.declared.reject.Reject.{Reject}
 use Rattle.egt_entries.specs.declared.reject.Reject.TheVariants.{Missing, NoReach, Rejected, AlreadyThere}
-use Rattle.egt_entries.specs.declared.rule.Rule.{Rule}
-use Rattle.egt_entries.specs.Tables.{Tables, table_at, beside, HasChildren, HasReachChildren}
-use Rattle.egt_entries.specs.Rules.{IsFirstBroken, KeepsBelow, KeepsIn, KeepsInBelow, KeepsRules}
+use Rattle.egt_entries.specs.Tables.{table_at, beside, HasChildren, HasReachChildren}
+use Rattle.egt_entries.specs.Rules.{IsFirstBroken, KeepsIn, KeepsInBelow, KeepsRules}
 use Rattle.egt_entries.specs.Truth.{IsTrueTable}
-use Rattle.egt_index.specs.Size.{size_of}
+use Rattle.egt_table.specs.declared.column.Column.TheVariants as columns
 
 -- where the table has the column of the nearest mates, the tables of its children that are there have it
 abbrev pub ReachesDown : Tables → TableValue → Type 0

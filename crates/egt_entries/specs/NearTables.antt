@@ -1,8 +1,7 @@
 -- The column of the nearest mates read as a mate column: where the nearest mate is n plies away as lost in n, where there is none as drawn. So the
 -- nearest mate is one ply past the soonest loss among the successors, whoever moves there.
 use Rattle.std.specs.Prelude.{ℕ, ◌*◌, ◌-◌, List, map, Option, Some, None}
-use Rattle.egt_table.specs.Table.{TableValue}
-use Rattle.egt_entries.specs.Tables.{Tables}
+use Rattle.egt_entries.specs.Prelude.{TableValue, Tables}
 
 abbrev pub near_entry : ℕ → ℕ
 near_entry x = 2 * x - 1

@@ -1,10 +1,6 @@
 -- The least number that is shown after some moves.
 use Rattle.std.specs.Prelude.{ℕ, ◌≤◌, min, Option, Some, None}
-use Rattle.egt_board.specs.Setup.{Setup}
-use Rattle.egt_moves.specs.Chess.{chess}
-use Rattle.egt_moves.specs.Legal.{Leads}
-use Rattle.egt_moves.specs.declared.chess_move.Move.{Move}
-use Rattle.egt_entries.specs.Entry.{longest}
+use Rattle.egt_entries.specs.Prelude.{Setup, chess, Leads, Move, longest}
 
 -- the less of two numbers, or the one that is there
 abbrev pub nearer : Option ℕ → Option ℕ → Option ℕ

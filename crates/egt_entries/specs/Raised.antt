@@ -1,9 +1,6 @@
 -- The best score of some moves and of what was best before them.
 use Rattle.std.specs.Prelude.{◌≡◌, ℕ, ◌≤◌, ◌⊎◌, Option, Some, None}
-use Rattle.std.specs.Option.{option_map}
-use Rattle.egt_board.specs.Setup.{Setup}
-use Rattle.egt_moves.specs.Chess.{chess}
-use Rattle.egt_moves.specs.Legal.{Leads}
+use Rattle.egt_moves.specs.Prelude.{option_map, Setup, chess, Leads}
 use Rattle.egt_moves.specs.declared.chess_move.Move.{Move}
 use Rattle.egt_entries.specs.declared.metric.Metric.{Metric}
 use Rattle.egt_entries.specs.Fits.{Shown}

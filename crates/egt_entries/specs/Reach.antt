@@ -2,13 +2,10 @@
 -- there is none (FIDE Laws of Chess 2023, article 5.2.2); any other nothing. And what it must be beside the entries of the successors: one look
 -- forward, no search.
 use Rattle.std.specs.Prelude.{◌≡◌, ℕ, zero, suc, ◌+◌, ◌<◌, ◌≤◌, ◌↔◌, Bool, Option, Some, None}
-use Rattle.egt_board.specs.Setup.{Setup}
-use Rattle.egt_class.specs.Membership.{IsOf}
-use Rattle.egt_index.specs.Index.{IsIndex}
-use Rattle.egt_moves.specs.Arena.{EachMove}
-use Rattle.egt_moves.specs.Chess.{chess}
+use Rattle.egt_moves.specs.Prelude.{Setup, EachMove, chess}
+use Rattle.egt_index.specs.Prelude.{IsOf, IsIndex}
+use Rattle.egt_table.specs.Prelude.{TableValue}
 use Rattle.egt_moves.specs.Entries.{IsLeast}
-use Rattle.egt_table.specs.Table.{TableValue}
 use Rattle.egt_entries.specs.Entry.{longest}
 use Rattle.egt_entries.specs.Tables.{Tables, reach_at}
 

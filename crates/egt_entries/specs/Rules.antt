@@ -1,22 +1,18 @@
 -- The rules that a table's entries are judged by, each beside the entries of the successors.
 use Rattle.std.specs.Prelude.{◌≡◌, ◌≢◌, ℕ, ◌<◌, ◌≤◌, ◌↔◌, Option, Some, None, IsSome}
-use Rattle.egt_board.specs.Setup.{Setup}
-use Rattle.egt_index.specs.Code.{Spells}
-use Rattle.egt_index.specs.Index.{IsVoid}
-use Rattle.egt_index.specs.Size.{size_of}
-use Rattle.egt_moves.specs.Arena.{Value, Win, Loss, Draw}
-use Rattle.egt_moves.specs.Entries.{SameKind}
+use Rattle.egt_moves.specs.Prelude.{Setup, Value, Win, Loss, Draw, SameKind}
+use Rattle.egt_index.specs.Prelude.{Spells, IsVoid, size_of}
+use Rattle.egt_table.specs.Prelude.{TableValue}
 use Rattle.egt_entries.specs.declared.metric.Metric.{Metric}
 use Rattle.egt_entries.specs.declared.metric.Metric.TheVariants.{Mate, Zeroing}
 use Rattle.egt_table.specs.declared.column.Column.{Column}
-use Rattle.egt_table.specs.declared.column.Column.TheVariants as columns
-use Rattle.egt_table.specs.Table.{TableValue}
 use Rattle.egt_entries.specs.declared.rule.Rule.{Rule}
-use Rattle.egt_entries.specs.declared.rule.Rule.TheVariants as rules
 use Rattle.egt_entries.specs.Entry.{Shows}
 use Rattle.egt_entries.specs.Tables.{Tables, entry_at, reach_at, ShowsOf}
 use Rattle.egt_entries.specs.Fits.{FitsBeside}
 use Rattle.egt_entries.specs.Reach.{FitsReachBeside, ShowsReach, ShowsReachOf}
+use Rattle.egt_table.specs.declared.column.Column.TheVariants as columns
+use Rattle.egt_entries.specs.declared.rule.Rule.TheVariants as rules
 
 -- where the entry shows this value, the value fits the position that the code spells
 abbrev pub Fits : Tables → TableValue → Metric → ℕ → Value → Type 0

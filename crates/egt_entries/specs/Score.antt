@@ -1,15 +1,13 @@
 -- Scores of steps: one number a metric, so that the greatest over all steps says which entry is due.
 use Rattle.std.specs.Prelude.{◌≡◌, ℕ, suc, ◌-◌, ◌≤◌, ◌⊎◌, ◌↔◌, Bool, true, false, max, Option, Some, None}
-use Rattle.egt_board.specs.Setup.{Setup}
-use Rattle.egt_moves.specs.Arena.{Value, Win, Loss, Draw, IsStalemate}
-use Rattle.egt_moves.specs.Chess.{chess}
+use Rattle.egt_moves.specs.Prelude.{Setup, Value, Win, Loss, Draw, IsStalemate, chess}
 use Rattle.egt_entries.specs.declared.metric.Metric.{Metric}
 use Rattle.egt_entries.specs.declared.metric.Metric.TheVariants.{Mate, Zeroing}
 use Rattle.egt_entries.specs.declared.by_metric.ByMetric.{ByMetric}
 use Rattle.egt_entries.specs.declared.outcome.Outcome.{Outcome}
-use Rattle.egt_entries.specs.declared.outcome.Outcome.TheVariants as outcomes
 use Rattle.egt_entries.specs.Entry.{longest, entry_of, Shows}
 use Rattle.egt_entries.specs.Fits.{Shown, Counts, FitsBeside}
+use Rattle.egt_entries.specs.declared.outcome.Outcome.TheVariants as outcomes
 
 abbrev pub number_at : ByMetric → Metric → ℕ
 number_at numbers Mate = numbers.mate

@@ -1,9 +1,7 @@
 -- The steps from a position and the tables in which their successors are found.
 use Rattle.std.specs.Prelude.{ℕ, Bool, List, Option}
-use Rattle.egt_board.specs.Setup.{Setup}
-use Rattle.egt_class.specs.Membership.{IsOf}
-use Rattle.egt_table.specs.Table.{TableValue}
-use Rattle.egt_entries.specs.Fits.{Shown}
+use Rattle.egt_entries.specs.Prelude.{Setup, TableValue, Shown}
+use Rattle.egt_class.specs.Prelude.{IsOf}
 use Rattle.egt_entries.specs.Tables.{table_at, beside, ShowsOf}
 
 -- the position is of the class, in whatever colours

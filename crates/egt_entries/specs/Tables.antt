@@ -1,14 +1,12 @@
 -- The tables at hand, by class, and what they show of positions.
-use Rattle.std.specs.Prelude.{◌≡◌, ℕ, ◌<◌, ◌==◌, Bool, if◌then◌else◌, List, slice_index, slice_index_or, Option, Some, None, IsSome, IfSome}
-use Rattle.std.specs.List.{Contains}
-use Rattle.egt_board.specs.Setup.{Setup}
-use Rattle.egt_class.specs.Children.{children_of}
-use Rattle.egt_class.specs.Membership.{IsOf}
-use Rattle.egt_index.specs.Index.{IsIndex}
-use Rattle.egt_moves.specs.Arena.{Value}
+use Rattle.std.specs.Prelude.{◌≡◌, ℕ, ◌<◌, ◌==◌, Bool, if◌then◌else◌, List, slice_index, slice_index_or, Option, Some}
+use Rattle.std.specs.Prelude.{None, IsSome, IfSome}
+use Rattle.egt_class.specs.Prelude.{Contains, Setup, children_of, IsOf}
+use Rattle.egt_table.specs.Prelude.{TableValue, entries_or_none}
+use Rattle.egt_moves.specs.Prelude.{Value}
+use Rattle.egt_index.specs.Prelude.{IsIndex}
 use Rattle.egt_entries.specs.declared.metric.Metric.{Metric}
 use Rattle.egt_entries.specs.declared.metric.Metric.TheVariants.{Mate, Zeroing}
-use Rattle.egt_table.specs.Table.{TableValue, entries_or_none}
 use Rattle.egt_entries.specs.Entry.{Shows}
 
 -- of each class its table, if there is one

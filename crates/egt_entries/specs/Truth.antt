@@ -1,20 +1,12 @@
 -- True tables: each entry is the value or the zeroing distance of its position.
 use Rattle.std.specs.Prelude.{◌≡◌, ℕ, ◌<◌, Option, Some, IsSome}
-use Rattle.std.specs.List.{Contains}
-use Rattle.egt_board.specs.Setup.{Setup, IsAdmissible}
-use Rattle.egt_class.specs.Children.{children_of}
-use Rattle.egt_index.specs.Index.{IsIndex, IsVoid}
-use Rattle.egt_index.specs.Size.{size_of}
-use Rattle.egt_moves.specs.Arena.{Value, HasValue}
-use Rattle.egt_moves.specs.Chess.{chess}
-use Rattle.egt_moves.specs.Reach.{HasReach}
-use Rattle.egt_moves.specs.Zeroing.{HasZeroing}
-use Rattle.egt_entries.specs.declared.metric.Metric.{Metric}
-use Rattle.egt_entries.specs.declared.metric.Metric.TheVariants.{Mate, Zeroing}
-use Rattle.egt_table.specs.Table.{TableValue}
+use Rattle.egt_entries.specs.Prelude.{Contains, Setup, IsVoid, Value, chess, Metric, Mate, Zeroing, TableValue}
+use Rattle.egt_entries.specs.Prelude.{ShowsReach, Tables, reach_at}
+use Rattle.egt_moves.specs.Prelude.{IsAdmissible, HasValue, HasReach, HasZeroing}
+use Rattle.egt_index.specs.Prelude.{IsIndex, size_of}
+use Rattle.egt_class.specs.Prelude.{children_of}
 use Rattle.egt_entries.specs.Entry.{Shows}
-use Rattle.egt_entries.specs.Reach.{ShowsReach}
-use Rattle.egt_entries.specs.Tables.{Tables, entry_at, reach_at}
+use Rattle.egt_entries.specs.Tables.{entry_at}
 
 -- what an entry tells of a position in each metric
 abbrev pub Tells : Metric → Setup → Value → Type 0

@@ -1,11 +1,10 @@
 -- A text has one first fault at most, and none where it spells a position.
-use Rattle.std.proofs.Common.{◌≡◌, ℕ, List, Result, Ok, Err, sym, ap, ◌∙◌, subst}
+use Rattle.std.proofs.Common.{◌≡◌, ℕ, List, Result, Ok, Err, sym, ap, ◌∙◌, subst, arith}
 use Rattle.egt_fen.specs.Prelude.{MatchResult, PosFault, MenCount, KingCount, PawnRank, EpMismatch, WaitingInCheck, Man}
 use Rattle.egt_fen.specs.Prelude.{Setup, IsAdmissible, FenFault, Fen, fault_of, Parts, parts_of, Spells, IsSetupFault}
 use Rattle.egt_fen.specs.Prelude.{IsFirstFault}
-use Rattle.egt_board.specs.Listed as listed
 use Rattle.egt_fen.proofs.Spelling.{parts_with, spelled_read, spelled_admits}
-use Rattle.std.proofs.Common.{arith}
+use Rattle.egt_board.specs.Listed as listed
 
 one_setup_fault : (list : List (Man × ℕ)) (p : Setup) (a b : PosFault) → listed.IsFirstFault a list p → listed.IsFirstFault b list p → a ≡ b
 one_setup_fault list p a b x y = grind arith

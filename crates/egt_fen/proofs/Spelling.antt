@@ -1,10 +1,9 @@
 -- What a text spells and what its parts say are the same.
-use Rattle.std.proofs.Common.{◌≡◌, ℕ, List, Option, Some, None, Result, Ok, Err, refl, sym, ap, ◌∙◌, subst}
+use Rattle.std.proofs.Common.{◌≡◌, ℕ, List, Option, Some, None, Result, Ok, Err, refl, sym, ap, ◌∙◌, subst, arith}
 use Rattle.egt_fen.specs.Prelude.{IsOk, IsErr, Side, Man, setup_of, FitsBoard, Setup, IsAdmissible, FenFault, Fen}
 use Rattle.egt_fen.specs.Prelude.{Fields, fields_of, placement_of, side_of, castling_of, target_of, clocks_of, Parts}
 use Rattle.egt_fen.specs.Prelude.{◌>>=◌, expect, parts_of, Spells}
 use Rattle.egt_fen.specs.declared.fault.FenFault.TheVariants.{FieldCount, Placement, Colour, Castling, EpField, Counter}
-use Rattle.std.proofs.Common.{arith}
 
 pub not_both : {T E : Type 0} (r : Result T E) → IsErr r → IsOk r → ⊥
 not_both r err ok = grind arith

@@ -3,14 +3,13 @@
 use Rattle.std.specs.Prelude.{ℕ, suc, zero, ◌+◌, ◌*◌, List, [], ◌∷◌, ◌++◌, Option, Some, None}
 use Rattle.std.specs.List.{join_with_byte}
 use Rattle.std.specs.Fmt.{decimal}
-use Rattle.std.specs.FinMap as placement
+use Rattle.egt_board.specs.Prelude.{Placement, file_of, rank_of}
 use Rattle.egt_board.specs.declared.man.Side.{Side}
 use Rattle.egt_board.specs.declared.man.Side.TheVariants.{White, Black}
 use Rattle.egt_board.specs.declared.man.Man.{Man}
-use Rattle.egt_board.specs.Placement.{Placement}
-use Rattle.egt_board.specs.Square.{file_of, rank_of}
 use Rattle.egt_fen.specs.declared.fen.Fen.{Fen}
 use Rattle.egt_fen.specs.Letter.{letter_of}
+use Rattle.std.specs.FinMap as placement
 
 -- a run of empty squares by its digit; nothing where it has none
 abbrev pub gap_text : ℕ → List ℕ

@@ -1,8 +1,6 @@
 -- Laws of values.
 use Rattle.std.specs.Prelude.{◌≡◌, ℕ, ◌≤◌, IsTrue}
-use Rattle.egt_graph.specs.Graph.{Graph, IsNode, IsGame}
-use Rattle.egt_graph.specs.Value.{mated_within, mates_within, HasRank}
-use Rattle.egt_graph.specs.declared.game.Exit.{Exit}
+use Rattle.egt_graph.specs.Prelude.{Graph, IsNode, IsGame, mated_within, mates_within, HasRank, Exit}
 
 abbrev pub MorePliesDoNoHarm : Type 0
 MorePliesDoNoHarm =

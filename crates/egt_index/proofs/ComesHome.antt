@@ -1,12 +1,11 @@
 -- The tables of turns that bring a king home are right for each square.
 use Rattle.std.proofs.Common.{◌≡◌, ◌≢◌, ℕ, ◌+◌, ◌/◌, ◌%◌, ◌<◌, ◌⊎◌, ◌&&◌, ◌||◌, not, Bool, true, false, cond, ltb, eqb}
-use Rattle.std.proofs.Common.{Option, Some, None, IfSome, refl, sym, ap, ◌∙◌, inl, inr, subst, slice_index}
-use Rattle.egt_index.specs.Prelude.{and_parts, and_from, eqb-true, eq-eqb, ltb-true, lt-ltb, turned_square}
-use Rattle.egt_index.specs.Prelude.{all_below, passes_below, king_square, symmetries, IsTurnWith, BringsHome, AreHome}
-use Rattle.egt_index.specs.Prelude.{king_base, FIRST, LAST}
+use Rattle.std.proofs.Common.{Option, Some, None, IfSome, refl, sym, ap, ◌∙◌, inl, inr, subst, slice_index, arith}
+use Rattle.egt_index.specs.Prelude.{and_parts, and_from, eqb-true, eq-eqb, ltb-true, lt-ltb, turned_square, all_below}
+use Rattle.egt_index.specs.Prelude.{passes_below, king_square, symmetries, IsTurnWith, BringsHome, AreHome, king_base}
+use Rattle.egt_index.specs.Prelude.{FIRST, LAST}
 use Rattle.egt_index.proofs.Kings.{some_below, some_passes, has_digit}
 use Rattle.egt_index.proofs.Tested.{implied, one_of, not_both}
-use Rattle.std.proofs.Common.{arith}
 
 is_with : Bool → Bool → ℕ → Bool
 is_with pawns flips t = ltb t 16 && (same (eqb (t / 8) 1) flips && ltb (t % 8) (symmetries pawns))

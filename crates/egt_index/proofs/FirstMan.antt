@@ -1,19 +1,18 @@
 -- Codes of images that have their kings on the same squares, compared by the first man's.
-use Rattle.std.proofs.Common.{◌≡◌, ◌≢◌, ℕ, ◌+◌, ◌*◌, ◌/◌, ◌%◌, ◌<◌, Bool, false, cond, eqb, List, [], ◌∷◌, ◌++◌}
-use Rattle.std.proofs.Common.{map, Some, None, arith, refl, sym, ap, ◌∙◌, inl, inr, subst, IfSome}
-use Rattle.egt_index.specs.Prelude.{IfMoved, Entry, Man, White, Black, king_of, side_number, men_of, Stands}
-use Rattle.egt_index.specs.Prelude.{Setup, IsAdmissible, turned_man, turned_square, Material, material_of}
-use Rattle.egt_index.specs.Prelude.{Beats, IsFirstOfTwo, Keeps, Spells, king_square, men_at, placed}
-use Rattle.egt_index.specs.Prelude.{square_of, target_digits, number_from, number_of, AreDigits, Facts}
-use Rattle.egt_index.specs.Prelude.{base_of, king_base, men_beside, has_pawns, has_target, list_of}
-use Rattle.egt_index.specs.Prelude.{AllStand, IsListed, IsOff, IsTurn, Stand, option_to_list}
+use Rattle.std.proofs.Common.{◌≡◌, ◌≢◌, ℕ, ◌+◌, ◌*◌, ◌/◌, ◌%◌, ◌<◌, Bool, false, cond, eqb, List, [], ◌∷◌, ◌++◌, map}
+use Rattle.std.proofs.Common.{Some, None, arith, refl, sym, ap, ◌∙◌, inl, inr, subst, IfSome}
 use Rattle.std.proofs.lemmas.Bool.{ne_eqb}
-use Rattle.std.specs.FinMap as placement
+use Rattle.egt_index.specs.Prelude.{IfMoved, Entry, Man, White, Black, king_of, side_number, men_of, Stands, Setup}
+use Rattle.egt_index.specs.Prelude.{IsAdmissible, turned_man, turned_square, Material, material_of, Beats, IsFirstOfTwo}
+use Rattle.egt_index.specs.Prelude.{Keeps, Spells, king_square, men_at, placed, square_of, target_digits, number_from}
+use Rattle.egt_index.specs.Prelude.{number_of, AreDigits, Facts, base_of, king_base, men_beside, has_pawns, has_target}
+use Rattle.egt_index.specs.Prelude.{list_of, AllStand, IsListed, IsOff, IsTurn, Stand, option_to_list}
 use Rattle.egt_index.proofs.Beating.{SpelledHome, stands_after}
 use Rattle.egt_index.proofs.Coding.{all_digits}
 use Rattle.egt_index.proofs.Listing.{AreApart, apart_of, get_here, listed, listed_stands}
 use Rattle.egt_index.proofs.MixedDigits.{number_from-lt}
 use Rattle.egt_index.proofs.Picking.{lesser_digit, same_digit}
+use Rattle.std.specs.FinMap as placement
 
 -- the bases of the digits behind the first man's
 abbrev last_bases : Material → Man → List ℕ

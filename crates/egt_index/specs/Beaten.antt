@@ -1,11 +1,9 @@
 -- Codes that some image of a position beats: the image has a code that is less.
 use Rattle.std.specs.Prelude.{◌≡◌, ◌≢◌, ℕ, ◌/◌, ◌%◌, ◌<◌, ◌≤◌, ◌==◌, Bool, false, [], ◌∷◌, Some, None, IfSome}
+use Rattle.egt_board.specs.Prelude.{Setup, KeepsPlay, turned_square}
+use Rattle.egt_class.specs.Prelude.{material_of}
 use Rattle.egt_board.specs.declared.man.Side.{Side}
 use Rattle.egt_board.specs.declared.man.Man.{Man}
-use Rattle.egt_board.specs.Setup.{Setup}
-use Rattle.egt_board.specs.Symmetry.{KeepsPlay}
-use Rattle.egt_board.specs.Turned.{turned_square}
-use Rattle.egt_class.specs.Material.{material_of}
 use Rattle.egt_index.specs.Code.{Spells, men_at}
 use Rattle.egt_index.specs.Home.{BringsHome}
 use Rattle.egt_index.specs.Size.{has_pawns, men_beside}

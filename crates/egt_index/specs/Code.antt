@@ -1,15 +1,14 @@
 -- Positions as numbers of mixed digits, from the highest to the lowest: the white king, the black king, each other man in
 -- the order of the class's name, the side to move, and in KPKP whether there is a target.
-use Rattle.std.specs.Prelude.{◌≡◌, ℕ, ◌+◌, ◌*◌, ◌/◌, ◌%◌, ◌⊎◌, Bool, IsTrue, if◌then◌else◌, List, [], ◌∷◌, ◌++◌, slice_index, Option, Some, None}
+use Rattle.std.specs.Prelude.{◌≡◌, ℕ, ◌+◌, ◌*◌, ◌/◌, ◌%◌, ◌⊎◌, Bool, IsTrue, if◌then◌else◌, List, [], ◌∷◌, ◌++◌}
+use Rattle.std.specs.Prelude.{slice_index, Option, Some, None}
+use Rattle.egt_board.specs.Prelude.{side_number, men_of, FitsBoard, Setup, IsAdmissible}
+use Rattle.egt_class.specs.Prelude.{Material, material_of}
 use Rattle.egt_board.specs.declared.man.Side.{Side}
 use Rattle.egt_board.specs.declared.man.Side.TheVariants.{White, Black}
 use Rattle.egt_board.specs.declared.man.Kind.{Kind}
 use Rattle.egt_board.specs.declared.man.Kind.TheVariants.{Q, R, B, N, P, K}
 use Rattle.egt_board.specs.declared.man.Man.{Man}
-use Rattle.egt_board.specs.Images.{side_number}
-use Rattle.egt_board.specs.Listed.{men_of, FitsBoard}
-use Rattle.egt_board.specs.Setup.{Setup, IsAdmissible}
-use Rattle.egt_class.specs.Material.{Material, material_of}
 use Rattle.egt_index.specs.Digits.{number_of, AreDigits}
 use Rattle.egt_index.specs.Size.{has_pawns, has_target, men_in_order, men_bases, bases}
 

@@ -1,12 +1,8 @@
 -- What holds of images and classes, by the laws of the crates below.
 use Rattle.std.specs.Prelude.{◌≡◌, ℕ, ◌<◌, ◌⊎◌, ◌↔◌, Bool, IsTrue}
-use Rattle.egt_board.specs.Setup.{Setup, IsAdmissible}
-use Rattle.egt_board.specs.Settled.{IsSettled, SettlesTo}
-use Rattle.egt_board.specs.Symmetry.{KeepsPlay}
-use Rattle.egt_board.specs.Images.{AreImages, SameMen, ExchangedMen}
-use Rattle.egt_board.specs.Turned.{IsTurnedBy, IsSetBy}
-use Rattle.egt_class.specs.Material.{has_equal_sides}
-use Rattle.egt_class.specs.Membership.{IsOf}
+use Rattle.egt_board.specs.Prelude.{Setup, IsAdmissible, IsSettled, SettlesTo, KeepsPlay, AreImages, SameMen}
+use Rattle.egt_board.specs.Prelude.{ExchangedMen, IsTurnedBy, IsSetBy}
+use Rattle.egt_class.specs.Prelude.{has_equal_sides, IsOf}
 
 pub record Facts : Type 0 where
   pub turns : (p q : Setup) → IsAdmissible p → AreImages p q → (n : ℕ) × (flipped : Bool) × (n < 8) × KeepsPlay n p.men × IsTurnedBy n flipped p q

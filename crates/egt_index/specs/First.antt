@@ -1,8 +1,7 @@
 -- The first man of a class's name beside the king tells in what colours a position of the class is.
 use Rattle.std.specs.Prelude.{ℕ, ◌==◌, nat_lt, ◌&&◌, ◌||◌, Bool, Option, Some, None}
+use Rattle.egt_class.specs.Prelude.{other_side, men_in, has_equal_sides}
 use Rattle.egt_board.specs.declared.man.Man.{Man}
-use Rattle.egt_board.specs.Man.{other_side}
-use Rattle.egt_class.specs.Material.{men_in, has_equal_sides}
 
 -- the man is of the class, and no man of the other side is like him but where both sides have the same men; without any
 -- they have

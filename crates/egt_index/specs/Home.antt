@@ -1,7 +1,6 @@
 -- The turns that bring a king home: to a square of the white king's digit.
 use Rattle.std.specs.Prelude.{◌≡◌, ◌≢◌, ℕ, ◌<◌, ◌≤◌, ◌/◌, ◌%◌, ◌==◌, Bool, if◌then◌else◌, Option, Some, None, IfSome}
-use Rattle.egt_board.specs.Setup.{Setup}
-use Rattle.egt_board.specs.Turned.{turned_square}
+use Rattle.egt_board.specs.Prelude.{Setup, turned_square}
 use Rattle.egt_index.specs.Code.{Spells, king_square}
 use Rattle.egt_index.specs.Size.{king_base}
 use Rattle.egt_index.specs.Turns.{IsTurn}

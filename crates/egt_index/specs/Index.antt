@@ -1,8 +1,6 @@
 -- One number for all images of a position.
 use Rattle.std.specs.Prelude.{ℕ, ◌≤◌}
-use Rattle.egt_board.specs.Setup.{Setup, IsAdmissible}
-use Rattle.egt_board.specs.Settled.{SettlesTo}
-use Rattle.egt_board.specs.Images.{AreImages}
+use Rattle.egt_board.specs.Prelude.{Setup, IsAdmissible, SettlesTo, AreImages}
 use Rattle.egt_index.specs.Code.{Spells}
 
 -- the least code that spells an image of the position's settled form

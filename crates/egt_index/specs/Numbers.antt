@@ -1,9 +1,8 @@
 -- Numbers of positions: the codes without a target first, in their order, and then those with one, so that in either half they go on as the codes of a class
 -- without targets do.
 use Rattle.std.specs.Prelude.{ℕ, ◌+◌, ◌-◌, ◌*◌, ◌/◌, ◌%◌, nat_lt, if◌then◌else◌}
-use Rattle.egt_board.specs.Settled.{IsSettled}
-use Rattle.egt_board.specs.Setup.{Setup}
-use Rattle.egt_class.specs.Material.{material_of}
+use Rattle.egt_board.specs.Prelude.{IsSettled, Setup}
+use Rattle.egt_class.specs.Prelude.{material_of}
 use Rattle.egt_index.specs.Code.{Spells}
 use Rattle.egt_index.specs.Scales.{digits_at}
 use Rattle.egt_index.specs.Shelf.{last_of}

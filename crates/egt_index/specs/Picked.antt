@@ -1,17 +1,12 @@
 -- The least code of a position: each man in turn on the least square that is left to it.
 use Rattle.std.specs.Prelude.{◌≡◌, ℕ, ◌<◌, ◌≤◌, Bool, List, [], ◌∷◌, map, Option, Some, None, count_by}
-use Rattle.std.specs.FinMap as placement
+use Rattle.egt_board.specs.Prelude.{king_of, is_man, count_of, PawnsFit, Placement, Stands, Setup}
 use Rattle.egt_board.specs.declared.man.Side.TheVariants.{White}
 use Rattle.egt_board.specs.declared.man.Man.{Man}
-use Rattle.egt_board.specs.Attack.{king_of}
-use Rattle.egt_board.specs.Counting.{is_man}
-use Rattle.egt_board.specs.Images.{count_of}
-use Rattle.egt_board.specs.Pawn.{PawnsFit}
-use Rattle.egt_board.specs.Placement.{Placement, Stands}
-use Rattle.egt_board.specs.Setup.{Setup}
 use Rattle.egt_index.specs.Digits.{number_from, AreDigits}
 use Rattle.egt_index.specs.Size.{base_of}
 use Rattle.egt_index.specs.Code.{Spells, square_of}
+use Rattle.std.specs.FinMap as placement
 
 -- how often the man stands in the list
 abbrev pub tally : Man → List Man → ℕ

@@ -1,14 +1,10 @@
 -- Which codes of a shelf are positions' indexes, and where the last man of a position may stand.
 use Rattle.std.specs.Prelude.{◌≡◌, ◌≢◌, ◌↔◌, ℕ, ◌+◌, ◌<◌, Bool, true, false, Some}
-use Rattle.std.specs.Int.{bit_at}
-use Rattle.egt_board.specs.Attack.{king_of}
-use Rattle.egt_board.specs.Placement.{IsFree}
-use Rattle.egt_board.specs.Safety.{IsKeptFrom}
-use Rattle.egt_board.specs.Setup.{Setup}
+use Rattle.egt_board.specs.Prelude.{bit_at, king_of, IsFree, IsKeptFrom, Setup}
+use Rattle.egt_class.specs.Prelude.{material_of}
 use Rattle.egt_board.specs.declared.man.Man.{Man}
 use Rattle.egt_board.specs.declared.man.Side.{Side}
 use Rattle.egt_board.specs.declared.man.Side.TheVariants.{White, Black}
-use Rattle.egt_class.specs.Material.{material_of}
 use Rattle.egt_index.specs.Front.{IsFront}
 use Rattle.egt_index.specs.Index.{IsVoid}
 use Rattle.egt_index.specs.Scales.{kind_digits, kind_less}

@@ -1,13 +1,12 @@
 -- The digits of a class's codes, and how many codes they make.
 use Rattle.std.specs.Prelude.{ℕ, ◌&&◌, Bool, if◌then◌else◌, List, [], ◌∷◌, ◌++◌, map}
-use Rattle.std.specs.List.{list_any}
+use Rattle.egt_class.specs.Prelude.{list_any, king_of, Material, material_of}
 use Rattle.egt_board.specs.declared.man.Side.{Side}
 use Rattle.egt_board.specs.declared.man.Side.TheVariants.{White, Black}
 use Rattle.egt_board.specs.declared.man.Kind.{Kind}
 use Rattle.egt_board.specs.declared.man.Kind.TheVariants.{Q, R, B, N, P, K}
 use Rattle.egt_board.specs.declared.man.Man.{Man}
-use Rattle.egt_board.specs.Attack.{king_of}
-use Rattle.egt_class.specs.Material.{Material, material_of, is_kind}
+use Rattle.egt_class.specs.Material.{is_kind}
 use Rattle.egt_index.specs.Digits.{product}
 
 abbrev pub has_pawn : List Kind → Bool

@@ -1,13 +1,11 @@
 -- The digits of a code, taken off from the lowest.
-use Rattle.std.specs.Prelude.{◌≡◌, ◌≢◌, ℕ, ◌+◌, ◌*◌, ◌<◌, ◌≤◌, ◌⊎◌, Bool, true, false, if◌then◌else◌, List, [], ◌∷◌, map, Option, Some, None}
+use Rattle.std.specs.Prelude.{◌≡◌, ◌≢◌, ℕ, ◌+◌, ◌*◌, ◌<◌, ◌≤◌, ◌⊎◌, Bool, true, false, if◌then◌else◌, List, [], ◌∷◌}
+use Rattle.std.specs.Prelude.{map, Option, Some, None}
+use Rattle.egt_board.specs.Prelude.{king_of, side_number, other_side, pawn_of, ahead}
+use Rattle.egt_class.specs.Prelude.{Material}
 use Rattle.egt_board.specs.declared.man.Side.{Side}
 use Rattle.egt_board.specs.declared.man.Man.{Man}
 use Rattle.egt_board.specs.declared.man.Side.TheVariants.{White, Black}
-use Rattle.egt_board.specs.Attack.{king_of}
-use Rattle.egt_board.specs.Images.{side_number}
-use Rattle.egt_board.specs.Man.{other_side}
-use Rattle.egt_board.specs.Pawn.{pawn_of, ahead}
-use Rattle.egt_class.specs.Material.{Material}
 use Rattle.egt_index.specs.Digits.{number_from, number_of, AreDigits}
 use Rattle.egt_index.specs.Size.{base_of, men_bases, has_target}
 use Rattle.egt_index.specs.Code.{square_of, placed, men_at}

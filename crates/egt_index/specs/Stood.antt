@@ -1,22 +1,16 @@
 -- The men of a class on their squares in a position, and after a turn.
 use Rattle.std.specs.Prelude.{◌≡◌, ◌≢◌, ℕ, ◌<◌, ◌≤◌, ◌⊎◌, Bool, List, [], ◌∷◌, ◌++◌, map, Option, Some, None, IfSome}
-use Rattle.std.specs.Option.{option_map, option_to_list, is_some}
-use Rattle.std.specs.FinMap as placement
+use Rattle.std.specs.Option.{option_to_list}
 use Rattle.std.specs.Int.{abs_diff}
+use Rattle.egt_board.specs.Prelude.{option_map, is_some, king_of, MayStand, Placement, Stands, IsSettled, Setup}
+use Rattle.egt_board.specs.Prelude.{IsAdmissible, file_of, rank_of, turned_square, turned_man}
+use Rattle.egt_class.specs.Prelude.{material_of, IsOf}
 use Rattle.egt_board.specs.declared.man.Side.{Side}
 use Rattle.egt_board.specs.declared.man.Side.TheVariants.{White, Black}
 use Rattle.egt_board.specs.declared.man.Man.{Man}
-use Rattle.egt_board.specs.Attack.{king_of}
-use Rattle.egt_board.specs.Pawn.{MayStand}
-use Rattle.egt_board.specs.Placement.{Placement, Stands}
-use Rattle.egt_board.specs.Settled.{IsSettled}
-use Rattle.egt_board.specs.Setup.{Setup, IsAdmissible}
-use Rattle.egt_board.specs.Square.{file_of, rank_of}
-use Rattle.egt_board.specs.Turned.{turned_square, turned_man}
-use Rattle.egt_class.specs.Material.{material_of}
-use Rattle.egt_class.specs.Membership.{IsOf}
 use Rattle.egt_index.specs.Size.{men_in_order}
 use Rattle.egt_index.specs.declared.stand.Stand.{Stand}
+use Rattle.std.specs.FinMap as placement
 
 -- a man of the class and its square, if there is one
 abbrev pub Entry : Type 0

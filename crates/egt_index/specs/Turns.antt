@@ -1,9 +1,7 @@
 -- The turns of a position by number, and the least code of what they make of it.
 use Rattle.std.specs.Prelude.{◌≡◌, ℕ, ◌/◌, ◌%◌, ◌<◌, ◌≤◌, ◌==◌, ◌⊎◌, Bool, IsTrue, min, Option, Some, None}
-use Rattle.egt_board.specs.Setup.{Setup}
-use Rattle.egt_board.specs.Symmetry.{KeepsPlay}
-use Rattle.egt_board.specs.Turned.{IsTurnedBy}
-use Rattle.egt_class.specs.Material.{has_equal_sides}
+use Rattle.egt_board.specs.Prelude.{Setup, KeepsPlay, IsTurnedBy}
+use Rattle.egt_class.specs.Prelude.{has_equal_sides}
 use Rattle.egt_index.specs.Code.{Spells}
 use Rattle.egt_index.specs.Picked.{IsLeastCode}
 

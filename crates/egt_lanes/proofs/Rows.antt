@@ -1,13 +1,12 @@
 -- What the operations on rows come to at one lane. A mask's lane is 255 or 0.
 use Rattle.std.proofs.Common.{T, inl, inr, ◌==◌, if◌then◌else◌, subst, ◌≡◌, ◌≢◌, ℕ, zero, suc, ◌+◌, ◌≤◌, ◌<◌, ◌-◌, ◌/◌}
 use Rattle.std.proofs.Common.{◌%◌, ◌^◌, Bool, true, false, not, cond, eqb, ltb, leb, max, List, [], ◌∷◌, map, length}
-use Rattle.std.proofs.Common.{get_or, replicate, bit_and, refl, sym, ap, ◌∙◌, arith, Fits, w8}
-use Rattle.std.proofs.Common.{eqb-true}
+use Rattle.std.proofs.Common.{get_or, replicate, bit_and, refl, sym, ap, ◌∙◌, arith, Fits, w8, eqb-true}
 use Rattle.egt_lanes.specs.Prelude.{length-map, and_mask, length-replicate, length-zip2, mask_l-mod, bit_mask_l}
 use Rattle.egt_lanes.specs.Prelude.{cases_eq, eqb-false, bit_at, byte_score, zeroing_score, due_score, reach_score}
 use Rattle.egt_lanes.specs.Prelude.{reach_due_score}
-use lib.Lanes.{zip2, sel_l, mask_l, top, Each1}
 use Rattle.egt_lanes.proofs.Tests.{agreed, passes_below}
+use lib.Lanes.{zip2, sel_l, mask_l, top, Each1}
 
 abbrev pub below : ℕ → ℕ → ℕ
 below a b = cond (ltb a b) 255 0

@@ -1,7 +1,6 @@
 -- A pawn's advances by their length.
 use Rattle.std.specs.Prelude.{ℕ}
-use Rattle.egt_board.specs.Pawn.{Advances, forward}
-use Rattle.egt_board.specs.Step.{Away}
+use Rattle.egt_board.specs.Prelude.{Advances, forward, Away}
 use Rattle.egt_board.specs.declared.man.Side.{Side}
 
 -- a pawn of that side on s advances to t, which is so many squares forward

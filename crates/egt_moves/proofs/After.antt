@@ -1,6 +1,6 @@
 -- The men after a move.
 use Rattle.std.proofs.Common.{◌≡◌, ◌≢◌, ℕ, ◌⊎◌, ◌&&◌, Option, Some, None, true, false, Bool, refl, sym, ap, ◌∙◌, inl}
-use Rattle.std.proofs.Common.{inr, subst, if◌then◌else◌, IfSome}
+use Rattle.std.proofs.Common.{inr, subst, if◌then◌else◌, IfSome, arith}
 use Rattle.egt_moves.specs.Prelude.{cases_eq, eqb_tells, Side, Kind, Q, R, B, N, P, K, Man, other_side, Placement}
 use Rattle.egt_moves.specs.Prelude.{Stands, IsFree, IsHeld, get-insert_same, get-insert_other, get-remove_same}
 use Rattle.egt_moves.specs.Prelude.{get-remove_other, ahead, pawn_of, IsTarget, Reaches, Reaches-free, king_of}
@@ -8,7 +8,6 @@ use Rattle.egt_moves.specs.Prelude.{IsInCheck, Setup, IsAdmissible, IsKingOn, si
 use Rattle.egt_moves.specs.Prelude.{is_pawn, IsOfficer, FitsPromotion, arriving, is_target, takes_in_passing, men_left}
 use Rattle.egt_moves.specs.Prelude.{men_after}
 use Rattle.std.specs.FinMap as map
-use Rattle.std.proofs.Common.{arith}
 pub use Rattle.egt_board.specs.Placement.{one_man}
 pub use Rattle.egt_moves.specs.DecidedMoves.{goes_on_board}
 

@@ -1,15 +1,13 @@
 -- The men after a move, told by those before.
 use Rattle.std.proofs.Common.{◌≡◌, ◌≢◌, ℕ, ◌⊎◌, ◌&&◌, Option, Some, None, true, false, Bool, refl, sym, ap, ◌∙◌, inl}
-use Rattle.std.proofs.Common.{inr, subst, if◌then◌else◌, ◌==◌}
+use Rattle.std.proofs.Common.{inr, subst, if◌then◌else◌, ◌==◌, arith}
 use Rattle.egt_moves.specs.Prelude.{eqb_tells, Side, White, Black, Kind, K, Man, HasAllMen, AreApart, king_of}
 use Rattle.egt_moves.specs.Prelude.{IsInCheck, StandsBeside, other_side, ahead, last_rank, rank_of, Placement, Stands}
 use Rattle.egt_moves.specs.Prelude.{one_man, Setup, IsAdmissible, IsKingOn, Move, entry_after, square_after, Leads}
-use Rattle.egt_moves.specs.Prelude.{after, is_target, men_left, men_after, is_pawn, promotes, FitsPromotion}
-use Rattle.egt_moves.specs.Prelude.{arriving}
-use Rattle.std.specs.FinMap as map
+use Rattle.egt_moves.specs.Prelude.{after, is_target, men_left, men_after, is_pawn, promotes, FitsPromotion, arriving}
 use Rattle.egt_moves.proofs.Admissible.{admissible_after}
 use Rattle.egt_moves.proofs.After.{after_to, after_other, after_cases, MayBecome, may_become, not_king_of}
-use Rattle.std.proofs.Common.{arith}
+use Rattle.std.specs.FinMap as map
 
 abbrev Entry : Type 0
 Entry = Option (Man × ℕ)

@@ -1,10 +1,8 @@
 -- Chess as an arena of play: from position to position by legal moves, until checkmate.
 use Rattle.std.specs.Prelude.{◌≡◌, ℕ, ◌⊎◌}
+use Rattle.egt_board.specs.Prelude.{other_side, Placement, Stands, IsHeld, Setup}
 use Rattle.egt_board.specs.declared.man.Kind.TheVariants.{P}
 use Rattle.egt_board.specs.declared.man.Man.{Man}
-use Rattle.egt_board.specs.Man.{other_side}
-use Rattle.egt_board.specs.Placement.{Placement, Stands, IsHeld}
-use Rattle.egt_board.specs.Setup.{Setup}
 use Rattle.egt_moves.specs.declared.chess_move.Move.{Move}
 use Rattle.egt_moves.specs.Arena.{Arena}
 use Rattle.egt_moves.specs.Legal.{Leads}

@@ -1,16 +1,15 @@
 -- Whether a move is legal, and whether a step leads from one setup to another, can be told.
-use Rattle.std.proofs.Common.{◌≡◌, ◌≢◌, ℕ, ◌<◌, ◌⊎◌, Bool, true, false, Option, Some, None, refl, sym, ap, ◌∙◌, subst, inl, inr}
+use Rattle.std.proofs.Common.{◌≡◌, ◌≢◌, ℕ, ◌<◌, ◌⊎◌, Bool, true, false, Option, Some, None, refl, sym, ap, ◌∙◌, subst}
+use Rattle.std.proofs.Common.{inl, inr}
+use Rattle.egt_board.specs.Prelude.{other_side, IsInCheck, Reaches, Reaches-on_board, Advances, Stands, IsFree, IsHeld}
+use Rattle.egt_board.specs.Prelude.{one_man, Setup, Decided}
 use Rattle.egt_board.specs.declared.man.Man.{Man}
 use Rattle.egt_board.specs.declared.man.Kind.{Kind}
 use Rattle.egt_board.specs.declared.man.Kind.TheVariants.{Q, R, B, N, P, K}
-use Rattle.egt_board.specs.Man.{other_side}
-use Rattle.egt_board.specs.Attack.{IsInCheck}
-use Rattle.egt_board.specs.AttackLines.{Reaches, Reaches-on_board}
-use Rattle.egt_board.specs.Pawn.{Advances}
-use Rattle.egt_board.specs.Placement.{Stands, IsFree, IsHeld, one_man}
-use Rattle.egt_board.specs.Setup.{Setup}
-use Rattle.egt_board.specs.Decided.{Decided, decided_as, decided_not, decided_both, decided_either, decided_eq, decided_some_below}
-use Rattle.egt_board.specs.DecidedMen.{decided_side, decided_kind, decided_on, decided_anywhere, decided_free, decided_held, decided_reaches, decided_advances, decided_check}
+use Rattle.egt_board.specs.Decided.{decided_as, decided_not, decided_both, decided_either, decided_eq}
+use Rattle.egt_board.specs.Decided.{decided_some_below}
+use Rattle.egt_board.specs.DecidedMen.{decided_side, decided_kind, decided_on, decided_anywhere, decided_free}
+use Rattle.egt_board.specs.DecidedMen.{decided_held, decided_reaches, decided_advances, decided_check}
 use Rattle.egt_moves.specs.declared.chess_move.Move.{Move}
 use Rattle.egt_moves.specs.Chess.{Zeroes, IsPawnOn}
 use Rattle.egt_moves.specs.Going.{Goes, PieceGoes, PawnAdvances, PawnTakes}

@@ -1,11 +1,8 @@
 -- What a legal move does to the men: FIDE Laws of Chess 2023, articles 3.1 and 3.7.3.
 use Rattle.std.specs.Prelude.{◌≡◌, ◌≢◌, ◌+◌, ◌⊎◌, ◌↔◌, Option, Some, IfSome, IsSome}
+use Rattle.egt_board.specs.Prelude.{other_side, IsHeld, Setup, count_of, stands_here}
 use Rattle.egt_board.specs.declared.man.Kind.TheVariants.{P, K}
 use Rattle.egt_board.specs.declared.man.Man.{Man}
-use Rattle.egt_board.specs.Man.{other_side}
-use Rattle.egt_board.specs.Placement.{IsHeld}
-use Rattle.egt_board.specs.Setup.{Setup}
-use Rattle.egt_board.specs.Images.{count_of, stands_here}
 use Rattle.egt_moves.specs.declared.chess_move.Move.{Move}
 use Rattle.egt_moves.specs.Chess.{IsPawnOn}
 use Rattle.egt_moves.specs.Promotion.{IsOfficer, arriving}

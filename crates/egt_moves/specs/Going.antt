@@ -1,12 +1,8 @@
 -- Where men go: FIDE Laws of Chess 2023, articles 3.1 to 3.8.
 use Rattle.std.specs.Prelude.{◌≡◌, ◌≢◌, ℕ, ◌⊎◌, Some}
+use Rattle.egt_board.specs.Prelude.{other_side, IsFree, IsHeld, Reaches, Advances, Setup}
 use Rattle.egt_board.specs.declared.man.Kind.TheVariants.{P}
 use Rattle.egt_board.specs.declared.man.Man.{Man}
-use Rattle.egt_board.specs.Man.{other_side}
-use Rattle.egt_board.specs.Placement.{IsFree, IsHeld}
-use Rattle.egt_board.specs.AttackLines.{Reaches}
-use Rattle.egt_board.specs.Pawn.{Advances}
-use Rattle.egt_board.specs.Setup.{Setup}
 
 -- a piece or the king goes to a square that it attacks and where no man of its own side stands (3.1 to 3.6, 3.8)
 pub record PieceGoes (p : Setup) (man : Man) (from to : ℕ) : Type 0 where

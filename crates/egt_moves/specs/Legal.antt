@@ -1,16 +1,11 @@
 -- Legal moves: FIDE Laws of Chess 2023, articles 3.1 to 3.9.
 use Rattle.std.specs.Prelude.{◌≡◌, ℕ, ◌+◌, ◌/◌, ◌==◌, ◌&&◌, ◌||◌, Bool, false, if◌then◌else◌, Option, Some, None}
-use Rattle.std.specs.FinMap as map
+use Rattle.egt_board.specs.Prelude.{other_side, rank_of, Placement, Stands, ahead, IsInCheck, Setup}
 use Rattle.egt_board.specs.declared.man.Man.{Man}
-use Rattle.egt_board.specs.Man.{other_side}
-use Rattle.egt_board.specs.Square.{rank_of}
-use Rattle.egt_board.specs.Placement.{Placement, Stands}
-use Rattle.egt_board.specs.Pawn.{ahead}
-use Rattle.egt_board.specs.Attack.{IsInCheck}
-use Rattle.egt_board.specs.Setup.{Setup}
 use Rattle.egt_moves.specs.declared.chess_move.Move.{Move}
 use Rattle.egt_moves.specs.Going.{Goes}
 use Rattle.egt_moves.specs.Promotion.{is_pawn, promotes, FitsPromotion, arriving}
+use Rattle.std.specs.FinMap as map
 
 -- a move that promotes nothing
 abbrev pub plain : ℕ → ℕ → Move

@@ -1,10 +1,9 @@
 -- What becomes of a pawn on the last rank: FIDE Laws of Chess 2023, article 3.7.3.3.
 use Rattle.std.specs.Prelude.{ℕ, ◌==◌, ◌&&◌, Bool, true, false, Option, Some, None}
+use Rattle.egt_board.specs.Prelude.{rank_of, last_rank}
 use Rattle.egt_board.specs.declared.man.Kind.{Kind}
 use Rattle.egt_board.specs.declared.man.Kind.TheVariants.{Q, R, B, N, P, K}
 use Rattle.egt_board.specs.declared.man.Man.{Man}
-use Rattle.egt_board.specs.Square.{rank_of}
-use Rattle.egt_board.specs.Pawn.{last_rank}
 
 abbrev pub is_pawn : Kind → Bool
 is_pawn P = true

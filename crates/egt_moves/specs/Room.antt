@@ -1,19 +1,15 @@
 -- How many moves a man has at most, and that there is room for those of a side.
 use Rattle.std.specs.Prelude.{◌≡◌, ◌≢◌, ℕ, ◌+◌, ◌*◌, ◌<◌, ◌≤◌}
 use Rattle.std.proofs.Common.{arith, sym, ap, ◌∙◌, inl, inr, subst}
-use Rattle.std.proofs.lemmas.Bool.{cases_eq}
-use Rattle.std.proofs.lemmas.Nat.Bits.{bit_at-lt}
-use Rattle.std.specs.Int.{bit_at}
+use Rattle.egt_board.specs.Prelude.{cases_eq, bit_at-lt, bit_at, king_of, Stands, one_man, Setup, IsAdmissible}
+use Rattle.egt_board.specs.Prelude.{IsKingOn, Has, size_of}
 use Rattle.egt_board.specs.declared.man.Kind.{Kind}
 use Rattle.egt_board.specs.declared.man.Kind.TheVariants.{Q, R, B, N, P, K}
 use Rattle.egt_board.specs.declared.man.Man.{Man}
 use Rattle.egt_board.specs.declared.man.Side.{Side}
 use Rattle.egt_board.specs.declared.man.Side.TheVariants.{White, Black}
 use Rattle.egt_board.specs.declared.square_set.SquareSet.{SquareSet}
-use Rattle.egt_board.specs.Attack.{king_of}
-use Rattle.egt_board.specs.Placement.{Stands, one_man}
-use Rattle.egt_board.specs.Setup.{Setup, IsAdmissible, IsKingOn}
-use Rattle.egt_board.specs.SquareSet.{Has, size_of, size_of-some}
+use Rattle.egt_board.specs.SquareSet.{size_of-some}
 
 -- the squares that it may go to: a pawn two by an advance and two by a capture, a king eight, any other man those of
 -- four lines

@@ -1,6 +1,5 @@
 -- Checkmate and stalemate: FIDE Laws of Chess 2023, articles 5.1.1 and 5.2.1.
-use Rattle.egt_board.specs.Attack.{IsInCheck}
-use Rattle.egt_board.specs.Setup.{Setup}
+use Rattle.egt_board.specs.Prelude.{IsInCheck, Setup}
 use Rattle.egt_moves.specs.declared.chess_move.Move.{Move}
 use Rattle.egt_moves.specs.declared.outcome.Standing.{Standing}
 use Rattle.egt_moves.specs.declared.outcome.Standing.TheVariants.{Checkmate, Stalemate, HasMove}

@@ -1,9 +1,8 @@
 -- The squares to which legal moves go: FIDE Laws of Chess 2023, articles 3.1 to 3.9.
 use Rattle.std.specs.Prelude.{ℕ, Option}
+use Rattle.egt_board.specs.Prelude.{IsInCheck, Setup}
 use Rattle.egt_board.specs.declared.man.Kind.{Kind}
 use Rattle.egt_board.specs.declared.man.Man.{Man}
-use Rattle.egt_board.specs.Attack.{IsInCheck}
-use Rattle.egt_board.specs.Setup.{Setup}
 use Rattle.egt_moves.specs.Going.{Goes}
 use Rattle.egt_moves.specs.Legal.{IsLegal, men_after, plain}
 

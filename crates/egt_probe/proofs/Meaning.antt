@@ -1,8 +1,7 @@
 -- What a verdict means in the words of forced mate and of the defence against it.
-use Rattle.std.proofs.Common.{◌≡◌, ℕ, zero, suc, subst}
-use Rattle.egt_probe.specs.Prelude.{Side, other_side, Setup, Win, Loss, HasValue, MatesWithin}
-use Rattle.egt_probe.specs.Prelude.{IsMatedWithin, CannotMateBefore, AvoidsMateBefore, chess, mate_by}
-use Rattle.std.proofs.Common.{arith}
+use Rattle.std.proofs.Common.{◌≡◌, ℕ, zero, suc, subst, arith}
+use Rattle.egt_probe.specs.Prelude.{Side, other_side, Setup, Win, Loss, HasValue, MatesWithin, IsMatedWithin}
+use Rattle.egt_probe.specs.Prelude.{CannotMateBefore, AvoidsMateBefore, chess, mate_by}
 
 mover_wins : (s : Side) (n : ℕ) → mate_by s s n ≡ Win n
 mover_wins s n = grind arith

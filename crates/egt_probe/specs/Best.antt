@@ -1,9 +1,7 @@
 -- The move that is best play.
 use Rattle.std.specs.Prelude.{◌≡◌, zero, suc, ◌⊎◌, Option, Some, None}
-use Rattle.egt_board.specs.Setup.{Setup}
-use Rattle.egt_moves.specs.Arena.{Value, Win, Loss, Draw, HasValue}
-use Rattle.egt_moves.specs.Chess.{chess}
-use Rattle.egt_moves.specs.Standing.{IsCheckmate, IsStalemate}
+use Rattle.egt_moves.specs.Prelude.{Setup, Value, Win, Loss, Draw, HasValue, chess, IsCheckmate}
+use Rattle.egt_moves.specs.Standing.{IsStalemate}
 use Rattle.egt_moves.specs.declared.chess_move.Move.{Move}
 use Rattle.egt_probe.specs.Line.{IsFirstTo}
 

@@ -1,18 +1,11 @@
 -- What holds of play, texts and classes, by the laws of the crates below.
 use Rattle.std.specs.Prelude.{◌≡◌, ℕ, suc, ◌<◌, ◌≤◌, ◌⊎◌, Bool, List}
-use Rattle.std.specs.List.{Contains}
-use Rattle.egt_board.specs.Setup.{Setup, IsAdmissible}
-use Rattle.egt_class.specs.Children.{children_of}
-use Rattle.egt_class.specs.Membership.{IsOf}
-use Rattle.egt_fen.specs.Fen.{Spells, IsFirstFault}
+use Rattle.egt_moves.specs.Prelude.{Contains, Setup, IsAdmissible, Value, Win, Loss, SomeMove, HasValue, IsMatedWithin}
+use Rattle.egt_moves.specs.Prelude.{MatesWithin, AvoidsMateFor, CannotMateWithin, chess, Leads, HasZeroing}
+use Rattle.egt_check.specs.Prelude.{children_of, IsOf, IsIndex, size_of}
+use Rattle.egt_fen.specs.Prelude.{Spells, IsFirstFault}
 use Rattle.egt_fen.specs.declared.fault.FenFault.{FenFault}
 use Rattle.egt_fen.specs.declared.fen.Fen.{Fen}
-use Rattle.egt_index.specs.Index.{IsIndex}
-use Rattle.egt_index.specs.Size.{size_of}
-use Rattle.egt_moves.specs.Arena.{Value, Win, Loss, SomeMove, HasValue, IsMatedWithin, MatesWithin, AvoidsMateFor, CannotMateWithin}
-use Rattle.egt_moves.specs.Chess.{chess}
-use Rattle.egt_moves.specs.Legal.{Leads}
-use Rattle.egt_moves.specs.Zeroing.{HasZeroing}
 use Rattle.egt_moves.specs.declared.chess_move.Move.{Move}
 
 pub record Facts : Type 0 where

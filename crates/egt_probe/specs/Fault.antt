@@ -1,17 +1,15 @@
 -- When each fault comes, and the faults by number and by name.
 use Rattle.std.specs.Prelude.{ℕ, List, codes}
+use Rattle.egt_moves.specs.Prelude.{Setup, Draw, HasValue, chess}
 use Rattle.egt_board.specs.declared.man.Side.{Side}
-use Rattle.egt_board.specs.Setup.{Setup}
-use Rattle.egt_moves.specs.Arena.{Draw, HasValue}
-use Rattle.egt_moves.specs.Chess.{chess}
 use Rattle.egt_moves.specs.Found.{mate_by}
 use Rattle.egt_probe.specs.declared.fault.LineFault.{LineFault}
-use Rattle.egt_probe.specs.declared.fault.LineFault.TheVariants as lines
 use Rattle.egt_probe.specs.declared.fault.HoldFault.{HoldFault}
-use Rattle.egt_probe.specs.declared.fault.HoldFault.TheVariants as holds
 use Rattle.egt_probe.specs.declared.fault.AnswerFault.{AnswerFault}
-use Rattle.egt_probe.specs.declared.fault.AnswerFault.TheVariants as answers
 use Rattle.egt_probe.specs.Loaded.{Loaded, IsLoaded, IsMissing}
+use Rattle.egt_probe.specs.declared.fault.LineFault.TheVariants as lines
+use Rattle.egt_probe.specs.declared.fault.HoldFault.TheVariants as holds
+use Rattle.egt_probe.specs.declared.fault.AnswerFault.TheVariants as answers
 
 -- a side forces checkmate
 pub record IsDecisive (p : Setup) : Type 0 where

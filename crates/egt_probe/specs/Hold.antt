@@ -1,8 +1,6 @@
 -- The move that holds a draw.
 use Rattle.std.specs.Prelude.{Option, Some, None}
-use Rattle.egt_board.specs.Setup.{Setup}
-use Rattle.egt_moves.specs.Arena.{Draw, HasValue}
-use Rattle.egt_moves.specs.Chess.{chess}
+use Rattle.egt_moves.specs.Prelude.{Setup, Draw, HasValue, chess}
 use Rattle.egt_moves.specs.Standing.{IsStalemate}
 use Rattle.egt_moves.specs.declared.chess_move.Move.{Move}
 use Rattle.egt_probe.specs.Line.{IsFirstTo}

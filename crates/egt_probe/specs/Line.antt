@@ -1,11 +1,6 @@
 -- Best play: the line by which the winner mates as soon as can be, and the loser is mated as late as can be.
 use Rattle.std.specs.Prelude.{◌≡◌, ℕ, zero, suc, ◌<◌, List, [], ◌∷◌, Option, Some, None}
-use Rattle.egt_board.specs.Setup.{Setup}
-use Rattle.egt_moves.specs.Arena.{Value, Win, Loss, Draw, HasValue}
-use Rattle.egt_moves.specs.Chess.{chess}
-use Rattle.egt_moves.specs.Legal.{Leads}
-use Rattle.egt_moves.specs.Order.{place_of}
-use Rattle.egt_moves.specs.Standing.{IsCheckmate}
+use Rattle.egt_moves.specs.Prelude.{Setup, Value, Win, Loss, Draw, HasValue, chess, Leads, place_of, IsCheckmate}
 use Rattle.egt_moves.specs.declared.chess_move.Move.{Move}
 
 -- m leads to q, which has that value, and no move before m in the order of moves leads to a position with it

@@ -1,7 +1,6 @@
 -- The classes that are loaded, and the positions of them.
 use Rattle.std.specs.Prelude.{ℕ, ◌<◌, Bool, Option, IsSome, IsNone}
-use Rattle.egt_board.specs.Setup.{Setup}
-use Rattle.egt_class.specs.Membership.{IsOf}
+use Rattle.egt_class.specs.Prelude.{Setup, IsOf}
 
 -- of each class nothing where it is not loaded, else whether its table has the column of the nearest mates
 abbrev pub Loaded : Type 0

@@ -1,20 +1,19 @@
 -- What is reported of a line: a FEN (PGN standard of 1994, section 16.1), or what stands in its place.
 use Rattle.std.specs.Prelude.{◌≡◌, ℕ, ◌<◌, ◌≤◌, List, length, Option, Some, IsSome}
+use Rattle.egt_fen.specs.Prelude.{Setup, Spells, IsFirstFault}
 use Rattle.egt_board.specs.declared.man.Side.{Side}
-use Rattle.egt_board.specs.Setup.{Setup}
-use Rattle.egt_fen.specs.Fen.{Spells, IsFirstFault}
 use Rattle.egt_fen.specs.declared.fault.FenFault.{FenFault}
 use Rattle.egt_fen.specs.declared.fen.Fen.{Fen}
 use Rattle.egt_moves.specs.Found.{mate_by}
 use Rattle.egt_moves.specs.declared.chess_move.Move.{Move}
 use Rattle.egt_probe.specs.declared.outcome.Outcome.{Outcome}
-use Rattle.egt_probe.specs.declared.outcome.Outcome.TheVariants as outcomes
 use Rattle.egt_probe.specs.declared.outcome.Verdict.{Verdict}
 use Rattle.egt_probe.specs.Hold.{IsHold}
 use Rattle.egt_probe.specs.Line.{IsLine}
 use Rattle.egt_probe.specs.Loaded.{Loaded, IsMissing}
 use Rattle.egt_probe.specs.Text.{decided_text, dead_text, drawn_text, missing_text, refused_text, long_text}
 use Rattle.egt_probe.specs.Verdict.{IsVerdict}
+use Rattle.egt_probe.specs.declared.outcome.Outcome.TheVariants as outcomes
 
 abbrev pub verdict_of : ℕ → Outcome → Verdict
 verdict_of c value = record { class = c; value = value }

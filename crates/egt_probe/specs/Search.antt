@@ -1,12 +1,8 @@
 -- What entries of tables tell of a position and of where its moves lead.
 use Rattle.std.specs.Prelude.{◌≢◌, ℕ, ◌<◌}
-use Rattle.egt_board.specs.Setup.{Setup}
-use Rattle.egt_moves.specs.Arena.{Value, HasValue}
-use Rattle.egt_moves.specs.Chess.{chess}
-use Rattle.egt_moves.specs.Legal.{Leads}
-use Rattle.egt_moves.specs.Order.{place_of}
+use Rattle.egt_moves.specs.Prelude.{Setup, Value, HasValue, chess, Leads, place_of}
+use Rattle.egt_check.specs.Prelude.{Shows}
 use Rattle.egt_moves.specs.declared.chess_move.Move.{Move}
-use Rattle.egt_entries.specs.Entry.{Shows}
 
 -- the entry shows the position's value
 pub record ShowsValue (p : Setup) (x : ℕ) : Type 0 where

@@ -1,17 +1,13 @@
 -- What a verdict claims of a position.
 use Rattle.std.specs.Prelude.{◌≡◌, ◌≤◌, Bool, true, Option, Some}
+use Rattle.egt_moves.specs.Prelude.{Setup, Value, Draw, HasValue, chess, IsDead, CanMove, HasZeroing}
 use Rattle.egt_board.specs.declared.man.Side.{Side}
-use Rattle.egt_board.specs.Setup.{Setup}
-use Rattle.egt_moves.specs.Arena.{Value, Draw, HasValue}
-use Rattle.egt_moves.specs.Chess.{chess}
 use Rattle.egt_moves.specs.Found.{mate_by}
-use Rattle.egt_moves.specs.Reach.{IsDead}
-use Rattle.egt_moves.specs.Standing.{CanMove, IsStalemate}
-use Rattle.egt_moves.specs.Zeroing.{HasZeroing}
+use Rattle.egt_moves.specs.Standing.{IsStalemate}
 use Rattle.egt_probe.specs.declared.outcome.Outcome.{Outcome}
-use Rattle.egt_probe.specs.declared.outcome.Outcome.TheVariants as outcomes
 use Rattle.egt_probe.specs.declared.outcome.Verdict.{Verdict}
 use Rattle.egt_probe.specs.Loaded.{Loaded, IsOfClass}
+use Rattle.egt_probe.specs.declared.outcome.Outcome.TheVariants as outcomes
 
 -- the outcome as the side to move sees it: a win where it is the winner, else a loss, in so many plies to mate
 abbrev pub mate_value : Side → Outcome → Value

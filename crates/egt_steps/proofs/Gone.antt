@@ -1,13 +1,12 @@
 -- What the code after a step spells: the men who stood there, but for the one who went.
-use Rattle.std.proofs.Common.{◌≡◌, ◌≢◌, ℕ, List, [], ◌∷◌, ◌++◌, map, refl, sym, ap, ◌∙◌, inl, inr, subst}
+use Rattle.std.proofs.Common.{◌≡◌, ◌≢◌, ℕ, List, [], ◌∷◌, ◌++◌, map, refl, sym, ap, ◌∙◌, inl, inr, subst, arith}
 use Rattle.egt_steps.specs.Prelude.{option_to_list, cases_eq, king_of, men_of, get-insert_other, get-insert_same}
 use Rattle.egt_steps.specs.Prelude.{get-remove_other, get-remove_same, same_men, Man, White, Black, IsListed, AllApart}
 use Rattle.egt_steps.specs.Prelude.{Entry, IsOff, list_of, moved_entry, moved_square, Stand, AreApart, get_here}
 use Rattle.egt_steps.specs.Prelude.{get_later, listed_stands, free_of}
-use Rattle.std.specs.FinMap as placement
 use Rattle.egt_steps.proofs.Carried.{went, stayed}
 use Rattle.egt_steps.proofs.Moved.{after_of}
-use Rattle.std.proofs.Common.{arith}
+use Rattle.std.specs.FinMap as placement
 
 off_listed : (list : List (Man × ℕ)) (man : Man) (s : ℕ) → IsOff list s → IsListed list man s → ⊥
 off_listed [] man s off h = h

@@ -1,8 +1,6 @@
 -- By how many squares a pawn advances, and the index of a position that settles to another.
-use Rattle.std.proofs.Common.{◌≡◌, ◌⊎◌, ℕ, ◌≤◌, ◌==◌, ◌&&◌, if◌then◌else◌, Bool, false, sym, subst, inl}
-use Rattle.std.proofs.Common.{inr}
+use Rattle.std.proofs.Common.{◌≡◌, ◌⊎◌, ℕ, ◌≤◌, ◌==◌, ◌&&◌, if◌then◌else◌, Bool, false, sym, subst, inl, inr, arith}
 use Rattle.egt_steps.specs.Prelude.{eqb_tells, IsSettled, SettlesTo, Setup, IsIndex}
-use Rattle.std.proofs.Common.{arith}
 
 pub and_false : (a b : Bool) → b ≡ false → (a && b) ≡ false
 and_false a b e = grind arith

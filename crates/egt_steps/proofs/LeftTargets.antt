@@ -1,12 +1,11 @@
 -- Which advances of a pawn leave a target, and what the positions after them settle to.
-use Rattle.std.proofs.Common.{◌≡◌, ◌≢◌, ℕ, ◌*◌, ◌/◌, ◌+◌, ◌≤◌, ◌==◌, ◌&&◌, ◌||◌, ◌⊎◌, ◌↔◌, if◌then◌else◌, Bool}
-use Rattle.std.proofs.Common.{true, false, Option, Some, None, IfSome, IsTrue, refl, sym, ap, ◌∙◌, subst, inl, inr}
-use Rattle.std.proofs.Common.{arith}
-use Rattle.egt_steps.specs.Prelude.{is_some, eqb_tells, king_of, other_side, Advances, HasPawnBeside}
-use Rattle.egt_steps.specs.Prelude.{IsBeside, ahead, last_rank, pawn_of, Placement, Stands, SettlesTo, Setup}
-use Rattle.egt_steps.specs.Prelude.{IsAdmissible, rank_of, IsTarget, target_rank, Kind, P, K, Man, Side, White, Black}
-use Rattle.egt_steps.specs.Prelude.{settles_admissible, settles_men, side_twice, sides_differ, ShelfMen, is_two_ranks}
-use Rattle.egt_steps.specs.Prelude.{passed, is_pawn, target_is, Facts, AreTwoRanksApart, LeavesTarget}
+use Rattle.std.proofs.Common.{◌≡◌, ◌≢◌, ℕ, ◌*◌, ◌/◌, ◌+◌, ◌≤◌, ◌==◌, ◌&&◌, ◌||◌, ◌⊎◌, ◌↔◌, if◌then◌else◌, Bool, true}
+use Rattle.std.proofs.Common.{false, Option, Some, None, IfSome, IsTrue, refl, sym, ap, ◌∙◌, subst, inl, inr, arith}
+use Rattle.egt_steps.specs.Prelude.{is_some, eqb_tells, king_of, other_side, Advances, HasPawnBeside, IsBeside, ahead}
+use Rattle.egt_steps.specs.Prelude.{last_rank, pawn_of, Placement, Stands, SettlesTo, Setup, IsAdmissible, rank_of}
+use Rattle.egt_steps.specs.Prelude.{IsTarget, target_rank, Kind, P, K, Man, Side, White, Black, settles_admissible}
+use Rattle.egt_steps.specs.Prelude.{settles_men, side_twice, sides_differ, ShelfMen, is_two_ranks, passed, is_pawn}
+use Rattle.egt_steps.specs.Prelude.{target_is, Facts, AreTwoRanksApart, LeavesTarget}
 use Rattle.egt_steps.proofs.Leaping.{one_off_home}
 use Rattle.egt_steps.proofs.TwoNonKings.{AreTwo, one_two, who}
 

@@ -1,13 +1,12 @@
 -- The men of a class after one of them went to a free square.
 use Rattle.std.proofs.Common.{◌≡◌, ◌≢◌, ℕ, ◌<◌, Bool, false, List, [], ◌∷◌, ◌++◌, map, Some, None, refl, sym, ap, ◌∙◌}
-use Rattle.std.proofs.Common.{inl, inr, subst}
+use Rattle.std.proofs.Common.{inl, inr, subst, arith}
 use Rattle.egt_steps.specs.Prelude.{option_to_list, is_some, cases_eq, Side, White, Black, Man, king_of, other_side}
 use Rattle.egt_steps.specs.Prelude.{Placement, Stands, one_man, get-remove_other, get-insert_same, get-insert_other}
 use Rattle.egt_steps.specs.Prelude.{IsSettled, Setup, turned_man, IsMoved, moved_square, moved_entry, IsMovedStand}
 use Rattle.egt_steps.specs.Prelude.{Entry, men_among, IsOff, AllStand, Stood, HasStand, list_of, Stand}
-use Rattle.std.specs.FinMap as placement
 use Rattle.egt_steps.proofs.Carried.{went, stayed}
-use Rattle.std.proofs.Common.{arith}
+use Rattle.std.specs.FinMap as placement
 
 module _ (c : ℕ) (p : Setup) (from to : ℕ) (q : Setup) (moved : IsMoved c p from to q) where
   abbrev move_one : Man × ℕ → Man × ℕ

@@ -12,13 +12,12 @@ use Rattle.egt_steps.specs.Prelude.{Leads, after, is_two_ranks, men_after, passe
 use Rattle.egt_steps.specs.Prelude.{FitsPromotion, arriving, is_pawn, promotes, Move, not_two, pawn_told}
 use Rattle.egt_steps.specs.Prelude.{takes_forward_of, two_forward, two_ranks_told, not_passing, IsBesideKing}
 use Rattle.egt_steps.specs.Prelude.{king_of_men, stand_on, with_king, Facts, IsClassOf, IsPastKings, IsPlainCapture}
-use Rattle.egt_steps.specs.Prelude.{IsTaken, Left, left_of, stand_left}
-use Rattle.std.specs.FinMap as placement
+use Rattle.egt_steps.specs.Prelude.{IsTaken, Left, left_of, stand_left, sides_differ}
 use Rattle.egt_index.proofs.ByMen.{no_target}
 use Rattle.egt_steps.proofs.Fanned.{king_reaches}
 use Rattle.egt_steps.proofs.Passed.{departs}
 use Rattle.egt_steps.proofs.Still.{no_pawn_is}
-use Rattle.egt_board.proofs.Sides.{sides_differ}
+use Rattle.std.specs.FinMap as placement
 
 -- the men of a stand, and those beside the kings, by the laws of egt_index and egt_class
 pub record Telling : Type 0 where

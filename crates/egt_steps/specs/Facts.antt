@@ -1,21 +1,10 @@
 -- What holds of play, images, classes and indexes, by the laws of the crates below.
 use Rattle.std.specs.Prelude.{◌≡◌, ℕ, ◌<◌, ◌⊎◌, ◌↔◌, Bool, Option, IsTrue}
-use Rattle.std.specs.List.{Contains}
-use Rattle.egt_board.specs.Images.{AreImages}
-use Rattle.egt_board.specs.Settled.{SettlesTo}
-use Rattle.egt_board.specs.Setup.{Setup, IsAdmissible}
-use Rattle.egt_class.specs.Children.{children_of}
-use Rattle.egt_class.specs.Membership.{IsOf}
-use Rattle.egt_index.specs.Code.{Spells}
-use Rattle.egt_index.specs.Index.{IsIndex, SettleAlike}
-use Rattle.egt_index.specs.Size.{size_of}
-use Rattle.egt_moves.specs.Arena.{Value, HasValue}
-use Rattle.egt_moves.specs.Chess.{chess, Zeroes}
-use Rattle.egt_moves.specs.Entries.{JudgedOver, ZeroingJudgedOver}
-use Rattle.egt_moves.specs.Reach.{HasReach, ReachJudgedOver}
-use Rattle.egt_moves.specs.Legal.{Leads}
-use Rattle.egt_moves.specs.Standing.{IsCheckmate}
-use Rattle.egt_moves.specs.Zeroing.{HasZeroing}
+use Rattle.egt_moves.specs.Prelude.{Contains, AreImages, SettlesTo, Setup, IsAdmissible, Value, HasValue, chess, Zeroes}
+use Rattle.egt_moves.specs.Prelude.{JudgedOver, ZeroingJudgedOver, HasReach, ReachJudgedOver, Leads, IsCheckmate}
+use Rattle.egt_moves.specs.Prelude.{HasZeroing}
+use Rattle.egt_index.specs.Prelude.{IsOf, Spells, IsIndex, SettleAlike, size_of}
+use Rattle.egt_class.specs.Prelude.{children_of}
 use Rattle.egt_moves.specs.declared.chess_move.Move.{Move}
 
 pub record Facts : Type 0 where

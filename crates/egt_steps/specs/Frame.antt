@@ -1,11 +1,8 @@
 -- Positions that differ by the square of one man.
 use Rattle.std.specs.Prelude.{◌≡◌, ℕ, ◌<◌, Bool, None}
-use Rattle.std.specs.FinMap as map
+use Rattle.egt_index.specs.Prelude.{other_side, Stands, IsFree, Setup, IsAdmissible, IsOf}
 use Rattle.egt_board.specs.declared.man.Man.{Man}
-use Rattle.egt_board.specs.Man.{other_side}
-use Rattle.egt_board.specs.Placement.{Stands, IsFree}
-use Rattle.egt_board.specs.Setup.{Setup, IsAdmissible}
-use Rattle.egt_class.specs.Membership.{IsOf}
+use Rattle.std.specs.FinMap as map
 
 -- the man on `from` went to `to`, where none stood, and nothing else on the board changed; it is the other side's turn, without a
 -- target

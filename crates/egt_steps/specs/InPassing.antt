@@ -1,17 +1,13 @@
 -- Pawns that face each other: advances that leave a target, and captures in passing (FIDE Laws of Chess 2023, articles
 -- 3.7.3.1 and 3.7.3.2). The last man beside the kings, a pawn on b, moves, and the first stands on a.
 use Rattle.std.specs.Prelude.{◌≡◌, ℕ, ◌+◌, ◌⊎◌, Bool, false, true, None, Some, IfSome}
-use Rattle.egt_board.specs.AttackLines.{Reaches}
-use Rattle.egt_board.specs.Man.{other_side}
-use Rattle.egt_board.specs.Pawn.{IsBeside, ahead}
-use Rattle.egt_board.specs.Setup.{Setup}
-use Rattle.egt_board.specs.Square.{rank_of}
+use Rattle.egt_moves.specs.Prelude.{Reaches, other_side, IsBeside, ahead, Setup, rank_of, IsOfficer}
+use Rattle.egt_index.specs.Prelude.{IsSomeTurnedCodeWith}
 use Rattle.egt_board.specs.declared.man.Kind.{Kind}
 use Rattle.egt_board.specs.declared.man.Kind.TheVariants.{P}
 use Rattle.egt_board.specs.declared.man.Side.{Side}
-use Rattle.egt_index.specs.TurnedMen.{IsSomeTurnedCode, IsSomeTurnedCodeWith}
+use Rattle.egt_index.specs.TurnedMen.{IsSomeTurnedCode}
 use Rattle.egt_index.specs.declared.shelf_codes.ShelfMen.{ShelfMen}
-use Rattle.egt_moves.specs.Promotion.{IsOfficer}
 use Rattle.egt_moves.specs.declared.chess_move.Move.{Move}
 use Rattle.egt_steps.specs.PawnMoves.{IsAdvance, IsAdvanceFrom, IsPromotingCaptureFrom, stand_after}
 use Rattle.egt_steps.specs.Takings.{IsPastKings, IsPlainCapture, left_of, stand_left}

@@ -1,26 +1,16 @@
 -- The men after the moves of a pawn who stands beside the kings as the last of two men.
 use Rattle.std.specs.Prelude.{◌≡◌, ℕ, ◌<◌, if◌then◌else◌, Bool, true, false, [], ◌∷◌, Option, Some}
-use Rattle.egt_board.specs.Attack.{king_of}
-use Rattle.egt_board.specs.AttackLines.{Reaches}
-use Rattle.egt_board.specs.Man.{other_side}
-use Rattle.egt_board.specs.Pawn.{Advances}
-use Rattle.egt_board.specs.Placement.{IsHeld}
-use Rattle.egt_board.specs.Setup.{Setup}
-use Rattle.egt_board.specs.Turned.{turned_man}
+use Rattle.egt_moves.specs.Prelude.{king_of, Reaches, other_side, Advances, IsHeld, Setup, Captures, FitsPromotion}
+use Rattle.egt_moves.specs.Prelude.{IsOfficer, arriving, promotes}
+use Rattle.egt_index.specs.Prelude.{turned_man, material_of, IsOf, AreNonKings, men_in_order, swapped}
 use Rattle.egt_board.specs.declared.man.Kind.{Kind}
 use Rattle.egt_board.specs.declared.man.Kind.TheVariants.{P}
 use Rattle.egt_board.specs.declared.man.Man.{Man}
 use Rattle.egt_board.specs.declared.man.Side.{Side}
 use Rattle.egt_board.specs.declared.man.Side.TheVariants.{White, Black}
-use Rattle.egt_class.specs.Material.{material_of}
-use Rattle.egt_class.specs.Membership.{IsOf}
-use Rattle.egt_class.specs.Pair.{AreNonKings}
-use Rattle.egt_index.specs.Size.{men_in_order}
-use Rattle.egt_index.specs.TurnedMen.{IsSomeTurnedCode, swapped}
+use Rattle.egt_index.specs.TurnedMen.{IsSomeTurnedCode}
 use Rattle.egt_index.specs.declared.shelf_codes.ShelfMen.{ShelfMen}
 use Rattle.egt_index.specs.declared.stand.Stand.{Stand}
-use Rattle.egt_moves.specs.Exchange.{Captures}
-use Rattle.egt_moves.specs.Promotion.{FitsPromotion, IsOfficer, arriving, promotes}
 use Rattle.egt_moves.specs.declared.chess_move.Move.{Move}
 use Rattle.egt_steps.specs.Stands.{stand_on}
 use Rattle.egt_steps.specs.QuietStands.{IsClear}

@@ -1,11 +1,7 @@
 -- The legal moves of a man that take nothing, by the square that they lead to.
 use Rattle.std.specs.Prelude.{◌≡◌, ℕ, Bool, ◌↔◌, IsTrue, None}
-use Rattle.egt_board.specs.Placement.{Stands}
-use Rattle.egt_board.specs.Setup.{Setup}
+use Rattle.egt_moves.specs.Prelude.{Stands, Setup, Zeroes, Captures, IsLegal, plain, passed}
 use Rattle.egt_board.specs.declared.man.Man.{Man}
-use Rattle.egt_moves.specs.Chess.{Zeroes}
-use Rattle.egt_moves.specs.Exchange.{Captures}
-use Rattle.egt_moves.specs.Legal.{IsLegal, plain, passed}
 use Rattle.egt_moves.specs.declared.chess_move.Move.{Move}
 
 -- the one legal move to the square takes nothing and lets nothing be taken in passing; it zeroes where `pawn`

@@ -1,11 +1,8 @@
 -- The men of a shelf on squares: the first and the last one beside the kings, and where their kings may go.
 use Rattle.std.specs.Prelude.{◌≡◌, ℕ, ◌<◌}
-use Rattle.std.specs.Int.{bit_at}
-use Rattle.egt_board.specs.Attack.{king_of}
-use Rattle.egt_board.specs.AttackLines.{Reaches}
+use Rattle.egt_index.specs.Prelude.{bit_at, king_of, Reaches, stand_with}
 use Rattle.egt_board.specs.declared.man.Side.{Side}
 use Rattle.egt_board.specs.declared.man.Side.TheVariants.{White, Black}
-use Rattle.egt_index.specs.ShelfCodes.{stand_with}
 use Rattle.egt_index.specs.declared.shelf_codes.ShelfMen.{ShelfMen}
 use Rattle.egt_index.specs.declared.stand.Stand.{Stand}
 

@@ -1,8 +1,7 @@
 -- Entries that scores of draws tell.
-use Rattle.std.proofs.Common.{◌≡◌, ◌∙◌, ℕ, ◌<◌, length, map, ap, sym, subst, inl, inr}
-use Rattle.egt_sweep.specs.FillPrelude.{IsVoid, size_of, Column, TellColumn, TellsEntry, told, AreDrawnOrNone, CodeScores}
-use Rattle.egt_sweep.specs.FillPrelude.{HasNoVoidScore, IsDrawnIndex, told_at, told_none, IsDrawn}
-use Rattle.std.proofs.Common.{arith}
+use Rattle.std.proofs.Common.{◌≡◌, ◌∙◌, ℕ, ◌<◌, length, map, ap, sym, subst, inl, inr, arith}
+use Rattle.egt_sweep.specs.FillPrelude.{IsVoid, size_of, Column, TellColumn, TellsEntry, told, AreDrawnOrNone}
+use Rattle.egt_sweep.specs.FillPrelude.{CodeScores, HasNoVoidScore, IsDrawnIndex, told_at, told_none, IsDrawn}
 
 draw_told : (column : Column) → told column 128 ≡ 1
 draw_told column = grind arith

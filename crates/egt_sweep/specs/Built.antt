@@ -1,20 +1,12 @@
 -- What the builder answers.
 use Rattle.std.specs.Prelude.{◌≡◌, ℕ, ◌<◌, ◌≤◌, ◌⊎◌, Bool, Some, None, IfSome, IsSome}
-use Rattle.std.specs.List.{Contains}
-use Rattle.egt_board.specs.Setup.{Setup, IsAdmissible}
-use Rattle.egt_class.specs.Children.{children_of}
-use Rattle.egt_class.specs.Membership.{IsOf}
-use Rattle.egt_moves.specs.Arena.{Value, Win, Loss, Draw, HasValue}
-use Rattle.egt_moves.specs.Chess.{chess}
-use Rattle.egt_moves.specs.Reach.{HasReach}
-use Rattle.egt_table.specs.Table.{TableValue}
-use Rattle.egt_entries.specs.Entry.{longest}
-use Rattle.egt_entries.specs.Library.{IsFirstLacking, IsFirstMissing, IsAccepted}
-use Rattle.egt_entries.specs.Tables.{Tables, HasChildren, HasReachChildren}
-use Rattle.egt_entries.specs.Truth.{IsTrueReach, IsTrueTable}
+use Rattle.egt_check.specs.Prelude.{Contains, Setup, IsAdmissible, children_of, IsOf, Value, Win, Loss, Draw, chess}
+use Rattle.egt_check.specs.Prelude.{HasReach, TableValue, longest, IsFirstLacking, IsFirstMissing, IsAccepted, Tables}
+use Rattle.egt_check.specs.Prelude.{HasChildren, HasReachChildren, IsTrueReach, IsTrueTable}
+use Rattle.egt_moves.specs.Prelude.{HasValue}
 use Rattle.egt_sweep.specs.declared.build_fault.BuildFault.{BuildFault}
-use Rattle.egt_sweep.specs.declared.build_fault.BuildFault.TheVariants as faults
 use Rattle.egt_sweep.specs.declared.migrate_fault.MigrateFault.{MigrateFault}
+use Rattle.egt_sweep.specs.declared.build_fault.BuildFault.TheVariants as faults
 use Rattle.egt_sweep.specs.declared.migrate_fault.MigrateFault.TheVariants as migrating
 
 -- no more plies than the limit

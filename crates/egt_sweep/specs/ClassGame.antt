@@ -1,27 +1,23 @@
 -- The graph of a class's game, and that it is lawful.
-use Rattle.std.specs.Prelude.{◌≡◌, ℕ, zero, suc, ◌<◌, ◌&&◌, not, Bool, true, false, if◌then◌else◌, List, [], ◌∷◌, Option, Some, None, All, filter}
-use Rattle.std.specs.List.{flat_map}
-use Rattle.std.specs.Option.{is_some, option_to_list}
+use Rattle.std.specs.Prelude.{◌≡◌, ℕ, zero, suc, ◌<◌, ◌&&◌, not, Bool, true, false, if◌then◌else◌, List, [], ◌∷◌}
+use Rattle.std.specs.Prelude.{Option, Some, None, All, filter}
 use Rattle.std.proofs.Common.{refl, inl, inr, arith}
-use Rattle.std.proofs.lemmas.Bool.{false≢true, and_parts}
 use Rattle.std.proofs.lemmas.List.Elements.{All-cons, All-nil, All-append}
-use Rattle.egt_board.specs.Decided.{Decided, tells, tells_so}
-use Rattle.egt_board.specs.Setup.{Setup}
-use Rattle.egt_moves.specs.Arena.{Value, Win, Loss, Draw}
-use Rattle.egt_moves.specs.DecidedMoves.{decided_legal, decided_checkmate}
-use Rattle.egt_moves.specs.Moves.{moves_of, all_moves, is_legal, played}
-use Rattle.egt_moves.specs.Standing.{IsStuck}
+use Rattle.egt_check.specs.Prelude.{is_some, option_to_list, false≢true, and_parts, Decided, tells, tells_so, Setup}
+use Rattle.egt_check.specs.Prelude.{Value, Win, Loss, Draw, size_of, TableValue, read, Tables, entry_at}
+use Rattle.egt_moves.specs.Prelude.{decided_legal, decided_checkmate, all_moves, is_legal, played, IsStuck}
+use Rattle.egt_graph.specs.Prelude.{Graph, IsNode, IsGame, HasShortDistance}
+use Rattle.egt_table.specs.Prelude.{flat_map}
+use Rattle.egt_entries.specs.Prelude.{IsShort}
 use Rattle.egt_moves.specs.declared.chess_move.Move.{Move}
-use Rattle.egt_graph.specs.Graph.{Graph, IsNode, IsGame, HasShortDistance}
-use Rattle.egt_graph.specs.Passing.{passing_below, passing_has, passing_passes, passing_all, passing_ascends, passing_none}
-use Rattle.egt_index.specs.Size.{size_of}
+use Rattle.egt_graph.specs.Passing.{passing_below, passing_has, passing_passes, passing_all, passing_ascends}
+use Rattle.egt_graph.specs.Passing.{passing_none}
 use Rattle.egt_entries.specs.declared.metric.Metric.{Metric}
 use Rattle.egt_entries.specs.declared.metric.Metric.TheVariants.{Mate, Zeroing}
-use Rattle.egt_table.specs.Table.{TableValue}
-use Rattle.egt_entries.specs.Entry.{IsShort}
-use Rattle.egt_check.specs.Reading.{read, read_short}
-use Rattle.egt_entries.specs.Tables.{Tables, entry_at}
-use Rattle.egt_sweep.specs.Nodes.{position_at, connects, connects_from, is_mated, exits_at, exits_from, exit_by, exit_of, shown_in, shown_below, or_else, goes_on, index_in}
+use Rattle.egt_check.specs.Reading.{read_short}
+use Rattle.egt_sweep.specs.Nodes.{position_at, connects_from, is_mated, exits_from, exit_by, exit_of, shown_in, or_else}
+use Rattle.egt_sweep.specs.Nodes.{goes_on, index_in, connects, exits_at, shown_below}
+use Rattle.egt_moves.specs.Moves.{moves_of}
 
 -- nodes are the indexes, and edges the moves that go on
 abbrev pub class_game : Tables → Metric → ℕ → Graph

@@ -1,10 +1,7 @@
 -- Items whose entries are due, and shelves whose entries keep the rules.
 use Rattle.std.specs.Prelude.{ℕ, ◌+◌}
+use Rattle.egt_check.specs.Prelude.{TableValue, Tables, beside, table_at, with_kings, AreJudged}
 use Rattle.egt_board.specs.declared.man.Side.{Side}
-use Rattle.egt_table.specs.Table.{TableValue}
-use Rattle.egt_entries.specs.Tables.{Tables, beside, table_at}
-use Rattle.egt_blocks.specs.Blocks.{with_kings}
-use Rattle.egt_check.specs.RightBlock.{AreJudged}
 use Rattle.egt_sweep.specs.Settled.{AreAllDue}
 use Rattle.egt_sweep.specs.declared.filling.Filling.{Filling}
 use Rattle.egt_sweep.specs.declared.items.Item.{Item}

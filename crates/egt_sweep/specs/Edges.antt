@@ -1,10 +1,6 @@
 -- The moves that go on in a class's game, as relations.
 use Rattle.std.specs.Prelude.{ℕ, IsTrue}
-use Rattle.egt_board.specs.Setup.{Setup}
-use Rattle.egt_index.specs.Code.{Spells}
-use Rattle.egt_index.specs.Index.{IsIndex}
-use Rattle.egt_moves.specs.Chess.{Zeroes}
-use Rattle.egt_moves.specs.Legal.{Leads}
+use Rattle.egt_check.specs.Prelude.{Setup, Spells, IsIndex, Zeroes, Leads}
 use Rattle.egt_moves.specs.declared.chess_move.Move.{Move}
 use Rattle.egt_unmoves.specs.declared.unmove.Unmove.{Unmove}
 use Rattle.egt_entries.specs.declared.metric.Metric.{Metric}

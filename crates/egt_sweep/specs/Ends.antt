@@ -1,8 +1,6 @@
 -- Scores of positions without a move.
 use Rattle.std.specs.Prelude.{◌≡◌, ℕ, ◌⊎◌}
-use Rattle.egt_board.specs.Setup.{Setup}
-use Rattle.egt_index.specs.Code.{Spells}
-use Rattle.egt_entries.specs.Score.{IsAtEnd}
+use Rattle.egt_entries.specs.Prelude.{Setup, Spells, IsAtEnd}
 
 -- the entry of a position without a move, and its score: that of checkmate or that of a draw
 abbrev pub AreOfEnd : (entry score : ℕ) → Type 0

@@ -1,9 +1,6 @@
 -- Columns before anything is told of them, and tables that have a column more.
 use Rattle.std.specs.Prelude.{◌≡◌, ℕ, ◌<◌, List, IsSome, slice_index}
-use Rattle.egt_index.specs.Index.{IsVoid}
-use Rattle.egt_index.specs.Size.{size_of}
-use Rattle.egt_table.specs.Table.{TableValue}
-use Rattle.egt_entries.specs.Truth.{IsTrueTable}
+use Rattle.egt_sweep.specs.Prelude.{IsVoid, size_of, TableValue, IsTrueTable}
 use Rattle.egt_sweep.specs.declared.tables.Reached.{Reached}
 use Rattle.egt_sweep.specs.declared.tables.Reached.TheVariants.{Filled, Untold, NoMemory}
 

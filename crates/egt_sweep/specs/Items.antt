@@ -1,16 +1,9 @@
 -- Items, and what a look at one comes to.
 use Rattle.std.specs.Prelude.{◌≡◌, ◌≢◌, ℕ, ◌+◌, ◌<◌, Bool, true, false, List}
+use Rattle.egt_check.specs.Prelude.{code_of, kind_digits, kind_less, number_in, at, TableValue, AreShelvesOf}
+use Rattle.egt_check.specs.Prelude.{with_kings, HoldsExits, column_of, IsRightLane}
 use Rattle.egt_board.specs.declared.man.Side.{Side}
-use Rattle.egt_index.specs.Numbers.{code_of}
-use Rattle.egt_index.specs.Scales.{kind_digits, kind_less}
-use Rattle.egt_index.specs.ShelfCodes.{number_in}
 use Rattle.egt_index.specs.declared.shelf_codes.ShelfMen.{ShelfMen}
-use Rattle.egt_lanes.specs.Blocks.{at}
-use Rattle.egt_table.specs.Table.{TableValue}
-use Rattle.egt_blocks.specs.Blocks.{AreShelvesOf, with_kings}
-use Rattle.egt_check.specs.MoveScores.{HoldsExits}
-use Rattle.egt_check.specs.Parts.{column_of}
-use Rattle.egt_check.specs.RightBlock.{IsRightLane}
 use Rattle.egt_check.specs.declared.move_scores.Children.{Children}
 use Rattle.egt_check.specs.declared.part.Part.{Part}
 use Rattle.egt_sweep.specs.Mended.{AllEnded, AreRightRows}

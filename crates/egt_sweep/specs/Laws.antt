@@ -1,23 +1,12 @@
 -- What holds of play, images, classes and indexes, by the laws of the crates below.
 use Rattle.std.specs.Prelude.{◌≡◌, ℕ, ◌<◌, ◌⊎◌, ◌↔◌, Bool, Some, None, IsSome}
-use Rattle.std.specs.List.{Contains}
-use Rattle.egt_board.specs.DecidedSetup.{settled_form}
-use Rattle.egt_board.specs.DecidedTurns.{IsTurn}
-use Rattle.egt_board.specs.Images.{AreImages}
-use Rattle.egt_board.specs.Settled.{IsSettled, SettlesTo}
-use Rattle.egt_board.specs.Setup.{Setup, IsAdmissible}
-use Rattle.egt_class.specs.Children.{children_of}
-use Rattle.egt_class.specs.Membership.{IsOf}
-use Rattle.egt_index.specs.Code.{Spells}
-use Rattle.egt_index.specs.Index.{IsIndex, IsVoid}
-use Rattle.egt_moves.specs.Exchange.{Captures}
-use Rattle.egt_moves.specs.Legal.{Leads, IsLegal}
-use Rattle.egt_moves.specs.Moves.{moves_of, played}
+use Rattle.egt_check.specs.Prelude.{Contains, AreImages, IsSettled, SettlesTo, Setup, IsAdmissible, children_of, IsOf}
+use Rattle.egt_check.specs.Prelude.{Spells, IsIndex, IsVoid, Captures, Leads, IsLegal, StepAlike, Facts}
+use Rattle.egt_board.specs.Prelude.{settled_form, IsTurn}
+use Rattle.egt_moves.specs.Prelude.{moves_of, played}
+use Rattle.egt_unmoves.specs.Prelude.{IsUnmove}
 use Rattle.egt_moves.specs.declared.chess_move.Move.{Move}
-use Rattle.egt_unmoves.specs.Unmoves.{IsUnmove}
 use Rattle.egt_unmoves.specs.declared.unmove.Unmove.{Unmove}
-use Rattle.egt_check.specs.Alike.{StepAlike}
-use Rattle.egt_steps.specs.Facts.{Facts}
 
 pub record Laws : Type 0 where
   pub facts : Facts

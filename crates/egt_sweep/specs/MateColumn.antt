@@ -1,16 +1,10 @@
 -- The mate column of a class that has no table yet, beside the tables at hand.
 use Rattle.std.specs.Prelude.{◌≡◌, ◌≢◌, ℕ, ◌<◌, ◌≤◌, true, List, length, slice_index, None}
-use Rattle.std.specs.Option.{is_some}
-use Rattle.egt_board.specs.Setup.{Setup, IsAdmissible}
-use Rattle.egt_index.specs.Index.{IsIndex}
-use Rattle.egt_index.specs.Size.{size_of}
-use Rattle.egt_moves.specs.Arena.{Value, HasValue}
-use Rattle.egt_moves.specs.Chess.{chess}
-use Rattle.egt_graph.specs.Value.{AreRanks}
+use Rattle.egt_check.specs.Prelude.{is_some, Setup, IsAdmissible, IsIndex, size_of, Value, chess, TableValue, Shows}
+use Rattle.egt_check.specs.Prelude.{longest, Tables, entry_at}
+use Rattle.egt_moves.specs.Prelude.{HasValue}
+use Rattle.egt_graph.specs.Prelude.{AreRanks}
 use Rattle.egt_entries.specs.declared.metric.Metric.TheVariants.{Mate}
-use Rattle.egt_table.specs.Table.{TableValue}
-use Rattle.egt_entries.specs.Entry.{Shows, longest}
-use Rattle.egt_entries.specs.Tables.{Tables, entry_at}
 use Rattle.egt_sweep.specs.ClassGame.{class_game}
 use Rattle.egt_sweep.specs.Nodes.{position_at}
 

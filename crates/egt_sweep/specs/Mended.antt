@@ -1,26 +1,16 @@
 -- Tables some of whose entries were put anew.
 use Rattle.std.specs.Prelude.{◌≡◌, ◌≢◌, ℕ, ◌+◌, ◌<◌, ◌⊎◌, Bool, List, [], slice_index, slice_index_or}
-use Rattle.std.specs.Int.{bit_at}
-use Rattle.egt_board.specs.SquareSet.{Has}
-use Rattle.egt_lanes.specs.Scores.{due_score}
+use Rattle.egt_check.specs.Prelude.{bit_at, Has, due_score, code_of, kind_digits, kind_less, IsShelfOf, IsWithin}
+use Rattle.egt_check.specs.Prelude.{number_in, TellsMen, men_on, HasColumn, TableValue, entries_of, column_of, table_in}
+use Rattle.egt_check.specs.Prelude.{IsRightAtOf, IsRightEndOf, due_in, HasBytes, column_score, score_at}
+use Rattle.egt_sweep.specs.Prelude.{Column, Mate, Zeroing}
 use Rattle.egt_board.specs.declared.man.Side.{Side}
 use Rattle.egt_board.specs.declared.square_set.SquareSet.{SquareSet}
-use Rattle.egt_index.specs.Numbers.{code_of}
-use Rattle.egt_index.specs.Scales.{kind_digits, kind_less}
-use Rattle.egt_index.specs.ShelfCodes.{IsShelfOf, IsWithin, number_in}
-use Rattle.egt_index.specs.TellsMen.{TellsMen}
 use Rattle.egt_index.specs.declared.stand.Stand.{Stand}
-use Rattle.egt_steps.specs.Stands.{men_on}
-use Rattle.egt_table.specs.Table.{HasColumn, TableValue, entries_of}
-use Rattle.egt_table.specs.declared.column.Column.{Column}
-use Rattle.egt_table.specs.declared.column.Column.TheVariants as columns
-use Rattle.egt_entries.specs.declared.metric.Metric.TheVariants.{Mate, Zeroing}
-use Rattle.egt_check.specs.Parts.{column_of, table_in}
-use Rattle.egt_check.specs.RightRow.{IsRightAtOf, IsRightEndOf, due_in}
-use Rattle.egt_check.specs.Worth.{HasBytes, column_score, score_at}
 use Rattle.egt_check.specs.declared.part.Part.{Part}
 use Rattle.egt_check.specs.declared.part.Part.TheVariants.{Values, Reach}
 use Rattle.egt_check.specs.declared.shelf.Shelf.{Shelf}
+use Rattle.egt_table.specs.declared.column.Column.TheVariants as columns
 
 -- the code tells men of the class with the kings on these squares and that side to move
 pub record IsOfKings (c white black : ℕ) (side : Side) (code : ℕ) : Type 0 where

@@ -1,30 +1,22 @@
 -- A class as a game: its nodes are the indexes of the class's positions. In the game of mates the moves that stay in the class go on, and
 -- the others leave it with the mate value of where they lead. In the game of zeroing moves those that do not zero go on, and the others
 -- leave it at once: with a loss in 0, a win in 0 or a draw, as they reach a lost, a won or a drawn position.
-use Rattle.std.specs.Prelude.{ℕ, zero, suc, ◌==◌, ◌&&◌, not, Bool, true, false, if◌then◌else◌, List, [], ◌∷◌, Option, Some, None}
-use Rattle.std.specs.List.{list_any, flat_map}
-use Rattle.std.specs.Option.{is_some, option_to_list}
+use Rattle.std.specs.Prelude.{ℕ, zero, suc, ◌==◌, ◌&&◌, not, Bool, true, false, if◌then◌else◌, List, [], ◌∷◌, Option}
+use Rattle.std.specs.Prelude.{Some, None}
 use Rattle.std.proofs.Common.{inl, inr}
-use Rattle.egt_board.specs.Decided.{Decided, tells}
-use Rattle.egt_board.specs.DecidedSetup.{settled_form}
+use Rattle.egt_check.specs.Prelude.{is_some, option_to_list, Decided, tells, Setup, material_of, size_of, Value, Win}
+use Rattle.egt_check.specs.Prelude.{Loss, Draw, decided_zeroes, TableValue, read, Tables, entry_at}
+use Rattle.egt_index.specs.Prelude.{settled_form, Material, SpellsBy, decided_spelled}
+use Rattle.egt_moves.specs.Prelude.{decided_checkmate, moves_of, played}
+use Rattle.egt_graph.specs.Prelude.{list_any}
+use Rattle.egt_table.specs.Prelude.{flat_map}
 use Rattle.egt_board.specs.DecidedTurns.{decided_turn}
-use Rattle.egt_board.specs.Setup.{Setup}
-use Rattle.egt_class.specs.Material.{Material, material_of}
-use Rattle.egt_index.specs.Code.{SpellsBy}
-use Rattle.egt_index.specs.DecidedSpelled.{decided_spelled}
-use Rattle.egt_index.specs.Size.{size_of}
-use Rattle.egt_moves.specs.Arena.{Value, Win, Loss, Draw}
-use Rattle.egt_moves.specs.DecidedMoves.{decided_zeroes, decided_checkmate}
-use Rattle.egt_moves.specs.Moves.{moves_of, played}
 use Rattle.egt_moves.specs.declared.chess_move.Move.{Move}
 use Rattle.egt_graph.specs.declared.game.Exit.{Exit}
-use Rattle.egt_graph.specs.declared.game.Exit.TheVariants as exits
 use Rattle.egt_graph.specs.Passing.{passing_below}
 use Rattle.egt_entries.specs.declared.metric.Metric.{Metric}
 use Rattle.egt_entries.specs.declared.metric.Metric.TheVariants.{Mate, Zeroing}
-use Rattle.egt_table.specs.Table.{TableValue}
-use Rattle.egt_check.specs.Reading.{read}
-use Rattle.egt_entries.specs.Tables.{Tables, entry_at}
+use Rattle.egt_graph.specs.declared.game.Exit.TheVariants as exits
 
 -- the first number of a list
 abbrev pub first_of : List ℕ → Option ℕ

@@ -2,13 +2,12 @@
 use Rattle.std.specs.Prelude.{ℕ}
 use Rattle.std.proofs.Math.Bool.{Bool-set}
 use Rattle.std.proofs.Props.{props}
+use Rattle.egt_check.specs.Prelude.{near_tables, Tables, beside, HasReachChildren}
 use Rattle.egt_entries.specs.declared.metric.Metric.{Metric}
-use Rattle.egt_entries.specs.declared.metric.Metric.TheVariants as metrics
-use Rattle.egt_entries.specs.NearTables.{near_tables}
-use Rattle.egt_entries.specs.Tables.{Tables, beside, HasReachChildren}
 use Rattle.egt_sweep.specs.declared.objective.Objective.{Objective}
 use Rattle.egt_sweep.specs.declared.objective.Objective.TheVariants.{Mate, Zeroing, Reach}
 use Rattle.egt_sweep.specs.MateColumn.{IsMateColumn, mate_table}
+use Rattle.egt_entries.specs.declared.metric.Metric.TheVariants as metrics
 
 -- which moves go on
 abbrev pub metric_of : Objective → Metric

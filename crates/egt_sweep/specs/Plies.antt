@@ -1,10 +1,8 @@
 -- What holds of forced mates, of zeroing moves and of images, by the laws of egt_moves.
 use Rattle.std.specs.Prelude.{◌≡◌, ℕ, ◌≤◌, ◌⊎◌, ◌↔◌}
-use Rattle.egt_board.specs.Images.{AreImages}
-use Rattle.egt_board.specs.Setup.{Setup, IsAdmissible}
-use Rattle.egt_moves.specs.Arena.{Value, Win, Loss, HasValue, IsMatedWithin, MatesWithin, AvoidsMateFor, CannotMateWithin}
-use Rattle.egt_moves.specs.Chess.{chess}
-use Rattle.egt_moves.specs.Zeroing.{ZeroesLosingWithin, ZeroesWinningWithin}
+use Rattle.egt_moves.specs.Prelude.{AreImages, Setup, IsAdmissible, Value, Win, Loss, HasValue, IsMatedWithin}
+use Rattle.egt_moves.specs.Prelude.{MatesWithin, AvoidsMateFor, CannotMateWithin, chess, ZeroesLosingWithin}
+use Rattle.egt_moves.specs.Prelude.{ZeroesWinningWithin}
 
 pub record Plies : Type 0 where
   pub more_mated : (m n : ℕ) (p : Setup) → m ≤ n → IsMatedWithin chess m p → IsMatedWithin chess n p

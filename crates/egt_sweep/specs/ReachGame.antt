@@ -1,12 +1,11 @@
 -- The game of the nearest mates over a class.
 use Rattle.std.specs.Prelude.{ℕ, map, List, [], ◌∷◌, All}
 use Rattle.std.proofs.Common.{ap}
-use Rattle.std.proofs.lemmas.List.Elements.{All-cons, All-head, All-nil, All-tail}
-use Rattle.egt_graph.specs.Graph.{Graph, HasShortDistance, IsGame, IsNode}
+use Rattle.std.proofs.lemmas.List.Elements.{All-cons, All-nil}
+use Rattle.egt_graph.specs.Prelude.{All-head, All-tail, Graph, HasShortDistance, IsGame, IsNode}
+use Rattle.egt_check.specs.Prelude.{near_tables, Tables}
 use Rattle.egt_graph.specs.declared.game.Exit.{Exit}
 use Rattle.egt_graph.specs.declared.game.Exit.TheVariants.{Win, Loss, Draw}
-use Rattle.egt_entries.specs.NearTables.{near_tables}
-use Rattle.egt_entries.specs.Tables.{Tables}
 use Rattle.egt_entries.specs.declared.metric.Metric.TheVariants.{Mate}
 use Rattle.egt_sweep.specs.ClassGame.{class_game, class_game_is_lawful}
 use Rattle.egt_sweep.specs.Nodes.{exits_at}

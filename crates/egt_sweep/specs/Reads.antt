@@ -1,9 +1,8 @@
 -- Which positions a look reads.
 use Rattle.std.specs.Prelude.{ℕ, ◌⊎◌}
-use Rattle.egt_board.specs.Man.{other_side}
+use Rattle.egt_steps.specs.Prelude.{other_side, IsBesideKing, with_king}
 use Rattle.egt_board.specs.declared.man.Side.{Side}
 use Rattle.egt_index.specs.declared.shelf_codes.ShelfMen.{ShelfMen}
-use Rattle.egt_steps.specs.Stands.{IsBesideKing, with_king}
 use Rattle.egt_sweep.specs.Turns.{TurnsTo}
 
 -- those with the kings on w and b and side s to move are read for these men and that side: some turn takes there the kings as they stand, or as they stand

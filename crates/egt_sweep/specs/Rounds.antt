@@ -1,10 +1,8 @@
 -- Rounds of looks.
 use Rattle.std.specs.Prelude.{◌≡◌, ℕ, ◌<◌, List, length, slice_index_or}
+use Rattle.egt_check.specs.Prelude.{TableValue, AreKept, column_score}
 use Rattle.egt_board.specs.declared.man.Side.{Side}
 use Rattle.egt_board.specs.declared.man.Side.TheVariants.{White, Black}
-use Rattle.egt_table.specs.Table.{TableValue}
-use Rattle.egt_blocks.specs.Kept.{AreKept}
-use Rattle.egt_check.specs.Worth.{column_score}
 use Rattle.egt_sweep.specs.Items.{men_of}
 use Rattle.egt_sweep.specs.Stamps.{IsFresh}
 use Rattle.egt_sweep.specs.declared.filling.Filling.{Filling}

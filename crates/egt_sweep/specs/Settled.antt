@@ -1,16 +1,10 @@
 -- Entries that are due to the greatest scores of all moves.
 use Rattle.std.specs.Prelude.{◌≡◌, ◌≢◌, ℕ, ◌+◌, ◌<◌, Bool, true, false}
+use Rattle.egt_check.specs.Prelude.{code_of, kind_digits, kind_less, AreMenOf, number_in, TableValue, beside, table_at}
+use Rattle.egt_check.specs.Prelude.{AreChildren, AreFourMen, AreTablesOf, IsOwnTable, column_of, four_in, tables_in}
+use Rattle.egt_check.specs.Prelude.{AreAllScoresOf, IsRightLane}
 use Rattle.egt_board.specs.declared.man.Side.{Side}
-use Rattle.egt_index.specs.Numbers.{code_of}
-use Rattle.egt_index.specs.Scales.{kind_digits, kind_less}
-use Rattle.egt_index.specs.ShelfCodes.{AreMenOf, number_in}
 use Rattle.egt_index.specs.declared.shelf_codes.ShelfMen.{ShelfMen}
-use Rattle.egt_table.specs.Table.{TableValue}
-use Rattle.egt_entries.specs.Tables.{beside, table_at}
-use Rattle.egt_check.specs.MoveScores.{AreChildren, AreFourMen, AreTablesOf}
-use Rattle.egt_check.specs.Parts.{IsOwnTable, column_of, four_in, tables_in}
-use Rattle.egt_check.specs.ReachScores.{AreAllScoresOf}
-use Rattle.egt_check.specs.RightBlock.{IsRightLane}
 use Rattle.egt_check.specs.declared.move_scores.Children.{Children}
 use Rattle.egt_check.specs.declared.move_scores.FourMen.{FourMen}
 use Rattle.egt_check.specs.declared.part.Part.{Part}

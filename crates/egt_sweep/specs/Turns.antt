@@ -1,11 +1,7 @@
 -- Kings where turns of a class take them.
 use Rattle.std.specs.Prelude.{◌≡◌, ℕ, ◌/◌, ◌%◌, ◌<◌, ◌==◌, ◌⊎◌, true, false, IsTrue}
-use Rattle.egt_board.specs.Man.{other_side}
-use Rattle.egt_board.specs.Turned.{turned_square}
+use Rattle.egt_index.specs.Prelude.{other_side, turned_square, has_equal_sides, material_of, symmetries, has_pawns}
 use Rattle.egt_board.specs.declared.man.Side.{Side}
-use Rattle.egt_class.specs.Material.{has_equal_sides, material_of}
-use Rattle.egt_index.specs.Home.{symmetries}
-use Rattle.egt_index.specs.Size.{has_pawns}
 
 -- a turn takes the kings to these squares in the same colours; or, where both sides have the same men, each to the other's square in exchanged ones
 abbrev pub TakesKings : (c turn white black : ℕ) → Side → (w b : ℕ) → Side → Type 0

@@ -4,6 +4,7 @@ ghost use Rattle.egt_sweep.specs.Prelude.{AreNears, AreRanks, size_of, Mate, Zer
 ghost use Rattle.egt_sweep.specs.Prelude.{HasReachChildren, IsTrueTable, AllWithinLimit, IsBuilt, IsNotBuilt};
 ghost use Rattle.egt_sweep.specs.Prelude.{HasNoFalseChild, SomeReachesFar, class_game, mate_table, reach_game};
 
+use crate::ROUNDS;
 use crate::build_fault::BuildFault;
 use crate::filled::filled;
 use crate::laws::laws;
@@ -17,7 +18,6 @@ use crate::zero_game::ZeroGame;
 use egt_check::laws::rules_are_kept_by_true_tables_alone;
 use egt_check::{Library, first_lacking, first_missing};
 use egt_class::{Class, children};
-use crate::ROUNDS;
 use egt_graph::{Nears, Ranks, SolveFault, nearest, solve};
 use egt_moves::laws::one_value;
 use egt_table::Table;

@@ -1,8 +1,7 @@
 -- The order of moves backwards: by the moved man's square now, then its square before, then a position without a
 -- target ahead of one with.
 use Rattle.std.specs.Prelude.{ℕ, ◌+◌, ◌*◌, ◌<◌, ◌↔◌, List, [], ◌∷◌, Option, Some, None}
-use Rattle.std.specs.List.{Contains}
-use Rattle.egt_board.specs.Setup.{Setup}
+use Rattle.egt_moves.specs.Prelude.{Contains, Setup}
 use Rattle.egt_moves.specs.declared.chess_move.Move.{Move}
 use Rattle.egt_unmoves.specs.declared.unmove.Unmove.{Unmove}
 use Rattle.egt_unmoves.specs.Unmoves.{TakesBack}

@@ -1,21 +1,14 @@
 -- Moves backwards: which positions a legal move, neither a capture nor a promotion, leads from (FIDE Laws of Chess 2023,
 -- articles 3.1 to 3.9).
 use Rattle.std.specs.Prelude.{◌≡◌, ◌≢◌, ℕ, ◌<◌, ◌↔◌, ◌⊎◌, Option, None, IsTrue}
-use Rattle.std.specs.FinMap as map
+use Rattle.egt_moves.specs.Prelude.{IsInCheck, Reaches, other_side, Advances, Placement, Stands, IsFree, Setup}
+use Rattle.egt_moves.specs.Prelude.{IsAdmissible, IsSettled, SettlesTo, IsPawnOn, Captures, Leads, passed}
+use Rattle.egt_board.specs.Prelude.{MayStand}
 use Rattle.egt_board.specs.declared.man.Kind.TheVariants.{P}
 use Rattle.egt_board.specs.declared.man.Man.{Man}
-use Rattle.egt_board.specs.Attack.{IsInCheck}
-use Rattle.egt_board.specs.AttackLines.{Reaches}
-use Rattle.egt_board.specs.Man.{other_side}
-use Rattle.egt_board.specs.Pawn.{MayStand, Advances}
-use Rattle.egt_board.specs.Placement.{Placement, Stands, IsFree}
-use Rattle.egt_board.specs.Setup.{Setup, IsAdmissible}
-use Rattle.egt_board.specs.Settled.{IsSettled, SettlesTo}
 use Rattle.egt_moves.specs.declared.chess_move.Move.{Move}
-use Rattle.egt_moves.specs.Chess.{IsPawnOn}
-use Rattle.egt_moves.specs.Exchange.{Captures}
-use Rattle.egt_moves.specs.Legal.{Leads, passed}
 use Rattle.egt_unmoves.specs.declared.unmove.Unmove.{Unmove}
+use Rattle.std.specs.FinMap as map
 
 -- the legal move m, neither a capture nor a promotion, leads from the settled position b to one that settles to q
 pub record ComesBy (b : Setup) (m : Move) (q : Setup) : Type 0 where

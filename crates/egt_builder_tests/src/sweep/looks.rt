@@ -2,8 +2,8 @@
 
 use super::built;
 use egt_check::first_missing;
-use egt_sweep::{ROUNDS, filled_values};
 use egt_plain::shelf::named;
+use egt_sweep::{ROUNDS, filled_values};
 use std::test::*;
 
 /// Pairs of squares of two kings that do not touch, but for turns and mirrors of the board: as many as tables of

@@ -1,8 +1,7 @@
 use Rattle.std.specs.Prelude.{ℕ}
 use Rattle.egt_blocks.specs.Prelude.{Reaches, IsOpen, at, IsClear, IsFirstStep}
-use Rattle.egt_blocks.proofs.QuietRaising.{no_pawn}
+use Rattle.egt_blocks.proofs.QuietRaising.{no_pawn, open_is_clear, steps_raised}
 use Rattle.egt_blocks.proofs.BlockRaising.{raised_alike}
-use Rattle.egt_blocks.proofs.QuietRaising.{open_is_clear, steps_raised}
 use Rattle.egt_blocks.proofs.quiet_blocks.raise_first.Goals as goal
 
 pub returns-then-is_own_piece : goal.returns-then-is_own_piece

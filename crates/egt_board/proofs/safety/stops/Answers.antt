@@ -1,8 +1,7 @@
-use Rattle.std.proofs.Common.{◌≡◌, true, sym, ◌∙◌, ap}
+use Rattle.std.proofs.Common.{◌≡◌, true, sym, ◌∙◌, ap, arith}
 use Rattle.egt_board.specs.Prelude.{false≢true, bit_at_ones, the_type, Side}
 use denote.Enum.Bare.{sameb}
 use Rattle.egt_board.proofs.safety.stops.Goals as goal
-use Rattle.std.proofs.Common.{arith}
 
 pub returns-in_default : goal.returns-in_default
 returns-in_default c = rw c.in_default.is (λ t t_in. (λ _. tt, λ _. bit_at_ones 64 t t_in))

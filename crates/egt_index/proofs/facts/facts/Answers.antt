@@ -1,6 +1,5 @@
 use Rattle.std.proofs.Common.{refl, sym, ◌∙◌}
-use Rattle.egt_index.specs.Prelude.{settled_form}
-use Rattle.egt_board.specs.Turned.{turned_by}
+use Rattle.egt_board.specs.Prelude.{settled_form, turned_by}
 use Rattle.egt_index.proofs.facts.facts.Goals as goal
 
 pub returns : goal.returns

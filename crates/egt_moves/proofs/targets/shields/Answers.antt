@@ -1,6 +1,5 @@
 use Rattle.std.proofs.Common.{sym, ◌∙◌, inl, inr}
-use Rattle.egt_moves.specs.Prelude.{cases_eq}
-use Rattle.egt_moves.proofs.After.{goes_on_board}
+use Rattle.egt_moves.specs.Prelude.{cases_eq, goes_on_board}
 use Rattle.egt_moves.proofs.SafeGoals.{not_passing, shielded, changed_bit, same_target}
 use Rattle.egt_moves.proofs.targets.shields.Goals as goal
 

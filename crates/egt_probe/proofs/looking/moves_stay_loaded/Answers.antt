@@ -1,8 +1,7 @@
-use Rattle.std.proofs.Common.{ℕ, ◌<◌, Option, is_some, option_map, IfSome, IsSome, subst}
+use Rattle.std.proofs.Common.{ℕ, ◌<◌, Option, is_some, option_map, IfSome, IsSome, subst, arith}
 use Rattle.egt_probe.specs.Prelude.{IsShelved, table_at, TableValue, loaded_in}
 use Rattle.egt_probe.proofs.Shelved.{step_loaded}
 use Rattle.egt_probe.proofs.looking.moves_stay_loaded.Goals as goal
-use Rattle.std.proofs.Common.{arith}
 
 -- a class with a table is loaded
 shelf_loaded : (o : Option TableValue) → IsSome o → IsSome (option_map (λ t. is_some t.reach) o)

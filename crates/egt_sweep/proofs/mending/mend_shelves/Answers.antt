@@ -1,12 +1,11 @@
 use Rattle.std.proofs.Common.{◌≡◌, ◌≢◌, ◌∙◌, ℕ, ◌+◌, ◌<◌, arith, sym, subst, slice_set}
-use Rattle.egt_sweep.specs.FillPrelude.{length-set, code_of, number_of, kind_digits, kind_less, size_of, AreShelvesOf}
-use Rattle.egt_sweep.specs.FillPrelude.{IsCodeOf, IsMendedAt, IsShelf, shelf_at, AllEnded, AreRightRows, IsCodeIn, Mended}
-use Rattle.egt_sweep.specs.FillPrelude.{Shelf}
-use Rattle.egt_sweep.specs.declared.mending.Mended.TheVariants as mends
+use Rattle.egt_check.specs.Prelude.{length-set, code_of, number_of, kind_digits, kind_less, size_of, AreShelvesOf}
+use Rattle.egt_sweep.specs.FillPrelude.{IsCodeOf, IsMendedAt, IsShelf, shelf_at, AllEnded, AreRightRows, IsCodeIn}
+use Rattle.egt_sweep.specs.FillPrelude.{Mended, Shelf}
 use Rattle.egt_sweep.proofs.RowsMended.{more_ended, more_mended, more_right, shelf_same}
-use Rattle.egt_sweep.proofs.mending.mend_shelves.Goals.{After-mend_row-row_found}
+use Rattle.egt_sweep.proofs.mending.mend_shelves.Goals.{After-mend_row-row_found, in-Due, in-Put}
+use Rattle.egt_sweep.specs.declared.mending.Mended.TheVariants as mends
 use Rattle.egt_sweep.proofs.mending.mend_shelves.Goals as goal
-use Rattle.egt_sweep.proofs.mending.mend_shelves.Goals.{in-Due, in-Put}
 
 -- what a look came to is one thing
 due_told : (m : Mended) → m ≡ mends.Due → m ≢ mends.Untold

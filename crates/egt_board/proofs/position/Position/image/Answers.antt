@@ -1,5 +1,4 @@
-use Rattle.std.proofs.Common.{◌≡◌, ℕ, ◌<◌, ◌/◌, ◌%◌, Bool, true, false, Option, ap, ◌∙◌, subst, inl}
-use Rattle.std.proofs.Common.{inr, arith, ◌==◌}
+use Rattle.std.proofs.Common.{◌≡◌, ℕ, ◌<◌, ◌/◌, ◌%◌, Bool, true, false, Option, ap, ◌∙◌, subst, inl, inr, arith, ◌==◌}
 use Rattle.egt_board.specs.Prelude.{option_map, Mirror, Files, Ranks, Diagonal, Setup, square_by-within, IsCarried}
 use Rattle.egt_board.specs.Prelude.{IsTurned, square_if, square_of, eqb-true}
 use Rattle.egt_board.proofs.position.Position.image.Goals as goal
