@@ -1,5 +1,5 @@
-//! The scores of the positions after each quiet step of a side, in classes with one man beside the kings: he is the last of the men, and the lane is his
-//! square.
+//! The scores of the positions after each quiet step of a side, in classes with one man beside the kings: he is the
+//! last of the men, and the lane is his square.
 ghost use Rattle.std.specs.Prelude.{◌≡◌, ◌≢◌, ◌<◌, ℕ, true, slice_index};
 ghost use Rattle.egt_blocks.specs.Prelude.{K, IsLoneMan, IsRaised, AreCodesAlone, AreKingCodesAlone, IsBesideKing};
 

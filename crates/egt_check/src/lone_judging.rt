@@ -1,4 +1,4 @@
-//! The judgement of the entries with the kings on two squares and one side to move, in classes with one man beside the kings.
+//! The judgement of entries of a class with one man beside the kings: these on two squares, and one side to move.
 ghost use Rattle.std.specs.Prelude.{◌≡◌, ◌+◌, ◌*◌, ◌<◌, ℕ, true};
 ghost use Rattle.egt_check.specs.Prelude.{bit_at, Has, side_number, kind_digits, kind_less, size_of, HasColumn};
 ghost use Rattle.egt_check.specs.Prelude.{IsLoneRow, NoneZeroes, AreThreeMen, IsDueAlone, IsJudgedRow, KeepsCode};
@@ -96,8 +96,8 @@ fn first_code(first: u32, side: Side) -> u32
     }
 }
 
-/// The squares of the man where the column has scores at the codes from this one on, with that side to move, and where they are due to the greatest after
-/// quiet steps.
+/// The squares of the man where the column has scores at the codes from this one on, with that side to move, and where
+/// they are due to the greatest after quiet steps.
 #[inline(always)]
 fn due_lanes(three: &ThreeMen, column: Column, first: u32, side: Side) -> (SquareSet, SquareSet)
     requires three { AreThreeMen three.now }
@@ -120,7 +120,7 @@ fn due_lanes(three: &ThreeMen, column: Column, first: u32, side: Side) -> (Squar
     (lanes_of(own), lanes_of(scores).without(lanes_of(other)))
 }
 
-/// The squares of the man where the zeroing scores, which are judged with the mate scores, are due; all where they are not judged.
+/// The squares of the man where the zeroing scores, judged with the mate scores, are due; all where they are not judged.
 #[inline(always)]
 fn clock_lanes(three: &ThreeMen, first: u32, side: Side) -> SquareSet
     requires three { AreThreeMen three.now }
@@ -134,8 +134,8 @@ fn clock_lanes(three: &ThreeMen, first: u32, side: Side) -> SquareSet
     }
 }
 
-/// Whether the part's entries of the codes from this one on, with that side to move, are due to the greatest scores after quiet steps, or keep the rules
-/// judged alone: where a move may zero, and where none scores.
+/// Whether the part's entries of the codes from this one on, with that side to move, are due to the greatest scores
+/// after quiet steps, or keep the rules judged alone: where a move may zero, and where none scores.
 pub(crate) fn lone_row_is_right(three: &ThreeMen, first: u32, side: Side) -> bool
     requires three { AreThreeMen three.now }
     requires row { IsLoneRow three.now.table.now.class first three.now.men.white three.now.men.black three.now.men.last }

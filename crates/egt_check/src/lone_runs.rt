@@ -52,7 +52,7 @@ fn tells_part(table: &Table, part: Part) -> bool
     }
 }
 
-/// The number of the run of codes with the kings on these squares, if its entries of the part with that side to move were found to keep the rules.
+/// The run of codes with the kings on these squares, if its entries with that side to move were found to keep the rules.
 fn right_run(three: &ThreeMen, side: Side) -> Option<usize>
     requires { AreThreeMen three.now }
     ensures few { IfSome result (λ run. run < 2048) }
@@ -69,7 +69,7 @@ fn right_run(three: &ThreeMen, side: Side) -> Option<usize>
     }
 }
 
-/// The runs of which all entries of the part with that side to move were found to keep the rules, wherever the kings stand.
+/// The runs of which all entries of the part with that side to move were found to keep the rules.
 fn right_rows(three: &ThreeMen, side: Side) -> [bool; MOST_PAIRS]
     requires { AreThreeMen three.now }
     ensures { (run : ℕ) → get_or result run false ≡ true → IsJudgedRow three.now (run * (2 * kind_digits three.now.men.last.kind)) side }
@@ -92,8 +92,8 @@ fn right_rows(three: &ThreeMen, side: Side) -> [bool; MOST_PAIRS]
     right
 }
 
-/// The codes of a class with one man beside the kings, and of which the part's entries keep the rules beside those of the successors. `None` of any other
-/// class, and where the table does not tell it by bytes.
+/// The codes of a class with one man beside the kings, and of which the part's entries keep the rules beside those of
+/// the successors. `None` of any other class, and where the table does not tell it by bytes.
 pub(crate) fn runs_by_rows(table: &Table, library: &Library, part: Part) -> Option<Runs>
     requires may { MayJudge part (table_at library.now) table.now }
     requires there { HasColumn (column_of part) table.now }

@@ -320,8 +320,9 @@ pub(crate) fn four_men<'t>(
     Some(beside_own(table, &children))
 }
 
-/// The codes of a class, and of which the entries of the mate column and of the zeroing column keep the rules beside those of the successors: by blocks where
-/// two men stand beside the kings, and by rows where one does. `None` of the kings alone, and where a table does not tell it by bytes.
+/// The codes of a class, and of which the entries of the mate column and of the zeroing column keep the rules: by blocks
+/// where two men stand beside the kings, by rows where one does. `None` of the kings alone, and where a table does not
+/// tell it by bytes.
 pub(crate) fn runs_by_blocks(table: &Table, library: &Library) -> Option<Runs>
     requires { HasChildren (table_at library.now) table.now.class }
     ensures { IfSome result (AreRuns Values (beside (table_at library.now) table.now) table.now) }

@@ -31,8 +31,8 @@ pub fn quiet_moves_are_quiet_steps()
     a_quiet_move_moves_one_man();
 }
 
-/// With one man beside the kings the moves that do not zero lead to the men after quiet steps, and to all of them that are positions; and no move zeroes
-/// where he is no pawn of the side to move, nor attacked by its king.
+/// With one man beside the kings the moves that do not zero lead to the men after quiet steps, and to all of them that
+/// are positions; and no move zeroes where he is no pawn of the side to move, nor attacked by its king.
 pub fn quiet_moves_of_three_men_are_quiet_steps()
     ensures goes { (c : ℕ) (men : ShelfMen) (side : Side) (passed : Bool) (s : ℕ) (p q : Setup) (m : Move) → c < 36 → HasStand c false (stand_alone men s) side passed p →
         Leads p m q → ¬ Zeroes p m → (stand : Stand) × IsQuietAlone men side s stand × HasStand c false stand (other_side side) false q }
