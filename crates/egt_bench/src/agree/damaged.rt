@@ -10,8 +10,10 @@ use egt_index::size;
 use egt_table::{Column, Table};
 use std::alloc::{AllocError, Global};
 
-/// How many tables of a class are changed.
-const TABLES: u32 = 70;
+/// How many tables of the class are changed: a thousand in the five classes of three men, 2,100 in the thirty of four.
+fn tables_of(class: Class) -> u32 {
+    if size(class) < 1 << 18 { 200 } else { 70 }
+}
 
 /// Why the checker does not judge changed tables as the plain rules do.
 #[derive(Clone, Copy, Debug, PartialEq, Eq)]
@@ -226,7 +228,7 @@ pub fn damaged_agrees(
     };
     let mut tables = 0u32;
     let mut refused = 0u32;
-    for _ in 0..TABLES {
+    for _ in 0..tables_of(class) {
         let Some(changes) = change_at_random(library, class, &mut numbers) else {
             return Err((Unlike::NotMade, 0));
         };
