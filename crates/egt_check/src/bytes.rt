@@ -1,29 +1,22 @@
 //! Tables whose entries have bytes of their own.
-ghost use Rattle.std.specs.Prelude.{◌≡◌, ◌<◌, ◌≤◌, ℕ, true, IsSome};
-ghost use Rattle.egt_check.specs.Prelude.{size_of, AreVoidOrAlike, HasColumn, Mate, Zeroing, column_of, entry_at};
-ghost use Rattle.egt_check.specs.Prelude.{table_in, IsTrueTable, TellsVoids, HasBytes};
+ghost use Rattle.std.specs.Prelude.{◌≡◌, true, IsSome};
+ghost use Rattle.egt_check.specs.Prelude.{HasColumn, column_of, table_in, IsTrueTable, AreAllAlike, TellsVoids};
+ghost use Rattle.egt_check.specs.Prelude.{HasBytes};
 ghost use Rattle.egt_check.specs.declared.part.Part.TheVariants as parts;
 
 use crate::part::Part;
 use crate::voids::tells_voids;
-use egt_index::laws::numbers_stand_for_codes;
-use egt_index::{last_digits, size};
 use egt_lanes::alike::columns_are_alike;
 use egt_lanes::near::column_is_near;
 use egt_table::{Column, Table};
 
-/// How many codes are asked at once: their entries are then in the cache until all is asked of them.
-const RUN: u32 = 12288;
-
-/// Whether at each of these codes both entries are 0, or have bytes of their own, alike in both columns.
-pub(crate) fn are_alike(table: &Table, first: u32, end: u32) -> bool
-    requires { (first ≤ end) × (end ≤ size_of table.now.class) }
-    ensures { result ≡ true → (i : ℕ) → first ≤ i → i < end → AreVoidOrAlike (entry_at table.now Mate i) (entry_at table.now Zeroing i) }
+/// Whether at each code both entries are 0, or have bytes of their own, alike in both columns.
+pub(crate) fn are_alike(table: &Table) -> bool
+    ensures { result ≡ true → AreAllAlike table.now }
 {
-    let (first, end) = (first as usize, end as usize);
     let mate = table.entries(Column::Mate);
     let zeroing = table.entries(Column::Zeroing);
-    columns_are_alike(&mate[first..end], &zeroing[first..end])
+    columns_are_alike(mate, zeroing)
 }
 
 /// Whether each code that no position has holds 0 in both columns, and each other one entries with a byte of their own,
@@ -31,20 +24,7 @@ pub(crate) fn are_alike(table: &Table, first: u32, end: u32) -> bool
 pub fn tells_bytes(table: &Table) -> bool
     ensures { result ≡ true → HasBytes table.now }
 {
-    numbers_stand_for_codes();
-    let class = table.class();
-    let _number = class.number();
-    let size = size(class);
-    let wide = 2 * last_digits(class);
-    let mut first = 0;
-    while first < size {
-        let end = first + RUN.min(size - first);
-        if !are_alike(table, first, end) || !tells_voids(table, first / wide, end / wide) {
-            return false;
-        }
-        first = end;
-    }
-    true
+    are_alike(table) && tells_voids(table)
 }
 
 /// Whether the entries of a true table have bytes of their own: it is not asked which codes no position has.
@@ -52,7 +32,7 @@ fn true_table_tells_bytes(table: &Table) -> bool
     requires { IsTrueTable table.now }
     ensures { result ≡ true → HasBytes table.now }
 {
-    are_alike(table, 0, size(table.class()))
+    are_alike(table)
 }
 
 /// Whether the entries of the nearest mates have bytes of their own, and are 0 where the mate entries are.

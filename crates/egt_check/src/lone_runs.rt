@@ -47,7 +47,7 @@ fn tells_part(table: &Table, part: Part) -> bool
     ensures { result ≡ true → HasBytes (table_in part table.now) }
 {
     match part {
-        Part::Values => are_alike(table, 0, size(table.class())) && tells_each_void(table),
+        Part::Values => are_alike(table) && tells_each_void(table),
         Part::Reach => tells_reach_bytes(table),
     }
 }

@@ -1,14 +1,14 @@
 //! Tables whose mate entries are 0 exactly at the codes that no position has.
-ghost use Rattle.std.specs.Prelude.{◌≡◌, ℕ, ◌*◌, ◌<◌, ◌≤◌, ◌==◌, if◌then◌else◌, true, IfSome};
+ghost use Rattle.std.specs.Prelude.{◌≡◌, ℕ, ◌<◌, ◌==◌, if◌then◌else◌, true, IfSome};
 ghost use Rattle.egt_check.specs.Prelude.{bit_at, Side, code_of, kind_digits, AreMenOf, IsShelfOf, IsWithin, number_in};
-ghost use Rattle.egt_check.specs.Prelude.{places, size_of, HasColumn, AreAllAlike, TellsVoidsIn, column_score};
+ghost use Rattle.egt_check.specs.Prelude.{HasColumn, AreAllAlike, TellsVoids, TellsVoidsIn, column_score};
 
 use crate::own::Own;
 use egt_blocks::digits::first_square;
 use egt_board::Side;
 use egt_class::Class;
 use egt_index::laws::{codes_tell_turned_men, numbers_stand_for_codes};
-use egt_index::{ShelfMen, indexes_of, shelf_men, shelf_of};
+use egt_index::{ShelfMen, indexes_of, last_digits, shelf_men, shelf_of, size};
 use egt_lanes::sets::lanes_of;
 use egt_table::{Column, Table};
 
@@ -50,7 +50,8 @@ pub(crate) fn marks_of(
 /// Whether the mate entries of the shelf are 0 exactly where its codes are void.
 fn tells_shelf(table: &Table, shelf: u32) -> bool
     requires within { IsWithin table.now.class shelf }
-    ensures { result ≡ true → AreAllAlike table.now → TellsVoidsIn table.now shelf }
+    requires alike { AreAllAlike table.now }
+    ensures { result ≡ true → TellsVoidsIn table.now shelf }
 {
     numbers_stand_for_codes();
     let class = table.class();
@@ -67,13 +68,16 @@ fn tells_shelf(table: &Table, shelf: u32) -> bool
     white == indexes.white && black == indexes.black
 }
 
-/// Whether the mate entries of these shelves are 0 at the codes of no position and at no others, in a class with two men
-/// beside the kings.
-pub(crate) fn tells_voids(table: &Table, first: u32, end: u32) -> bool
-    requires { end * (2 * places table.now.class) ≤ size_of table.now.class }
-    ensures { result ≡ true → AreAllAlike table.now → (shelf : ℕ) → first ≤ shelf → shelf < end → TellsVoidsIn table.now shelf }
+/// Whether the mate entries are 0 at the codes of no position and at no others, in a class with two men beside the
+/// kings. It is asked once of the whole table: then an entry tells whether its code is an index.
+pub(crate) fn tells_voids(table: &Table) -> bool
+    requires { AreAllAlike table.now }
+    ensures { result ≡ true → TellsVoids table.now }
 {
-    for shelf in first..end {
+    numbers_stand_for_codes();
+    let class = table.class();
+    let _number = class.number();
+    for shelf in 0..size(class) / (2 * last_digits(class)) {
         if !tells_shelf(table, shelf) {
             return false;
         }
