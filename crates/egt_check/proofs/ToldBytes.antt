@@ -1,7 +1,7 @@
 -- Tables whose entries have bytes of their own.
 use Rattle.std.proofs.Common.{◌≡◌, ◌≢◌, ℕ, ◌<◌, arith, inl, inr}
 use Rattle.egt_check.specs.Prelude.{cases_eq, IsVoid, size_of, AreVoidOrAlike, TableValue, Metric, Mate, Zeroing}
-use Rattle.egt_check.specs.Prelude.{AreAlike, shown_range, entry_at, IsTrueTable, AreAllAlike, TellsVoids, HasBytes}
+use Rattle.egt_check.specs.Prelude.{AreAlike, entry_at, AreAllAlike, TellsVoids, HasBytes}
 
 -- entries that are not 0 are alike
 pub alike_there : (mate zeroing : ℕ) → AreVoidOrAlike mate zeroing → mate ≢ 0 → AreAlike mate zeroing
@@ -25,10 +25,3 @@ module _ (t : TableValue) (told : AreAllAlike t) (voids : TellsVoids t) where
 
   pub has_bytes : HasBytes t
   has_bytes = record { void = void_entry; alike = λ i below index. alike_there (entry_at t Mate i) (entry_at t Zeroing i) (told i below) (λ none. index ((voids i below).void none)) }
-
--- true entries tell which codes are void
-pub true_voids : (t : TableValue) → IsTrueTable t → TellsVoids t
-true_voids t true i below = record {
-  void = λ zero p ok index. let here = true.true Mate p i ok index in (shown_range (entry_at t Mate i) here.0 here.2).0 zero;
-  index = λ some void. some (true.void Mate i below void);
-}

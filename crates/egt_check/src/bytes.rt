@@ -1,10 +1,8 @@
 //! Tables whose entries have bytes of their own.
 ghost use Rattle.std.specs.Prelude.{◌≡◌, true, IsSome};
-ghost use Rattle.egt_check.specs.Prelude.{HasColumn, column_of, table_in, IsTrueTable, AreAllAlike, TellsVoids};
-ghost use Rattle.egt_check.specs.Prelude.{HasBytes};
+ghost use Rattle.egt_check.specs.Prelude.{table_in, AreAllAlike, TellsVoids, HasBytes};
 ghost use Rattle.egt_check.specs.declared.part.Part.TheVariants as parts;
 
-use crate::part::Part;
 use crate::voids::tells_voids;
 use egt_lanes::alike::columns_are_alike;
 use egt_lanes::near::column_is_near;
@@ -27,14 +25,6 @@ pub fn tells_bytes(table: &Table) -> bool
     are_alike(table) && tells_voids(table)
 }
 
-/// Whether the entries of a true table have bytes of their own: it is not asked which codes no position has.
-fn true_table_tells_bytes(table: &Table) -> bool
-    requires { IsTrueTable table.now }
-    ensures { result ≡ true → HasBytes table.now }
-{
-    are_alike(table)
-}
-
 /// Whether the entries of the nearest mates have bytes of their own, and are 0 where the mate entries are.
 pub fn tells_reach_bytes(table: &Table) -> bool
     requires there { IsSome table.now.reach }
@@ -42,16 +32,4 @@ pub fn tells_reach_bytes(table: &Table) -> bool
     ensures { result ≡ true → HasBytes (table_in parts.Reach table.now) }
 {
     column_is_near(table.entries(Column::Mate), table.entries(Column::Reach))
-}
-
-/// Whether a true table has the part's columns, and their bytes tell its entries.
-pub(crate) fn true_table_tells(table: &Table, part: Part) -> bool
-    requires { IsTrueTable table.now }
-    ensures there { result ≡ true → HasColumn (column_of part) table.now }
-    ensures bytes { result ≡ true → HasBytes (table_in part table.now) }
-{
-    match part {
-        Part::Values => true_table_tells_bytes(table),
-        Part::Reach => table.has_reach() && tells_reach_bytes(table),
-    }
 }

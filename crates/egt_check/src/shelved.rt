@@ -1,8 +1,7 @@
 //! Tables of a library, with what is known of their bytes.
 ghost use Rattle.std.specs.Prelude.{◌≡◌, true};
-ghost use Rattle.egt_check.specs.Prelude.{HasColumn, IsTrueTable, HasBytes, IsKnownToTell, column_of, table_in};
+ghost use Rattle.egt_check.specs.Prelude.{HasColumn, HasBytes, IsKnownToTell, column_of, table_in};
 
-use crate::bytes::true_table_tells;
 use crate::part::Part;
 use egt_table::Table;
 use std::marker::Model;
@@ -33,18 +32,12 @@ impl Model for Shelved {
 }
 
 impl Shelved {
-    /// A true table, of which this was found: its entries are asked where it was not.
-    pub(crate) fn new(table: Table, found: Telling) -> Shelved
-        requires holds { IsTrueTable table }
-        requires told { IsKnownToTell table found.values found.reach }
+    /// The table, of which this is known.
+    pub(crate) fn new(table: Table, telling: Telling) -> Shelved
+        requires { IsKnownToTell table telling.values telling.reach }
         ensures { result ≡ table }
     {
-        let values = found.values || true_table_tells(&table, Part::Values);
-        let reach = found.reach || true_table_tells(&table, Part::Reach);
-        Shelved {
-            table,
-            telling: Telling { values, reach },
-        }
+        Shelved { table, telling }
     }
 
     /// The table.

@@ -3,11 +3,6 @@ use Rattle.egt_check.specs.Prelude.{TableValue, IsLibrary, IsAccepted, table_at}
 use Rattle.egt_check.proofs.Shelving.{accepted_is_true, one_more, turned_away}
 use Rattle.egt_check.proofs.library.Library.admit.Goals as goal
 
-pub new-requires-clause-holds : goal.new-requires-clause-holds
-new-requires-clause-holds c =
-    let accepted = subst (λ v. IsAccepted (table_at v) c.args.table) (sym c.self.view_is) (c.in-Ok.ensures.exact.0 refl) in
-    accepted_is_true c.children_have_smaller_numbers.ensures.smaller c.self.inside.places.items c.self.invariant c.args.table c.class.ensures.table c.rules_are_kept_by_true_tables_alone.ensures accepted
-
 pub invariant_of-self : goal.invariant_of-self
 invariant_of-self c =
     let places = c.self.inside.places.items in
