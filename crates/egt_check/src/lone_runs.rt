@@ -1,6 +1,6 @@
 //! The judgement of a whole table of a class with one man beside the kings, by the squares of the kings.
-ghost use Rattle.std.specs.Prelude.{◌≡◌, ◌*◌, ◌<◌, ℕ, false, true, IfSome, get_or};
-ghost use Rattle.egt_check.specs.Prelude.{kind_digits, column_of, size_of, table_in, HasColumn, HasBytes, AreThreeMen};
+ghost use Rattle.std.specs.Prelude.{◌≡◌, ◌≢◌, ◌*◌, ◌<◌, ℕ, false, true, IfSome, get_or};
+ghost use Rattle.egt_check.specs.Prelude.{K, kind_digits, column_of, size_of, table_in, HasColumn, HasBytes, AreThreeMen};
 ghost use Rattle.egt_check.specs.Prelude.{AreRuns, IsJudgedRow, MayJudge, TellsVoid, TellsVoids, beside, table_at};
 ghost use Rattle.egt_check.specs.declared.part.Part.TheVariants as parts;
 
@@ -10,11 +10,17 @@ use crate::lone_judging::{ThreeMen, lone_row_is_right};
 use crate::pairs::MOST_PAIRS;
 use crate::part::Part;
 use crate::runs::Runs;
-use crate::table_judging::is_king;
 use egt_blocks::digits::digits_of;
-use egt_board::{Side, Square};
+use egt_board::{Kind, Man, Side, Square};
 use egt_index::{ShelfMen, lone_man, lone_row, position, size};
 use egt_table::{Column, Table};
+
+/// Whether the man is a king.
+pub(crate) fn is_king(man: Man) -> bool
+    ensures { result ≡ false → man.kind ≢ K }
+{
+    matches!(man.kind, Kind::K)
+}
 
 /// Whether the mate entry is 0 exactly where the code is no position's index.
 fn tells_void(table: &Table, code: u32) -> bool

@@ -1,6 +1,6 @@
 //! The judgement of a whole table of a class with two men beside the kings, block by block.
 ghost use Rattle.std.specs.Prelude.{◌≡◌, ◌≢◌, ◌+◌, ◌*◌, ◌<◌, ◌≤◌, ℕ, false, true, Some, None, IfSome, get_or};
-ghost use Rattle.egt_check.specs.Prelude.{other_side, turned_man, Setup, K, Side, IsOf, AreNonKings, IsLoneMan};
+ghost use Rattle.egt_check.specs.Prelude.{other_side, turned_man, Setup, Side, IsOf, AreNonKings, IsLoneMan};
 ghost use Rattle.egt_check.specs.Prelude.{AreMenOf, ShelfMen, IsOfficer, HasColumn, TableValue};
 ghost use Rattle.egt_check.specs.Prelude.{with_kings, AreKept, AreChildren, AreFourMen, AreTablesOf, IsOwnTable};
 ghost use Rattle.egt_check.specs.Prelude.{column_of, four_in, promotion_in, promotions_in, table_in, tables_in};
@@ -11,7 +11,7 @@ ghost use Rattle.egt_check.specs.Prelude.{Tables, HasChildren, beside, table_at,
 use crate::block_judging::block_is_right;
 use crate::bytes::tells_bytes;
 use crate::library::Library;
-use crate::lone_runs::runs_by_rows;
+use crate::lone_runs::{is_king, runs_by_rows};
 use crate::move_scores::{Children, FourMen, Moves, beside_own};
 use crate::pair_order::nth_pair;
 use crate::pairs::{MOST_PAIRS, Pairs, judged_pairs_hold_all_codes, pairs_of};
@@ -250,13 +250,6 @@ fn first_promotions<'t>(
     } else {
         promotions(library, class, &men_swapped(men), part)
     }
-}
-
-/// Whether the man is a king.
-pub(crate) fn is_king(man: Man) -> bool
-    ensures { result ≡ false → man.kind ≢ K }
-{
-    matches!(man.kind, Kind::K)
 }
 
 /// Whether all positions of these men are of the class, in its own colours.
