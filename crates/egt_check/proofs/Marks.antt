@@ -25,7 +25,7 @@ mark_none score is = grind (arith, nat_tests)
 pub none_marked : (marks k : ℕ) → marks ≡ 0 → (score : ℕ) → bit_at marks k ≡ mark score → score ≡ 0
 none_marked marks k none score is = mark_none score (sym is ∙ ap (λ m. bit_at m k) none ∙ bit_at-zero k)
 
-pub mark_some : (score : ℕ) → mark score ≡ 1 → score ≢ 0
+mark_some : (score : ℕ) → mark score ≡ 1 → score ≢ 0
 mark_some score one none = let is = ap mark none in absurd (omega (arith, is, one))
 
 module _ (t : TableValue) where
