@@ -1,19 +1,15 @@
 -- Rows raised by a pawn's advances.
 use Rattle.std.proofs.Common.{◌≡◌, ℕ, ◌<◌, ◌≤◌, ◌==◌, ◌⊎◌, if◌then◌else◌, Bool, true, false, eqb, cond, max, List}
-use Rattle.std.proofs.Common.{get_or, refl, ap, ◌∙◌, subst, inl, inr, arith, eqb-true}
+use Rattle.std.proofs.Common.{get_or, refl, ap, ◌∙◌, subst, arith, eqb-true}
 use Rattle.egt_lanes.specs.Prelude.{cases_eq, eqb-false, bit_at, Rides, Advances, forward, home_rank}
-use Rattle.egt_lanes.specs.Prelude.{rank_of, Away, Side, White, Black, Step, AdvancesBy, IsRaised}
+use Rattle.egt_lanes.specs.Prelude.{rank_of, Away, Side, Step, AdvancesBy, IsRaised}
 use Rattle.egt_lanes.proofs.Raising.{raised_again, raised_among, raised_as, raised_by_none, raised_is}
 use Rattle.egt_lanes.proofs.Rays.{IsRidden}
 use Rattle.egt_lanes.proofs.Riding.{HasBit, IsShifted, more_ends, one_ride, raised_over, ride_one, ridden_first}
 
 -- a lane of a row kept to a set of squares
 pub kept_or_none : (bits t v w : ℕ) → w ≡ (if bit_at bits t == 1 then v else 0) → (HasBit bits t × (w ≡ v)) ⊎ (¬ HasBit bits t × (w ≡ 0))
-kept_or_none bits t v w is = go (eqb (bit_at bits t) 1) refl
-  where
-    go : (b : Bool) → eqb (bit_at bits t) 1 ≡ b → (HasBit bits t × (w ≡ v)) ⊎ (¬ HasBit bits t × (w ≡ 0))
-    go true e = inl (eqb-true _ _ e, is ∙ ap (λ b. cond b v 0) e)
-    go false e = inr (eqb-false _ _ e, is ∙ ap (λ b. cond b v 0) e)
+kept_or_none bits t v w is = grind (arith, eqb-true, eqb-false)
 
 -- so many squares are at most one or two
 one_goes : (home : Bool) (n : ℕ) → n ≤ 1 → n ≤ cond home 2 1
@@ -23,14 +19,10 @@ two_go : (home : Bool) → home ≡ true → 2 ≤ cond home 2 1
 two_go home is = grind arith
 
 same_count : (side : Side) (n m s t : ℕ) → Away (forward side) n s t → Away (forward side) m s t → n ≡ m
-same_count White n m s t a b = let one = a.along in let other = b.along in omega (arith, one, other)
-same_count Black n m s t a b = let one = a.along in let other = b.along in omega (arith, one, other)
+same_count side n m s t a b = grind arith
 
 one_or_two : (n : ℕ) → 0 < n → n ≤ 2 → (n ≡ 1) ⊎ (n ≡ 2)
-one_or_two n some few = elim (cases_eq n 1) [
-  | inl one ↦ inl one
-  | inr more ↦ inr (omega (arith, some, few, more))
-]
+one_or_two n some few = grind (arith, cases_eq)
 
 module _ (bits : ℕ) (side : Side) (row arrived near : List ℕ) (arrives : (s : ℕ) → s < 64 → get_or arrived s 0 ≡ (if bit_at bits s == 1 then get_or row s 0 else 0)) (first : IsShifted (forward side) arrived near)
     (s : ℕ) (s_in : s < 64) where
@@ -68,11 +60,7 @@ module _ (bits : ℕ) (side : Side) (row arrived near : List ℕ) (arrives : (s 
 
     -- by two squares, and no fewer
     two_squares : (t : ℕ) → AdvancesBy 2 F side s t → (2 ≤ cond home 2 1) × IsRidden F 2 s t d
-    two_squares t r =
-        let count = same_count side r.advances.rides.count 2 s t r.advances.rides.away r.away in (
-          subst (λ n. n ≤ cond home 2 1) count r.advances.rides.within,
-          record { away = r.away; clear = λ k u some less a. r.advances.rides.clear k u some (omega (arith, count, less)) a },
-        )
+    two_squares t r = grind (arith, same_count)
 
     pub by_two : (low high : ℕ) → high ≡ max low (if bit_at homes s == 1 then get_or far s 0 else 0) → IsRaised low (λ t. AdvancesBy 2 (HasBit bits) side s t) (λ t. get_or row t 0) high
     by_two low high is = go home refl
@@ -97,17 +85,7 @@ module _ (bits : ℕ) (side : Side) (row arrived near : List ℕ) (arrives : (s 
 
 -- an advance is by one square or by two
 pub one_or_two_squares : (F : ℕ → Type 0) (side : Side) (s t : ℕ) → Advances F side s t → AdvancesBy 1 F side s t ⊎ AdvancesBy 2 F side s t
-one_or_two_squares F side s t r = elim (one_or_two r.rides.count r.rides.moves (few (eqb (rank_of s) (home_rank side)) r.rides.count r.rides.within)) [
-  | inl is ↦ inl (record { advances = r; away = subst (λ n. Away (forward side) n s t) is r.rides.away })
-  | inr is ↦ inr (record { advances = r; away = subst (λ n. Away (forward side) n s t) is r.rides.away })
-]
-  where
-    few : (home : Bool) (n : ℕ) → n ≤ cond home 2 1 → n ≤ 2
-    few home n within = grind arith
+one_or_two_squares F side s t r = grind (arith, one_or_two, forward)
 
 pub by_either : (F : ℕ → Type 0) (side : Side) (s low mid high : ℕ) (g : ℕ → ℕ) → IsRaised low (λ t. AdvancesBy 1 F side s t) g mid → IsRaised mid (λ t. AdvancesBy 2 F side s t) g high → IsRaised low (λ t. Advances F side s t) g high
-by_either F side s low mid high g one two =
-    raised_as low high (λ t. AdvancesBy 2 F side s t ⊎ AdvancesBy 1 F side s t) (λ t. Advances F side s t) g
-    (λ t either. elim either [ inl r ↦ r.advances | inr r ↦ r.advances ])
-    (λ t r. elim (one_or_two_squares F side s t r) [ inl near ↦ inr near | inr far ↦ inl far ])
-    (raised_again low mid high (λ t. AdvancesBy 1 F side s t) (λ t. AdvancesBy 2 F side s t) g one two)
+by_either F side s low mid high g one two = grind (arith, raised_as, one_or_two_squares, raised_again)

@@ -1,5 +1,7 @@
 -- Entries of both columns, compared lane by lane. A mask's lane is 65535 or 0.
-use Rattle.std.proofs.Common.{◌≡◌, ◌⊎◌, inl, inr, ℕ, zero, suc, ◌+◌, ◌-◌, ◌≤◌, ◌<◌, ◌%◌, ◌^◌, Bool, true, false, cond, ltb, List, [], ◌∷◌, map, length, get_or, replicate, bit_and, bit_or, refl, sym, arith, Fits, w16, ltb-true, ltb-false}
+use Rattle.std.proofs.Common.{◌≡◌, ◌⊎◌, inl, inr, ℕ, zero, suc, ◌+◌, ◌-◌, ◌≤◌, ◌<◌, ◌%◌, ◌^◌, cond, ltb, List, [], ◌∷◌, map, length, get_or, replicate, bit_and, bit_or, refl, arith, Fits, w16, ltb-true, ltb-false}
+use Rattle.std.proofs.Common.{◌*◌, ap, ◌∙◌, subst, slice_index}
+use Rattle.egt_lanes.specs.Prelude.{cases_lt}
 use Rattle.std.proofs.lemmas.Nat.{and_mask, le_or_l, le_or_r}
 use lib.Lanes.{zip2, sel_l, fold_l, top, Each1}
 use Rattle.egt_lanes.specs.Alike.{AreVoidOrAlike}
@@ -31,19 +33,11 @@ limit_of low = chosen (below low 3) 1 253
 
 limit_is : (low : ℕ) → ((low < 3) × (limit_of low ≡ 1)) ⊎ ((3 ≤ low) × (limit_of low ≡ 253))
 unfolding limit_of
-limit_is low = go (ltb low 3) refl
-  where
-    go : (t : Bool) → ltb low 3 ≡ t → ((low < 3) × (chosen (cond t 65535 0) 1 253 ≡ 1)) ⊎ ((3 ≤ low) × (chosen (cond t 65535 0) 1 253 ≡ 253))
-    go true e = inl (ltb-true _ _ e, refl)
-    go false e = inr (ltb-false _ _ e, refl)
+limit_is low = grind (arith, ltb-true, ltb-false)
 
 -- nothing is left of a number only under one that is no less
 pub none_over : (a b : ℕ) → a < 65536 → b < 65536 → less (chosen (below a b) b a) b ≡ 0 → a ≤ b
-none_over a b a_in b_in = go (ltb a b) refl
-  where
-    go : (t : Bool) → ltb a b ≡ t → less (chosen (cond t 65535 0) b a) b ≡ 0 → a ≤ b
-    go true e none = let lt = ltb-true _ _ e in omega (arith, lt)
-    go false e none = let le = ltb-false _ _ e in omega (arith, le, none, a_in, b_in)
+none_over a b a_in b_in = grind (arith, ltb-true, ltb-false)
 
 lane_by : ℕ → ℕ → ℕ
 lane_by low high = bit_or (less (chosen (below high (limit_of low)) (limit_of low) high) (limit_of low)) (bit_and (less high low) 1)
@@ -68,17 +62,7 @@ alike_by low high le high_in none =
     ]
 
 alike_of : (a b : ℕ) → a < 65536 → b < 65536 → lane_by (chosen (below a b) a b) (chosen (below a b) b a) ≡ 0 → AreVoidOrAlike a b
-alike_of a b a_in b_in = go (ltb a b) refl
-  where
-    go : (t : Bool) → ltb a b ≡ t → lane_by (chosen (cond t 65535 0) a b) (chosen (cond t 65535 0) b a) ≡ 0 → AreVoidOrAlike a b
-    go true e none = let lt = ltb-true _ _ e in elim (alike_by a b (omega (arith, lt)) b_in none) [
-      | inl same ↦ inl same
-      | inr (some, low, parity) ↦ inr (record { mate_some = some; zeroing_some = omega (arith, some, lt); mate_low = omega (arith, low, lt); zeroing_low = low; parity = parity })
-    ]
-    go false e none = let le = ltb-false _ _ e in elim (alike_by b a le a_in none) [
-      | inl (same, low) ↦ inl (sym same, omega (arith, same, low))
-      | inr (some, low, parity) ↦ inr (record { mate_some = omega (arith, some, le); zeroing_some = some; mate_low = low; zeroing_low = omega (arith, low, le); parity = sym parity })
-    ]
+alike_of a b a_in b_in = grind (arith, ltb-true, alike_by, ltb-false)
 
 pub alike_at : (xs ys : List ℕ) (i : ℕ) → i < length xs → length ys ≡ length xs → Each1 (Fits w16) xs → Each1 (Fits w16) ys → get_or (unlike (length xs) xs ys) i 0 ≡ 0 → AreVoidOrAlike (get_or xs i 0) (get_or ys i 0)
 unfolding lane_by limit_of
@@ -98,5 +82,18 @@ all_none a (x ∷ xs) none =
     (omega (arith, both, left), each rest.1 (omega (arith, both, right)))
   where
     each : ((i : ℕ) → get_or xs i 0 ≡ 0) → x ≡ 0 → (i : ℕ) → get_or (x ∷ xs) i 0 ≡ 0
-    each rest here zero = here
-    each rest here (suc i) = rest i
+    each rest here i = grind arith
+
+-- what two columns show in all blocks before this one, and in the block that was loaded of them
+pub more_blocks : (R : ℕ → ℕ → Type 0) (xs ys low high : List ℕ) (block : ℕ) → ((i : ℕ) → i < 64 * block → R (slice_index xs i) (slice_index ys i))
+    → ((k : ℕ) → k < 64 → slice_index low k ≡ slice_index xs (64 * block + k)) → ((k : ℕ) → k < 64 → slice_index high k ≡ slice_index ys (64 * block + k))
+    → ((k : ℕ) → k < 64 → R (slice_index low k) (slice_index high k)) → (i : ℕ) → i < 64 * (block + 1) → R (slice_index xs i) (slice_index ys i)
+more_blocks R xs ys low high block before left right shows i less = elim (cases_lt i (64 * block)) [
+  | inl early ↦ before i early
+  | inr from ↦
+      let k : ℕ = i - 64 * block in
+      let k_in : k < 64 = omega (arith, less, from) in
+      let at : 64 * block + k ≡ i = omega (arith, from) in
+      subst (λ x. R x (slice_index ys i)) (left k k_in ∙ ap (slice_index xs) at)
+      (subst (λ y. R (slice_index low k) y) (right k k_in ∙ ap (slice_index ys) at) (shows k k_in))
+]

@@ -1,5 +1,5 @@
 -- Entries of the mate column and of the column of the nearest mates, compared lane by lane.
-use Rattle.std.proofs.Common.{◌≡◌, ℕ, zero, suc, ◌<◌, min, Bool, cond, ltb, List, [], ◌∷◌, length, get_or, replicate, bit_or, refl, arith, Fits, w16}
+use Rattle.std.proofs.Common.{◌≡◌, ℕ, zero, suc, ◌<◌, min, List, [], ◌∷◌, length, get_or, replicate, bit_or, arith, Fits, w16}
 use Rattle.std.proofs.lemmas.Nat.{le_or_l, le_or_r}
 use lib.Lanes.{zip2, Each1}
 use Rattle.egt_lanes.specs.Near.{IsVoidOrNear}
@@ -18,10 +18,7 @@ sign a = chosen (below a 1) a 1
 
 sign_is : (a : ℕ) → sign a ≡ min a 1
 unfolding sign
-sign_is a = go (ltb a 1) refl
-  where
-    go : (t : Bool) → ltb a 1 ≡ t → chosen (cond t 65535 0) a 1 ≡ min a 1
-    go t e = grind arith
+sign_is a = grind (arith, chosen)
 
 lane : ℕ → ℕ → ℕ
 lane m r = bit_or (less (chosen (below r 127) 127 r) 127) (less (sign m) (sign r))

@@ -8,11 +8,7 @@ raised_by_none low In f none = record { kept = omega arith; above = λ t within.
 
 -- by one square
 pub raised_by_one : (low t : ℕ) (In : ℕ → Type 0) (f : ℕ → ℕ) → In t → ((u : ℕ) → In u → u ≡ t) → IsRaised low In f (max low (f t))
-raised_by_one low t In f here only = record {
-  kept = omega arith;
-  above = λ u within. let e : f u ≡ f t = ap f (only u within) in omega arith;
-  reached = elim (cases_lt low (f t)) [ inl l ↦ let e : max low (f t) ≡ f t = omega arith in inr (t, here, e) | inr g ↦ let e : max low (f t) ≡ low = omega arith in inl e ];
-}
+raised_by_one low t In f here only = grind arith
 
 -- by one square alone
 pub first_raised : (t : ℕ) (In : ℕ → Type 0) (f : ℕ → ℕ) → In t → ((u : ℕ) → In u → u ≡ t) → IsRaised 0 In f (f t)
@@ -39,39 +35,15 @@ raised_more low v w x In New f old new is = record {
 
 -- by one set after another
 pub raised_again : (low v w : ℕ) (In New : ℕ → Type 0) (f : ℕ → ℕ) → IsRaised low In f v → IsRaised v New f w → IsRaised low (λ t. New t ⊎ In t) f w
-raised_again low v w In New f old new = record {
-  kept = omega (arith, old.kept, new.kept);
-  above = λ t either. elim either [ inl n ↦ new.above t n | inr o ↦ omega (arith, old.above t o, new.kept) ];
-  reached = elim new.reached [
-    | inl e ↦ elim old.reached [ inl e' ↦ inl (e ∙ e') | inr h ↦ inr (h.0, inr h.1, e ∙ h.2) ]
-    | inr h ↦ inr (h.0, inl h.1, h.2)
-  ];
-}
+raised_again low v w In New f old new = grind arith
 
 -- only which squares the set has counts
 pub raised_as : (low v : ℕ) (In To : ℕ → Type 0) (f : ℕ → ℕ) → ((t : ℕ) → In t → To t) → ((t : ℕ) → To t → In t) → IsRaised low In f v → IsRaised low To f v
-raised_as low v In To f there back h = record {
-  kept = h.kept;
-  above = λ t within. h.above t (back t within);
-  reached = elim h.reached [ inl e ↦ inl e | inr r ↦ inr (r.0, there r.0 r.1, r.2) ];
-}
+raised_as low v In To f there back h = grind arith
 
 pub raised_is : (low v w : ℕ) (In : ℕ → Type 0) (f : ℕ → ℕ) → w ≡ v → IsRaised low In f v → IsRaised low In f w
 raised_is low v w In f e h = subst (IsRaised low In f) (sym e) h
 
 -- where those that do not pass were made 0, only those that pass count
 pub raised_among : (low v : ℕ) (In Passes : ℕ → Type 0) (f g : ℕ → ℕ) → ((t : ℕ) → In t → (Passes t × (g t ≡ f t)) ⊎ (¬ Passes t × (g t ≡ 0))) → IsRaised low In g v → IsRaised low (λ t. In t × Passes t) f v
-raised_among low v In Passes f g split h = record {
-  kept = h.kept;
-  above = λ t within. elim (split t within.0) [
-    | inl here ↦ let le = h.above t within.0 in let same = here.1 in omega (arith, le, same)
-    | inr gone ↦ absurd (gone.0 within.1)
-  ];
-  reached = elim h.reached [
-    | inl e ↦ inl e
-    | inr r ↦ elim (split r.0 r.1) [
-      | inl here ↦ inr (r.0, (r.1, here.0), r.2 ∙ here.1)
-      | inr gone ↦ inl (let none = gone.1 in let is = r.2 in let low_in = h.kept in omega (arith, none, is, low_in))
-    ]
-  ];
-}
+raised_among low v In Passes f g split h = grind arith

@@ -1,6 +1,6 @@
 -- The bits of a set, as bytes of ranks.
-use Rattle.std.proofs.Common.{◌≡◌, ℕ, zero, suc, ◌*◌, ◌/◌, ◌%◌, ◌^◌, ◌<◌, Bool, false, eqb, bit_and}
-use Rattle.std.proofs.Common.{eq-eqb, refl, sym, ap, ◌∙◌, arith}
+use Rattle.std.proofs.Common.{◌≡◌, ℕ, ◌*◌, ◌/◌, ◌%◌, ◌^◌, ◌<◌, eqb, bit_and}
+use Rattle.std.proofs.Common.{eq-eqb, sym, ap, ◌∙◌, arith}
 use Rattle.egt_lanes.specs.Prelude.{bit_at, div-div-eq-div-mul, and_pow, bit_at_cat_low, bit_at-lt, div-add-mod'}
 use Rattle.egt_lanes.specs.Prelude.{pow_pos}
 use Rattle.egt_lanes.proofs.Tests.{agreed}
@@ -17,12 +17,7 @@ bit_of_byte n s s_in =
     ∙ ap (λ m. m % 2) (div-div-eq-div-mul n (256 ^ (s / 8)) (2 ^ (s % 8)) ∙ ap (λ d. n / d) (weights s s_in))
 
 scaled : (b w : ℕ) → b < 2 → 0 < w → eqb (b * w) w ≡ eqb b 1
-scaled zero w b_in w_in = go (eqb (0 * w) w) refl
-  where
-    go : (t : Bool) → eqb (0 * w) w ≡ t → t ≡ false
-    go t e = grind arith
-scaled (suc zero) w b_in w_in = eq-eqb (1 * w) w (omega arith)
-scaled (suc (suc b)) w b_in w_in = absurd (omega arith)
+scaled b w b_in w_in = grind (arith, eq-eqb)
 
 -- the bit of a square, in the byte of its rank
 pub has_bit : (n s : ℕ) → s < 64 → eqb (bit_and (n / 256 ^ (s / 8) % 256) (2 ^ (s % 8))) (2 ^ (s % 8)) ≡ eqb (bit_at n s) 1

@@ -27,22 +27,10 @@ abbrev square : ℕ → ℕ → ℕ
 square file rank = 8 * rank + file
 
 away_at : (d : Step) (n s file rank : ℕ) → file < 8 → rank < 8 → Further d.files (n * d.wide) (file_of s) file → Further d.ranks (n * d.high) (rank_of s) rank → Away d n s (square file rank)
-away_at d n s file rank file_in rank_in across along =
-    let e : file ≡ (8 * rank + file) % 8 = omega arith in
-    let e' : rank ≡ (8 * rank + file) / 8 = omega arith in record {
-      on_board = omega arith;
-      across = subst (λ m. Further d.files (n * d.wide) (file_of s) m) e across;
-      along = subst (λ m. Further d.ranks (n * d.high) (rank_of s) m) e' along;
-    }
+away_at d n s file rank file_in rank_in across along = grind arith
 
 away_from : (d : Step) (n file rank t : ℕ) → file < 8 → t < 64 → Further d.files (n * d.wide) file (file_of t) → Further d.ranks (n * d.high) rank (rank_of t) → Away d n (square file rank) t
-away_from d n file rank t file_in t_in across along =
-    let e : file ≡ (8 * rank + file) % 8 = omega arith in
-    let e' : rank ≡ (8 * rank + file) / 8 = omega arith in record {
-      on_board = t_in;
-      across = subst (λ m. Further d.files (n * d.wide) m (file_of t)) e across;
-      along = subst (λ m. Further d.ranks (n * d.high) m (rank_of t)) e' along;
-    }
+away_from d n file rank t file_in t_in across along = grind arith
 
 pub first_step : (d : Step) (n s t : ℕ) → s < 64 → Away d (n + 1) s t → (u : ℕ) × Away d 1 s u × Away d n u t
 first_step d n s t s_in a =
@@ -52,17 +40,10 @@ first_step d n s t s_in a =
     (square f.0 r.0, away_at d 1 s f.0 r.0 f.1 r.1 f.2 r.2, away_from d n f.0 r.0 t f.1 t_in f.3 r.3)
 
 pub both_steps : (d : Step) (n s u t : ℕ) → Away d 1 s u → Away d n u t → Away d (n + 1) s t
-both_steps d n s u t a b = record {
-  on_board = b.on_board;
-  across = both_coordinates d.files n d.wide (file_of s) (file_of u) (file_of t) a.across b.across;
-  along = both_coordinates d.ranks n d.high (rank_of s) (rank_of u) (rank_of t) a.along b.along;
-}
+both_steps d n s u t a b = grind (arith, both_coordinates)
 
 pub same_end : (d : Step) (n s t t' : ℕ) → Away d n s t → Away d n s t' → t ≡ t'
-same_end d n s t t' a b =
-    let file : t % 8 ≡ t' % 8 = same_coordinate d.files (n * d.wide) (s % 8) (t % 8) (t' % 8) a.across b.across in
-    let rank : t / 8 ≡ t' / 8 = same_coordinate d.ranks (n * d.high) (s / 8) (t / 8) (t' / 8) a.along b.along in
-    omega arith
+same_end d n s t t' a b = grind (arith, same_coordinate)
 
 pub next_square : (d : Step) (s : ℕ) → s < 64 → ((u : ℕ) × Away d 1 s u) ⊎ ((u : ℕ) → Away d 1 s u → ⊥)
 next_square d s s_in =
@@ -116,10 +97,7 @@ fewer_steps Free n s u t d s_in some a r =
 
 -- within one more step
 pub Rides-more : (Free : ℕ → Type 0) (n s t : ℕ) (d : Step) → IsRidden Free (n + 1) s t d ⊎ Rides Free n s t d → Rides Free (n + 1) s t d
-Rides-more Free n s t d either = elim either [
-  | inl r ↦ record { count = n + 1; moves = omega arith; within = omega arith; away = r.away; clear = r.clear }
-  | inr r ↦ record { count = r.count; moves = r.moves; within = omega (arith, r.within); away = r.away; clear = r.clear }
-]
+Rides-more Free n s t d either = grind arith
 
 pub Rides-last : (Free : ℕ → Type 0) (n s t : ℕ) (d : Step) → Rides Free (n + 1) s t d → IsRidden Free (n + 1) s t d ⊎ Rides Free n s t d
 Rides-last Free n s t d r = elim (cases_eq r.count (n + 1)) [

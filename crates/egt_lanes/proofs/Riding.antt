@@ -1,5 +1,5 @@
 -- Rows raised along rays: the last man's moves.
-use Rattle.std.proofs.Common.{◌≡◌, ℕ, ◌+◌, ◌<◌, ◌==◌, ◌⊎◌, if◌then◌else◌, Bool, true, false, eqb, cond, max, List, []}
+use Rattle.std.proofs.Common.{arith, ◌≡◌, ℕ, ◌+◌, ◌<◌, ◌==◌, ◌⊎◌, if◌then◌else◌, Bool, true, false, eqb, cond, max, List, []}
 use Rattle.std.proofs.Common.{◌∷◌, ◌++◌, get_or, take, length, refl, sym, ap, ◌∙◌, subst, inl, inr, eqb-true}
 use Rattle.egt_lanes.specs.Prelude.{eqb-false, take_more, bit_at, Side, Kind, Step, Away, Rides, OneOf, farthest}
 use Rattle.egt_lanes.specs.Prelude.{steps_of, P, K, IsPiece, IsRaised}
@@ -101,6 +101,12 @@ pub one_more_step : (low v w : ℕ) (H : ℕ → Step → Type 0) (f : ℕ → �
     → IsRaised low (λ t. OneOf (H t) ds) f v → IsRaised v (λ t. H t d') f w → IsRaised low (λ t. OneOf (H t) (d ∷ ds)) f w
 one_more_step low v w H f d d' ds e old new = raised_again low v w (λ t. OneOf (H t) ds) (λ t. H t d) f old (subst (λ x. IsRaised v (λ t. H t x) f w) e new)
 
+-- one after the other by four steps more
+pub four_more_steps : {low u v w x y : ℕ} {a a' b b' c c' d d' : Step} (H : ℕ → Step → Type 0) (f : ℕ → ℕ) (ds : List Step) → a' ≡ a → b' ≡ b → c' ≡ c → d' ≡ d
+    → IsRaised low (λ t. OneOf (H t) ds) f u → IsRaised u (λ t. H t a') f v → IsRaised v (λ t. H t b') f w → IsRaised w (λ t. H t c') f x → IsRaised x (λ t. H t d') f y
+    → IsRaised low (λ t. OneOf (H t) (d ∷ c ∷ b ∷ a ∷ ds)) f y
+four_more_steps H f ds is_a is_b is_c is_d old first second third fourth = grind (arith, one_more_step)
+
 OneOf-left : (H : Step → Type 0) (ds es : List Step) → OneOf H ds → OneOf H (ds ++ es)
 OneOf-left H [] es none = absurd none
 OneOf-left H (d ∷ ds) es some = elim some [ inl p ↦ inl p | inr r ↦ inr (OneOf-left H ds es r) ]
@@ -151,8 +157,7 @@ ride_one Free s t d r = elim (Rides-last Free 0 s t d r) [ inl r ↦ r.away | in
 -- what a man of this kind reaches
 pub reached_by : (low v w s : ℕ) (Free : ℕ → Type 0) (side : Side) (kind k : Kind) (f : ℕ → ℕ) → kind ≡ k → w ≡ v
     → IsRaised low (λ t. OneOf (Rides Free (farthest k) s t) (steps_of side k)) f v → IsRaised low (λ t. OneOf (Rides Free (farthest kind) s t) (steps_of side kind)) f w
-reached_by low v w s Free side kind k f e is h =
-    subst (λ (x : Kind). IsRaised low (λ t. OneOf (Rides Free (farthest x) s t) (steps_of side x)) f w) (sym e) (raised_is low v w (λ t. OneOf (Rides Free (farthest k) s t) (steps_of side k)) f is h)
+reached_by low v w s Free side kind k f e is h = grind (arith, raised_is)
 
 pub no_piece : (kind : Kind) → (kind ≡ P) ⊎ (kind ≡ K) → IsPiece kind → ⊥
 no_piece kind either piece = elim either [ inl e ↦ subst IsPiece e piece | inr e ↦ subst IsPiece e piece ]

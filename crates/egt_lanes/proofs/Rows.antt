@@ -35,10 +35,7 @@ abbrev pub select : List ℕ → List ℕ → List ℕ → List ℕ
 select ms xs ys = sel_l (map (top 7) ms) xs ys
 
 greater_of : (a b : ℕ) → chosen (below a b) b a ≡ max a b
-greater_of a b = go (ltb a b) refl
-  where
-    go : (t : Bool) → ltb a b ≡ t → chosen (cond t 255 0) b a ≡ max a b
-    go t e = grind arith
+greater_of a b = grind arith
 
 pub greater_at : (xs ys : List ℕ) (i : ℕ) → i < length xs → i < length ys → get_or (select (zip2 below xs ys) ys xs) i 0 ≡ max (get_or xs i 0) (get_or ys i 0)
 greater_at [] ys i p q = absurd (omega arith)
@@ -119,10 +116,7 @@ reach_due_at = by_lanes reach_due reach_due_of reach_due_score (λ n x xs. refl)
 -- ---- a choice by equal lanes
 
 same_of : (a b x y : ℕ) → chosen (same a b) x y ≡ cond (eqb a b) x y
-same_of a b x y = go (eqb a b)
-  where
-    go : (t : Bool) → chosen (cond t 255 0) x y ≡ cond t x y
-    go t = grind arith
+same_of a b x y = grind arith
 
 pub same_at : (us ks xs ys : List ℕ) (i : ℕ) → i < length us → i < length ks → i < length xs → i < length ys
     → get_or (select (zip2 same us ks) xs ys) i 0 ≡ cond (eqb (get_or us i 0) (get_or ks i 0)) (get_or xs i 0) (get_or ys i 0)
@@ -136,11 +130,7 @@ same_at (u ∷ us) (k ∷ ks) (x ∷ xs) (y ∷ ys) (suc i) p q r t = same_at us
 -- ---- a test of all lanes
 
 unset : (x : ℕ) → ◌≡◌ {A = ℕ} (cond (top 7 (other x 0)) 1 0) 0 → x ≡ 0
-unset x = go (eqb x 0) refl
-  where
-    go : (t : Bool) → eqb x 0 ≡ t → ◌≡◌ {A = ℕ} (cond (top 7 (cond (not t) 255 0)) 1 0) 0 → x ≡ 0
-    go true e q = eqb-true _ _ e
-    go false e q = absurd (omega arith)
+unset x = grind (arith, top, not, eqb-true)
 
 none_set : (xs : List ℕ) → mask_l (map (top 7) (zip2 other xs (replicate (length xs) 0))) ≡ 0 → (i : ℕ) → get_or xs i 0 ≡ 0
 none_set [] e i = refl
@@ -173,11 +163,7 @@ abbrev pub unlike : ℕ → List ℕ → List ℕ → List ℕ → List ℕ
 unlike n xs ys ws = select (zip2 other xs ys) ws (replicate n 0)
 
 unlike_of : (a b v : ℕ) → chosen (other a b) v 0 ≡ 0 → v ≢ 0 → a ≡ b
-unlike_of a b v = go (eqb a b) refl
-  where
-    go : (t : Bool) → eqb a b ≡ t → chosen (cond (not t) 255 0) v 0 ≡ 0 → v ≢ 0 → a ≡ b
-    go true e q some = eqb-true _ _ e
-    go false e q some = absurd (some q)
+unlike_of a b v = grind (arith, not, eqb-true)
 
 unlike_at : (xs ys ws : List ℕ) (i : ℕ) → i < length xs → length ys ≡ length xs → length ws ≡ length xs
     → get_or (unlike (length xs) xs ys ws) i 0 ≡ 0 → get_or ws i 0 ≢ 0 → get_or xs i 0 ≡ get_or ys i 0
@@ -197,8 +183,7 @@ abbrev pub some_set : ℕ → List ℕ → Bool
 some_set n xs = not (eqb (mask_l (map (top 7) (zip2 other xs (replicate n 0))) % 2 ^ 64) 0)
 
 not_false : (b : Bool) → not b ≡ false → b ≡ true
-not_false true e = refl
-not_false false e = sym e
+not_false b e = grind arith
 
 all_zero : (xs : List ℕ) → length xs ≡ 64 → some_set (length xs) xs ≡ false → (i : ℕ) → get_or xs i 0 ≡ 0
 all_zero xs long none =
@@ -227,11 +212,7 @@ some_lane (x ∷ xs) ne = elim (cases_eq x 0) [
 ]
 
 apart_of : (a b v : ℕ) → chosen (other a b) v 0 ≢ 0 → (v ≢ 0) × (a ≢ b)
-apart_of a b v = go (eqb a b) refl
-  where
-    go : (t : Bool) → eqb a b ≡ t → chosen (cond (not t) 255 0) v 0 ≢ 0 → (v ≢ 0) × (a ≢ b)
-    go true e ne = absurd (ne refl)
-    go false e ne = (ne, eqb-false a b e)
+apart_of a b v = grind (arith, not, eqb-false)
 
 apart_at : (xs ys ws : List ℕ) (i : ℕ) → i < length xs → length ys ≡ length xs → length ws ≡ length xs
     → get_or (unlike (length xs) xs ys ws) i 0 ≢ 0 → (get_or ws i 0 ≢ 0) × (get_or xs i 0 ≢ get_or ys i 0)
@@ -242,8 +223,7 @@ apart_at (x ∷ xs) (y ∷ ys) (v ∷ ws) zero p q r ne = apart_of x y v ne
 apart_at (x ∷ xs) (y ∷ ys) (v ∷ ws) (suc i) p q r ne = apart_at xs ys ws i (omega arith) (omega arith) (omega arith) ne
 
 not_true : (b : Bool) → not b ≡ true → b ≡ false
-not_true true e = sym e
-not_true false e = refl
+not_true b e = grind arith
 
 pub some_apart : (xs ys ws : List ℕ) → length xs ≡ 64 → length ys ≡ 64 → length ws ≡ 64 → some_set 64 (unlike 64 xs ys ws) ≡ true
     → (i : ℕ) × (i < 64) × (get_or ws i 0 ≢ 0) × (get_or xs i 0 ≢ get_or ys i 0)

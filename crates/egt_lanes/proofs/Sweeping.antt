@@ -93,8 +93,7 @@ pub next_is_past : (upward : Bool) (k n : ℕ) → k < 64 → n < 64 → IsAhead
 next_is_past upward k n k_in n_in ahead = grind arith
 
 pub past_or_here : (upward : Bool) (k a : ℕ) → k < 64 → a < 64 → IsPast upward (k + 1) a → (a ≡ nth upward k) ⊎ IsPast upward k a
-past_or_here true k a k_in a_in past = elim (cases_eq a (63 - k)) [ inl e ↦ inl e | inr other ↦ inr (omega arith) ]
-past_or_here false k a k_in a_in past = elim (cases_eq a k) [ inl e ↦ inl e | inr other ↦ inr (omega arith) ]
+past_or_here upward k a k_in a_in past = grind (arith, cases_eq)
 
 pub here_is_past : (upward : Bool) (k : ℕ) → k < 64 → IsPast upward (k + 1) (nth upward k)
 here_is_past upward k k_in = grind arith

@@ -1,5 +1,5 @@
 -- What is computed at each number below a limit.
-use Rattle.std.proofs.Common.{◌≡◌, ℕ, zero, suc, ◌-◌, ◌<◌, Bool, true, false, ◌&&◌, T, eqb, subst, inl, inr, arith, eq-zero-or-pos, eqb-true}
+use Rattle.std.proofs.Common.{◌≡◌, ℕ, zero, suc, ◌-◌, ◌<◌, Bool, true, ◌&&◌, T, eqb, subst, inl, inr, arith, eq-zero-or-pos, eqb-true}
 use lib.Ieee.Fits.{and_l, and_r}
 
 abbrev pub passes_below : (ℕ → Bool) → ℕ → Bool
@@ -15,8 +15,7 @@ passed p (suc n) h i l =
     ]
 
 pub is_true : (b : Bool) → T b → b ≡ true
-is_true true t = λ _. true
-is_true false t = absurd t
+is_true b t = grind arith
 
 pub equals : (a b : ℕ) → T (eqb a b) → a ≡ b
 equals a b t = eqb-true a b (is_true (eqb a b) t)

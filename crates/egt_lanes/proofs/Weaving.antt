@@ -51,10 +51,7 @@ rolled-within : (n : ℕ) → n < 4096 → rolled n < 4096
 rolled-within n n_in = omega arith
 
 rolled_place : (to from : List (List ℕ)) → IsRolled to from → (n : ℕ) → n < 4096 → place to n ≡ place from (rolled n)
-rolled_place to from h n n_in =
-    let row : n / 64 / 2 + 32 * (n % 64 % 2) ≡ rolled n / 64 = omega arith in
-    let lane : 32 * (n / 64 % 2) + n % 64 / 2 ≡ rolled n % 64 = omega arith in
-    h (n / 64) (n % 64) (omega arith) (omega arith) ∙ ap (λ r. at from r (32 * (n / 64 % 2) + n % 64 / 2)) row ∙ ap (at from (rolled n / 64)) lane
+rolled_place to from h n n_in = grind arith
 
 rolled_six : (n : ℕ) → n < 4096 → rolled (rolled (rolled (rolled (rolled (rolled n))))) ≡ 64 * (n % 64) + n / 64
 rolled_six n n_in = agreed (λ n. rolled (rolled (rolled (rolled (rolled (rolled n)))))) (λ n. 64 * (n % 64) + n / 64) 4096 tt n n_in
@@ -81,15 +78,7 @@ exchanged b0 b1 b2 b3 b4 b5 b6 h1 h2 h3 h4 h5 h6 a b a_in b_in =
 -- ---- a round: two rows at a time
 
 either_row : (from : List (List ℕ)) (i b m : ℕ) → get_or (if b % 2 == 0 then get_or from i [] else get_or from (i + 32) []) m 0 ≡ at from (i + 32 * (b % 2)) m
-either_row from i b m = go (eqb (b % 2) 0) refl
-  where
-    go : (t : Bool) → eqb (b % 2) 0 ≡ t → get_or (cond t (get_or from i []) (get_or from (i + 32) [])) m 0 ≡ at from (i + 32 * (b % 2)) m
-    go true e =
-        let even : b % 2 ≡ 0 = eqb-true _ _ e in
-        let row : i ≡ i + 32 * (b % 2) = omega arith in ap (λ r. at from r m) row
-    go false e =
-        let odd : b % 2 ≡ 1 = let o = eqb-false _ _ e in omega arith in
-        let row : i + 32 ≡ i + 32 * (b % 2) = omega arith in ap (λ r. at from r m) row
+either_row from i b m = grind (arith, get_or, eqb-true, eqb-false)
 
 pub two_rows : (out from : List (List ℕ)) (low high : List ℕ) (i : ℕ) → length out ≡ 64 → i < 32
     → ((a b : ℕ) → a < 2 * i → b < 64 → at out a b ≡ at from (a / 2 + 32 * (b % 2)) (32 * (a % 2) + b / 2))

@@ -53,6 +53,7 @@ pub fn without_lane(row: Row, square: Square) -> Row
 
 /// The squares at which the row is not 0.
 #[inline(always)]
+#[tactic(auto, using(crate::proofs::Rows::lanes_bits))]
 pub fn lanes_of(row: Row) -> SquareSet
     ensures { (s : ℕ) → s < 64 → bit_at result.bits s ≡ (if slice_index row s == 0 then 0 else 1) }
 {
