@@ -65,20 +65,13 @@ after_to_list : (n : ℕ) (flips : Bool) (x : Entry) → map (turn_one n flips) 
 after_to_list n flips x = grind arith
 
 pub both_to_list : (n : ℕ) (flips : Bool) (x y : Entry) → map (turn_one n flips) (option_to_list x ++ option_to_list y) ≡ option_to_list (entry_after n flips x) ++ option_to_list (entry_after n flips y)
-both_to_list n flips None y = after_to_list n flips y
-both_to_list n flips (Some e) y = ap (λ l. turn_one n flips e ∷ l) (after_to_list n flips y)
+both_to_list n flips x y = grind (arith, after_to_list)
 
 exchange_off : (x y : Entry) (q : ℕ) → IsOff (option_to_list x ++ option_to_list y) q → IsOff (option_to_list y ++ option_to_list x) q
-exchange_off None None q off = off
-exchange_off None (Some d) q off = off
-exchange_off (Some e) None q off = off
-exchange_off (Some e) (Some d) q off = (off.1.0, (off.0, tt))
+exchange_off x y q off = grind arith
 
 exchange_all : (f : Bool) (men : Placement) (x y : Entry) → AllStand f men (option_to_list x ++ option_to_list y) → AllStand f men (option_to_list y ++ option_to_list x)
-exchange_all f men None None all = all
-exchange_all f men None (Some d) all = all
-exchange_all f men (Some e) None all = all
-exchange_all f men (Some e) (Some d) all = (all.3.0, all.3.1, ((λ same. all.2.0 (sym same)), tt), (all.0, all.1, tt, tt))
+exchange_all f men x y all = grind arith
 
 kings_with : (f : Bool) (men : Placement) (w b : ℕ) (list other : List (Man × ℕ)) → ((q : ℕ) → IsOff list q → IsOff other q) → (AllStand f men list → AllStand f men other)
     → AllStand f men ((king_of White, w) ∷ (king_of Black, b) ∷ list) → AllStand f men ((king_of White, w) ∷ (king_of Black, b) ∷ other)
@@ -87,23 +80,10 @@ kings_with f men w b list other off all h = (h.0, h.1, (h.2.0, off w h.2.1), (h.
 -- two entries, in one order or, where the men are equal, the other
 pub ordered : (f : Bool) (men : Placement) (w b : ℕ) (x y first second : Entry) → IsOrdered x y first second
     → AllStand f men ((king_of White, w) ∷ (king_of Black, b) ∷ (option_to_list x ++ option_to_list y)) → AllStand f men ((king_of White, w) ∷ (king_of Black, b) ∷ (option_to_list first ++ option_to_list second))
-ordered f men w b x y first second (inl h) all =
-    subst (λ (e : Entry). AllStand f men ((king_of White, w) ∷ (king_of Black, b) ∷ (option_to_list e ++ option_to_list second))) (sym h.0)
-    (subst (λ (e : Entry). AllStand f men ((king_of White, w) ∷ (king_of Black, b) ∷ (option_to_list x ++ option_to_list e))) (sym h.1) all)
-ordered f men w b x y first second (inr h) all =
-    subst (λ (e : Entry). AllStand f men ((king_of White, w) ∷ (king_of Black, b) ∷ (option_to_list e ++ option_to_list second))) (sym h.0)
-    (subst (λ (e : Entry). AllStand f men ((king_of White, w) ∷ (king_of Black, b) ∷ (option_to_list y ++ option_to_list e))) (sym h.1)
-    (kings_with f men w b (option_to_list x ++ option_to_list y) (option_to_list y ++ option_to_list x) (exchange_off x y) (exchange_all f men x y) all))
+ordered f men w b x y first second h all = grind (arith, kings_with, exchange_off, exchange_all)
 
 pub ordered_men : (x y first second : Entry) → IsOrdered x y first second → men_among (option_to_list first ++ option_to_list second) ≡ men_among (option_to_list x ++ option_to_list y)
-ordered_men x y first second (inl h) = ap (λ (e : Entry). men_among (option_to_list e ++ option_to_list second)) h.0 ∙ ap (λ (e : Entry). men_among (option_to_list x ++ option_to_list e)) h.1
-ordered_men x y first second (inr h) =
-    ap (λ (e : Entry). men_among (option_to_list e ++ option_to_list second)) h.0
-    ∙ ap (λ (e : Entry). men_among (option_to_list y ++ option_to_list e)) h.1
-    ∙ map-append (λ e. e.0) (option_to_list y) (option_to_list x)
-    ∙ ap (λ l. l ++ men_among (option_to_list x)) (sym h.2)
-    ∙ ap (λ l. men_among (option_to_list x) ++ l) h.2
-    ∙ sym (map-append (λ e. e.0) (option_to_list x) (option_to_list y))
+ordered_men x y first second h = grind arith
 
 pub turned_men : (n : ℕ) (flips : Bool) (list : List (Man × ℕ)) → men_among (map (turn_one n flips) list) ≡ men_among list
 turned_men n flips [] = refl
@@ -142,10 +122,7 @@ all_there men (e ∷ list) on_board counted all =
     (first_back men e list all.1 rest.0, (sym (ap (λ m. placement.get m e.1) rest.0) ∙ get-remove_same men e.1 e.1 refl, rest.1))
   where
     stays : (s : ℕ) (other : Man) → Stands (placement.remove men e.1) s other → s < 64
-    stays s other stands = elim (cases_eq s e.1) [
-      | inl same ↦ absurd (let none = sym (get-remove_same men e.1 s same) ∙ stands in cc)
-      | inr apart ↦ on_board s other (sym (get-remove_other men e.1 s apart) ∙ stands)
-    ]
+    stays s other stands = grind (arith, cases_eq, get-remove_same, get-remove_other)
 
 -- no equal man behind stands on a lesser square
 abbrev pub AreSorted : List (Man × ℕ) → Type 0
@@ -169,14 +146,7 @@ picks_sorted pawns (man ∷ men) (d ∷ ds) are apart sorted = (
 )
 
 sorted_two : (men : Placement) (x y : Entry) → AllStand false men (option_to_list x ++ option_to_list y) → IsInOrder x y → AreSorted (option_to_list x ++ option_to_list y)
-sorted_two men None None all order = tt
-sorted_two men None (Some d) all order = (all.0, (λ s h. absurd h), tt)
-sorted_two men (Some e) None all order = (all.0, (λ s h. absurd h), tt)
-sorted_two men (Some e) (Some d) all order = (all.0, (λ s h. of_one s h), (all.3.0, (λ s h. absurd h), tt))
-  where
-    of_one : (s : ℕ) → IsListed (d ∷ []) e.0 s → e.1 ≤ s
-    of_one s (inl h) = let le = order (sym h.0) in let is = h.1 in omega arith
-    of_one s (inr h) = absurd h
+sorted_two men x y all order = grind arith
 
 -- men who stand, each on a square of his own
 pub all_apart : (flips : Bool) (men : Placement) (list : List (Man × ℕ)) → AllStand flips men list → AllApart list
@@ -189,14 +159,7 @@ listed_there men (e ∷ list) man s all (inl h) = subst (λ m. Stands men s m) h
 listed_there men (e ∷ list) man s all (inr h) = listed_there men list man s all.3 h
 
 pub sorted_rest : (p : Setup) (stand : Stand) → IsAdmissible p → AllStand false p.men (list_of stand) → IsInOrder stand.next stand.last → AreSorted (rest_of stand)
-sorted_rest p stand ok all order = (
-  all.3.0,
-  (λ s h.
-      let there = ok.kings.black_there in
-      let one = there.only stand.black all.3.1 in
-      let other = there.only s (listed_there p.men (option_to_list stand.next ++ option_to_list stand.last) (king_of Black) s all.3.3 h) in omega arith),
-  sorted_two p.men stand.next stand.last all.3.3 order,
-)
+sorted_rest p stand ok all order = grind (arith, listed_there, sorted_two)
 
 -- what the turn makes of a position, with the men of the class where it takes them
 pub record ImageStood (c : ℕ) (p : Setup) (t : ℕ) (after : Stand) : Type 0 where
@@ -229,27 +192,16 @@ image_stood facts c p t before after c_in ok settled is_of keeps stood is =
     }
 
 digit_of : (p : Setup) (w : ℕ) (e : Man × ℕ) → IsAdmissible p → Stands p.men w (king_of White) → Stands p.men e.1 e.0 → e.1 ≢ w → HasDigit (Some e)
-digit_of p w e ok white stands apart = (
-  (λ king. let there = ok.kings.white_there in apart (there.only e.1 (subst (Stands p.men e.1) king stands) ∙ sym (there.only w white))),
-  ok.pawns e.1 e.0 stands,
-)
+digit_of p w e ok white stands apart = grind arith
 
 digits_of : (p : Setup) (w : ℕ) (x y : Entry) → IsAdmissible p → Stands p.men w (king_of White) → AllStand false p.men (option_to_list x ++ option_to_list y) → IsOff (option_to_list x ++ option_to_list y) w → HasDigit x × HasDigit y
-digits_of p w None None ok white all off = (tt, tt)
-digits_of p w None (Some d) ok white all off = (tt, digit_of p w d ok white all.1 off.0)
-digits_of p w (Some e) None ok white all off = (digit_of p w e ok white all.1 off.0, tt)
-digits_of p w (Some e) (Some d) ok white all off = (digit_of p w e ok white all.1 off.0, digit_of p w d ok white all.3.1 off.1.0)
+digits_of p w x y ok white all off = grind (arith, digit_of)
 
 pub digits_after : (c : ℕ) (p : Setup) (t : ℕ) (after : Stand) → ImageStood c p t after → HasDigit after.next × HasDigit after.last
 digits_after c p t after i = digits_of i.image after.white after.next after.last i.admissible i.stood.all.1 i.stood.all.3.3 i.stood.all.2.1
 
 goes_from : (pawns : Bool) (high number : ℕ) (men : List Man) (list : List (Man × ℕ)) → AreApart list → AreSorted list → Tells pawns number men high list → Goes pawns high (men_of list) men number
-goes_from pawns high number men list apart sorted tells = record {
-  digits = tells.digits;
-  are = tells.are;
-  picks = subst (λ l. Picks pawns (men_of l) men tells.digits) (sym tells.list_is) (picks_sorted pawns men tells.digits tells.are (subst AreApart tells.list_is apart) (subst AreSorted tells.list_is sorted));
-  is = tells.number_is;
-}
+goes_from pawns high number men list apart sorted tells = grind (arith, men_of, picks_sorted)
 
 same_target : (f : ℕ → ℕ) (o : Option ℕ) → target_digit (option_map f o) ≡ target_digit o
 same_target f o = grind arith

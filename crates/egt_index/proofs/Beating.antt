@@ -93,8 +93,7 @@ stands_after facts p q t s man ok turn stands =
 
 -- the kings of p, as a stand in these colours has them
 pub own_kings : (c : ℕ) (flips : Bool) (stand : Stand) (p : Setup) → AllStand flips p.men (list_of stand) → Stands p.men (cond flips stand.black stand.white) (king_of White) × Stands p.men (cond flips stand.white stand.black) (king_of Black)
-own_kings c true stand p all = (all.3.1, all.1)
-own_kings c false stand p all = (all.1, all.3.1)
+own_kings c flips stand p all = grind arith
 
 pair_of : (flips : Bool) (w b : ℕ) → cond {A = ℕ} flips (64 * b + w) (64 * w + b) ≡ 64 * cond flips b w + cond flips w b
 pair_of flips w b = grind arith

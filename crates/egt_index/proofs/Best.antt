@@ -16,13 +16,7 @@ use Rattle.egt_index.proofs.Kings.{king_turn}
 
 -- the board without the white king
 pub fits_rest : (p : Setup) (s : ℕ) → IsAdmissible p → IsKingOn p.men White s → Fits (placement.remove p.men s)
-fits_rest p s ok king = record {
-  on_board = λ t man stands. ok.on_board t man (stands_before p.men s t man stands);
-  pawns = λ t man stands. ok.pawns t man (stands_before p.men s t man stands);
-  no_king = λ t stands.
-      let same = king.only t (stands_before p.men s t (king_of White) stands) in
-      let none = sym (get-remove_same p.men s t same) ∙ stands in cc;
-}
+fits_rest p s ok king = grind (arith, stands_before, get-remove_same)
 
 pub least_king : (p : Setup) (s : ℕ) → IsKingOn p.men White s → Least p.men (king_of White) s
 least_king p s king = record { stands = king.stands; least = λ t lt stands. let same = king.only t stands in omega arith }
@@ -136,8 +130,7 @@ turn_number n false n_in = (n, omega arith, omega arith, not_one)
 turn_number n true n_in = (n + 8, omega arith, omega arith, eq-eqb ((n + 8) / 8) 1 (omega arith))
 
 pub turn_of : (n : ℕ) (flipped : Bool) (p q : Setup) (t : ℕ) → t % 8 ≡ n → eqb (t / 8) 1 ≡ flipped → KeepsPlay n p.men → IsTurnedBy n flipped p q → IsTurn t p q
-turn_of n flipped p q t number flips keeps turned =
-    (subst (λ x. KeepsPlay x p.men) (sym number) keeps, subst (λ x. IsTurnedBy x (eqb (t / 8) 1) p q) (sym number) (subst (λ f. IsTurnedBy n f p q) (sym flips) turned))
+turn_of n flipped p q t number flips keeps turned = grind arith
 
 -- the least code of all sixteen is the index
 pub index_found : Facts → (c : ℕ) (p s : Setup) (code : ℕ) → IsAdmissible s → SettlesTo p s → Best c s 16 (Some code) → IsIndex c p code
@@ -165,12 +158,10 @@ index_there facts c flipped s ok settled is_of best = of_king (king_there flippe
     king_there false = (ok.kings.white, ok.kings.white_there.stands)
 
     keeps : (pawns : Bool) → has_pawns m ≡ pawns → (n : ℕ) → n < symmetries pawns → KeepsPlay n s.men × (n < 8)
-    keeps true is n n_in = (inr n_in, omega arith)
-    keeps false is n n_in = (inl (no_pawns c flipped s ok is_of is), n_in)
+    keeps pawns is n n_in = grind (arith, no_pawns)
 
     becomes : (flipped : Bool) → turned_man flipped (king_of (cond flipped Black White)) ≡ king_of White
-    becomes true = refl
-    becomes false = refl
+    becomes flipped = grind arith
 
     cancels : (flipped : Bool) → differ flipped flipped ≡ false
     cancels flipped = grind arith
@@ -205,8 +196,7 @@ best_after facts c p k None (Some code) best after = best_more facts c p k None 
 best_after facts c p k (Some least) (Some code) best after = best_more facts c p k (Some least) after.image code (min least code) best after.turned after.coded (inr (least, refl, refl))
 
 pub best_at_last : Facts → (c : ℕ) (flipped : Bool) (s : Setup) (o : Option ℕ) → IsAdmissible s → IsSettled s → IsOf c flipped s → Best c s 16 o → IsSome o
-best_at_last facts c flipped s None ok settled is_of best = absurd (index_there facts c flipped s ok settled is_of best)
-best_at_last facts c flipped s (Some code) ok settled is_of best = refl
+best_at_last facts c flipped s o ok settled is_of best = grind (arith, index_there)
 
 -- the king that a turn makes white
 pub king_after : Facts → (p q : Setup) (t k s : ℕ) → IsAdmissible p → IsTurn t p q → Stands p.men k (king_of (cond (eqb (t / 8) 1) Black White)) → s ≡ turned_square (t % 8) (eqb (t / 8) 1) k → IsKingOn q.men White s

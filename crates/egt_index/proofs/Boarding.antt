@@ -14,8 +14,7 @@ off_all (d ∷ list) e apart = ((λ same. off d list e apart.0 (sym same)), off_
 
 -- an entry's square is free before it is put there
 pub entry_free : (list : List (Man × ℕ)) (entry : Entry) → AllApart (list ++ option_to_list entry) → IfSome entry (λ e. IsFree (men_of list) e.1)
-entry_free list None apart = tt
-entry_free list (Some e) apart = free_of list e.1 (off_all list e apart)
+entry_free list entry apart = grind (arith, free_of, off_all)
 
 pub entry_put : (list : List (Man × ℕ)) (entry : Entry) → AllApart (list ++ option_to_list entry) → with_entry (men_of list) entry ≡ men_of (list ++ option_to_list entry)
 entry_put list None apart = ap men_of (sym (with_none list))
@@ -38,5 +37,4 @@ pub one_at_most : (entry : Entry) → length (option_to_list entry) ≤ 1
 one_at_most entry = grind arith
 
 pub two_at_most : (x y : Entry) → length (option_to_list x ++ option_to_list y) ≤ 2
-two_at_most None y = let one = one_at_most y in omega arith
-two_at_most (Some e) y = let one = one_at_most y in omega arith
+two_at_most x y = grind (arith, one_at_most)

@@ -1,5 +1,5 @@
 -- What the men of a position without a target tell of it.
-use Rattle.std.proofs.Common.{◌≡◌, ℕ, None, Option, IfSome, false, Bool, refl, sym, ap, inl, subst}
+use Rattle.std.proofs.Common.{arith, ◌≡◌, ℕ, None, Option, IfSome, false, Bool, refl, sym, ap, inl, subst}
 use Rattle.egt_index.specs.Prelude.{option_map, is_some, Man, Side, ahead, HasPawnBeside, other_side, IsSettled}
 use Rattle.egt_index.specs.Prelude.{SettlesTo, Setup, IsAdmissible, IsOf, AreNonKings, Facts, Entry, HasStand, Stood}
 use Rattle.egt_index.specs.Prelude.{list_of, Stand}
@@ -15,8 +15,7 @@ settles_to_itself p none = inl (no_target p none, refl)
 -- the men found are those beside the kings
 pub found_beside : (p : Setup) (one other : Entry) (first second : Option Man) → first ≡ option_map (λ e. e.0) one → second ≡ option_map (λ e. e.0) other
     → AreNonKings p (option_map (λ e. e.0) one) (option_map (λ e. e.0) other) → AreNonKings p first second
-found_beside p one other first second first_is second_is is =
-    subst (λ (o : Option Man). AreNonKings p o second) (sym first_is) (subst (λ (o : Option Man). AreNonKings p (option_map (λ e. e.0) one) o) (sym second_is) is)
+found_beside p one other first second first_is second_is is = grind arith
 
 -- they stand as in the class
 pub stand_of_men : Facts → (c : ℕ) (flipped told : Bool) (p : Setup) (stand : Stand) (side : Side) → told ≡ flipped → IsAdmissible p → IsOf c flipped p → Stood c flipped p.men (list_of stand) → p.side ≡ side → p.target ≡ None

@@ -16,17 +16,10 @@ use Rattle.egt_index.proofs.Picking.{picks_all, picks_least}
 use Rattle.egt_index.proofs.Past.{past}
 
 pub stands_before : (men : Placement) (q s : ℕ) (man : Man) → Stands (placement.remove men q) s man → Stands men s man
-stands_before men q s man stands = elim (cases_eq s q) [
-  | inl same ↦ absurd (let none = sym (get-remove_same men q s same) ∙ stands in cc)
-  | inr apart ↦ sym (get-remove_other men q s apart) ∙ stands
-]
+stands_before men q s man stands = grind (arith, cases_eq, get-remove_same, get-remove_other)
 
 pub Fits-rest : (men : Placement) (q : ℕ) → Fits men → Fits (placement.remove men q)
-Fits-rest men q fits = record {
-  on_board = λ s man stands. fits.on_board s man (stands_before men q s man stands);
-  pawns = λ s man stands. fits.pawns s man (stands_before men q s man stands);
-  no_king = λ s stands. fits.no_king s (stands_before men q s (king_of White) stands);
-}
+Fits-rest men q fits = grind (arith, stands_before)
 
 -- any man but the white king has a digit wherever it may stand
 pub digit_exists : (pawns : Bool) (man : Man) (s : ℕ) → s < 64 → MayStand man s → (man ≡ king_of White → ⊥) → DigitOf pawns man s

@@ -34,8 +34,7 @@ target_fits : (target : Option ℕ) → target_digit target < 2
 target_fits target = grind arith
 
 pub last_digits : (b : Bool) (side : Side) (target : Option ℕ) → AreDigits (2 ∷ cond b (2 ∷ []) []) (side_number side ∷ cond b (target_digit target ∷ []) [])
-last_digits true side target = (side_fits side, (target_fits target, tt))
-last_digits false side target = (side_fits side, tt)
+last_digits b side target = grind (arith, side_fits, target_fits)
 
 pub all_digits : (m : Material) (digits : List ℕ) (p : Setup) → AreDigits (men_bases m) digits → AreDigits (bases m) (digits ++ side_number p.side ∷ target_digits m p.target)
 all_digits m digits p are = AreDigits-append (men_bases m) digits _ _ are (last_digits (has_target m) p.side p.target)

@@ -57,22 +57,11 @@ all_still false = refl
 
 with_told : (pawns flips : Bool) (t : ℕ) → is_with pawns flips t ≡ true → IsTurnWith pawns flips t
 unfolding is_with
-with_told pawns flips t h =
-    let both = and_parts _ _ h in
-    let more = and_parts _ _ both.1 in
-    record { below = ltb-true t 16 both.0; flips_is = told (eqb (t / 8) 1) flips more.0; keeps = ltb-true _ _ more.1 }
-  where
-    told : (a b : Bool) → cond a b (not b) ≡ true → a ≡ b
-    told a b h = grind arith
+with_told pawns flips t h = grind (arith, ltb-true, not)
 
 told_with : (pawns flips : Bool) (t : ℕ) → IsTurnWith pawns flips t → is_with pawns flips t ≡ true
 unfolding is_with
-told_with pawns flips t h = and_from _ _ (lt-ltb t 16 h.below) (and_from _ _ (same (eqb (t / 8) 1) flips h.flips_is) (lt-ltb _ _ h.keeps))
-  where
-    same : (a b : Bool) → a ≡ b → cond a b (not b) ≡ true
-    same true true e = refl
-    same true false e = sym e
-    same a b e = grind arith
+told_with pawns flips t h = grind (arith, and_from, lt-ltb, not)
 
 away_told : (pawns flips : Bool) (king t d : ℕ) → is_away pawns flips king t ≡ true → d < king_base pawns → king_square pawns d ≢ turned_square (t % 8) flips king
 unfolding is_away
@@ -113,16 +102,13 @@ turns_told pawns flips king first last second right seconds = record {
     more = and_parts _ _ both.1
 
     of_second : ((first ≡ last) × (second ≡ None)) ⊎ (second ≡ Some last) → IfSome second (IsTurnWith pawns flips)
-    of_second (inl h) = subst (λ o. IfSome o (IsTurnWith pawns flips)) (sym h.1) tt
-    of_second (inr h) = subst (λ o. IfSome o (IsTurnWith pawns flips)) (sym h) (with_told pawns flips last more.0)
+    of_second h = grind (arith, with_told)
 
     of_brought : ((first ≡ last) × (second ≡ None)) ⊎ (second ≡ Some last) → IfSome second (BringsHome pawns flips king)
-    of_brought (inl h) = subst (λ o. IfSome o (BringsHome pawns flips king)) (sym h.1) tt
-    of_brought (inr h) = subst (λ o. IfSome o (BringsHome pawns flips king)) (sym h) (brought_told pawns flips king last brought.1)
+    of_brought h = grind (arith, brought_told)
 
     not_last : ((first ≡ last) × (second ≡ None)) ⊎ (second ≡ Some last) → (t : ℕ) → t ≢ first → IfSome second (λ u. t ≢ u) → t ≡ last → ⊥
-    not_last (inl h) t apart others is = apart (is ∙ sym h.0)
-    not_last (inr h) t apart others is = subst (λ o. IfSome o (λ u. t ≢ u)) h others is
+    not_last h t apart others is = grind arith
 
 -- those of the tables
 pub home_told : (pawns flips : Bool) (king at first last : ℕ) (second : Option ℕ) → king < 64 → at ≡ cond pawns 128 0 + cond flips 64 0 + king → first ≡ slice_index FIRST at → last ≡ slice_index LAST at

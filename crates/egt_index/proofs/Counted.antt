@@ -28,33 +28,16 @@ man_told man other same =
     same_man man other (side_told man.side other.side sides) (sym (kind_back man.kind) ∙ ap kind_at kinds ∙ kind_back other.kind)
   where
     same_man : (man other : Man) → man.side ≡ other.side → man.kind ≡ other.kind → man ≡ other
-    same_man man other side kind = ap (λ x. man_from x man.kind) side ∙ ap (λ x. man_from other.side x) kind
-      where
-        man_from : Side → Kind → Man
-        man_from side kind = record { side = side; kind = kind }
+    same_man man other side kind = grind arith
 
 here_one : (men : Placement) (s : ℕ) (man : Man) → Stands men s man → stands_here man (placement.get men s) ≡ 1
 here_one men s man stands = ap (stands_here man) stands ∙ ap (λ b. cond b 1 0) (eq-eqb (man_number man) (man_number man) refl)
 
 here_zero : (o : Option Man) (man : Man) → (o ≡ Some man → ⊥) → stands_here man o ≡ 0
-here_zero None man not = refl
-here_zero (Some other) man not = elim (eqb_tells (man_number man) (man_number other)) [
-  | inl h ↦ absurd (not (ap Some (sym (man_told man other h.1))))
-  | inr h ↦ ap (λ b. cond b 1 0) h.0
-]
+here_zero o man not = grind (arith, eqb_tells, man_told)
 
 pub told_here : (men : Placement) (s : ℕ) (man : Man) → Stands men s man ⊎ (Stands men s man → ⊥)
-told_here men s man = of_option (placement.get men s)
-  where
-    of_option : (o : Option Man) → (o ≡ Some man) ⊎ (o ≡ Some man → ⊥)
-    of_option None = inr (λ h. cc)
-    of_option (Some other) = elim (cases_eq (man_number other) (man_number man)) [
-      | inl h ↦ inl (ap Some (man_told other man h))
-      | inr h ↦ inr (λ e. h (ap man_number (some_same e)))
-    ]
-      where
-        some_same : {a b : Man} → Some a ≡ Some b → a ≡ b
-        some_same e = cc
+told_here men s man = grind (arith, cases_eq, man_told)
 
 pub least_below : (men : Placement) (man : Man) (n : ℕ) → ((s : ℕ) × (s < n) × Least men man s) ⊎ ((t : ℕ) → t < n → Stands men t man → ⊥)
 least_below men man zero = inr (λ t t_in h. omega arith)

@@ -18,47 +18,14 @@ flag passed = cond passed 1 0
 
 -- where a target may have been passed, there is a pawn each
 pub has_pawns_list : (c : ℕ) (number : ℕ) (list : List (Man × ℕ)) → has_target (material_of c) ≡ true → SpellsMen (material_of c) number list → HasPawns list
-has_pawns_list c number list has spells = of_digits spells.digits are list_is
-  where
-    same : material_of c ≡ a_pawn_each
-    same = one_pawn_each c has
-
-    are : AreDigits (men_bases a_pawn_each) spells.digits
-    are = subst (λ m. AreDigits (men_bases m) spells.digits) same spells.are
-
-    list_is : list ≡ men_at a_pawn_each spells.digits
-    list_is = spells.list_is ∙ ap (λ m. men_at m spells.digits) same
-
-    of_digits : (digits : List ℕ) → AreDigits (men_bases a_pawn_each) digits → list ≡ men_at a_pawn_each digits → HasPawns list
-    of_digits [] are is = absurd are
-    of_digits (a ∷ []) are is = absurd are.1
-    of_digits (a ∷ b ∷ []) are is = absurd are.1.1
-    of_digits (a ∷ b ∷ x ∷ []) are is = absurd are.1.1.1
-    of_digits (a ∷ b ∷ x ∷ y ∷ z ∷ rest) are is = absurd are.1.1.1.1
-    of_digits (a ∷ b ∷ x ∷ y ∷ []) are is = record {
-      white_king = _;
-      black_king = b;
-      white = x + 8;
-      black = y + 8;
-      white_in = let lt = are.1.1.0 in (omega arith, omega arith);
-      black_in = let lt = are.1.1.1.0 in (omega arith, omega arith);
-      list_is = is;
-    }
+has_pawns_list c number list has spells = grind (arith, one_pawn_each)
 
 told_digit : (passed : Bool) (side : Side) (list : List (Man × ℕ)) (target : Option ℕ) → IsTold passed side list target → target_digit target ≡ flag passed
 unfolding flag
-told_digit false side list target told = ap target_digit told
-told_digit passed side list target told = grind arith
+told_digit passed side list target told = grind (arith, target_digit)
 
 told_has : (m : Material) (passed : Bool) (side : Side) (list : List (Man × ℕ)) (target : Option ℕ) → (has_target m ≡ false → passed ≡ false) → IsTold passed side list target → HasTargetDigit m target
-told_has m passed side list target never told = of_test (has_target m) refl
-  where
-    none : (passed : Bool) → passed ≡ false → IsTold passed side list target → target ≡ None
-    none passed e told = grind arith
-
-    of_test : (b : Bool) → has_target m ≡ b → HasTargetDigit m target
-    of_test true is = inl is
-    of_test false is = inr (none passed (never is) told)
+told_has m passed side list target never told = grind arith
 
 -- the number that digits of men and the ends make
 pub code_of_parts : (m : Material) (digits : List ℕ) (side : Side) (d : ℕ) → AreDigits (men_bases m) digits
@@ -93,8 +60,7 @@ unfolding flag
 flag_fits passed = grind arith
 
 ends_fit : (b : Bool) (side : Side) (passed : Bool) → AreDigits (2 ∷ cond b (2 ∷ []) []) (side_number side ∷ cond b (flag passed ∷ []) [])
-ends_fit true side passed = ((last_digits true side None).0, (flag_fits passed, tt))
-ends_fit false side passed = ((last_digits false side None).0, tt)
+ends_fit b side passed = grind (arith, last_digits, flag_fits)
 
 pub parts_told : (m : Material) (code high : ℕ) (side : Side) (passed : Bool) (p : Setup) → Ends m code high side passed → (s : SpellsBy m code p) → Parts m p s.digits high side passed
 unfolding flag
@@ -141,10 +107,7 @@ spelled_setup c code high side passed list target p ends spells told s = (subst 
     men_is = s.men ∙ ap men_of (sym list_is)
 
     one : has_target m ≡ true → (side : Side) (a b : ℕ) → IsListed list (pawn_of side) a → IsListed list (pawn_of side) b → a ≡ b
-    one has side a b here there =
-        let same = one_pawn_each c has in
-        let is = list_is ∙ ap (λ x. men_at x s.digits) same in
-        one_square s.digits side a b (subst (λ x. AreDigits (men_bases x) s.digits) same s.are_digits) (subst (λ l. IsListed l (pawn_of side) a) is here) (subst (λ l. IsListed l (pawn_of side) b) is there)
+    one has side a b here there = grind (arith, one_pawn_each, one_square)
 
     digits_has : (b : Bool) → has_target m ≡ b → b ≡ true → target_digit p.target ≡ flag passed
     digits_has true is e = heads (subst (λ x. cond x (target_digit p.target ∷ []) [] ≡ cond x (flag passed ∷ []) []) is parts.same_target)

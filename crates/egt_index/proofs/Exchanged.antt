@@ -26,12 +26,10 @@ pair_there c c_in equal = implied (has_equal_sides c) _ equal (passes_below (λ 
 
 -- a man of the one colours is the other man of the others
 here_there : (flips : Bool) (x y : Man) → man_by Colours x ≡ y → turned_man flips x ≡ turned_man (not flips) y
-here_there false x y same = sym (turned_back true x) ∙ ap (man_by Colours) same
-here_there true x y same = same
+here_there flips x y same = grind (arith, turned_back)
 
 there_here : (flips : Bool) (x y : Man) → man_by Colours x ≡ y → turned_man flips y ≡ turned_man (not flips) x
-there_here false x y same = sym same
-there_here true x y same = ap (man_by Colours) (sym same) ∙ turned_back true x
+there_here flips x y same = grind (arith, turned_back)
 
 all_exchanged : (flips : Bool) (men : Placement) (w b : ℕ) (x y : Entry) → is_pair (men_among (option_to_list x ++ option_to_list y)) ≡ true
     → AllStand flips men ((king_of White, w) ∷ (king_of Black, b) ∷ (option_to_list x ++ option_to_list y))
@@ -91,16 +89,7 @@ filled_exchanged stand other next last filled = λ none. last ∙ filled_both st
 -- there no two men beside the kings are equal
 pair_apart : (x y : Entry) → is_pair (men_among (option_to_list x ++ option_to_list y)) ≡ true → men_among (option_to_list (on_square_of x y)) ≡ men_among (option_to_list (on_square_of y x)) → on_square_of y x ≡ on_square_of x y
 unfolding is_pair
-pair_apart None None pair same = refl
-pair_apart None (Some d) pair same = absurd (false≢true pair)
-pair_apart (Some e) None pair same = absurd (false≢true pair)
-pair_apart (Some e) (Some d) pair same = absurd (not_itself e.0 (man_told (man_by Colours e.0) d.0 (eqb-true _ _ pair) ∙ sym (heads same)))
-  where
-    not_itself : (man : Man) → man_by Colours man ≡ man → ⊥
-    not_itself man e = of_side man.side (ap (λ (m : Man). m.side) e)
-      where
-        of_side : (side : Side) → side_by Colours side ≡ side → ⊥
-        of_side side h = grind arith
+pair_apart x y pair same = grind (arith, man_told, eqb-true, heads)
 
 pub one_order : (c : ℕ) (stand : Stand) → c < 36 → has_equal_sides c ≡ true → men_among (list_of stand) ≡ men_in_order (material_of c)
     → men_among (option_to_list (on_square_of stand.next stand.last)) ≡ men_among (option_to_list (on_square_of stand.last stand.next)) → on_square_of stand.last stand.next ≡ on_square_of stand.next stand.last

@@ -18,21 +18,7 @@ code_told c p ok settled is_of = elim (some_or_none_below (λ d. square_of (has_
 ]
 
 in_colours : Facts → (c : ℕ) (p : Setup) → c < 36 → IsAdmissible p → Decided (IsOf c false p)
-in_colours facts c p c_in ok = of_class (facts.classes p ok)
-  where
-    equal : (b : Bool) → has_equal_sides c ≡ b → IsOf c true p → Decided (IsOf c false p)
-    equal true is there = inl (facts.both_flips p c true false c_in is there)
-    equal false is there = inr (λ h. elim (facts.one_flip p c true false c_in there h) [ inl e ↦ false≢true (sym e) | inr t ↦ false≢true (sym is ∙ t) ])
-
-    of_flip : (flipped : Bool) → IsOf c flipped p → Decided (IsOf c false p)
-    of_flip false there = inl there
-    of_flip true there = equal (has_equal_sides c) refl there
-
-    of_class : (d : ℕ) × (flipped : Bool) × (d < 36) × IsOf d flipped p → Decided (IsOf c false p)
-    of_class own = elim (cases_eq own.0 c) [
-      | inl e ↦ of_flip own.1 (subst (λ d. IsOf d own.1 p) e own.3)
-      | inr other ↦ inr (λ h. other (facts.one_class p own.0 c own.1 false own.2 c_in own.3 h))
-    ]
+in_colours facts c p c_in ok = grind (arith, cases_eq)
 
 after_told : Facts → (c : ℕ) (flipped : Bool) (s : Setup) (t : ℕ) → c < 36 → IsAdmissible s → IsSettled s → IsOf c flipped s → (o : Option ℕ) × CodeAfter c s t o
 after_told facts c flipped s t c_in ok settled is_of = of_pawns (has_pawns (material_of c)) refl (cases_eq ((t % 8) / 2) 0)

@@ -7,10 +7,7 @@ use Rattle.std.specs.FinMap as map
 
 -- which squares are free does not hang on which man comes
 free_alike : (men : Placement) (t u : ℕ) (a b : Man) → IsFree (map.insert men t a) u → IsFree (map.insert men t b) u
-free_alike men t u a b free = elim (cases_eq u t) [
-  | inl e ↦ absurd (let there = sym (get-insert_same men t a u e) ∙ free in cc)
-  | inr other ↦ get-insert_other men t b u other ∙ sym (get-insert_other men t a u other) ∙ free
-]
+free_alike men t u a b free = grind (arith, cases_eq, get-insert_same, get-insert_other)
 
 -- a man comes to t: his side attacks a square where it would without him, with a man of the other side on t, or where he does
 module _ (men : Placement) (man : Man) (t to : ℕ) where

@@ -82,9 +82,6 @@ module _ (c : ℕ) (man last : Man) (two : men_beside (material_of c) ≡ man �
           }
         where
           of_list : IsListed (placed (has_pawns m) own_men (d ∷ e ∷ f ∷ g ∷ [])) man s → square_of (has_pawns m) man f ≡ s
-          of_list (inl h) = absurd (no_white (sym h.0))
-          of_list (inr (inl h)) = absurd (no_black (sym h.0))
-          of_list (inr (inr (inl h))) = h.1
           of_list h = grind arith
 
   -- of two codes that is less whose position has the first man on the lesser square, where the kings stand on the same
@@ -115,11 +112,7 @@ module _ (facts : Facts) (c code t : ℕ) (stand : Stand) (p : Setup) (e : Man �
   here = subst (λ f. AllStand f p.men (list_of stand)) plain all
 
   first : (flips : Bool) → AllStand flips p.men (list_of stand) → Stands p.men e.1 (turned_man flips e.0) × (e.1 ≢ stand.black) × (e.1 ≢ stand.white)
-  first flips all = (
-    (subst (λ o. AllStand flips p.men (option_to_list o ++ option_to_list stand.last)) next all.3.3).1,
-    (λ same. (subst (λ o. IsOff (option_to_list o ++ option_to_list stand.last) stand.black) next all.3.2).0 same),
-    (λ same. (subst (λ o. IsOff (option_to_list o ++ option_to_list stand.last) stand.white) next all.2.1).0 same),
-  )
+  first flips all = grind arith
 
   no_white : e.0 ≢ king_of White
   no_white same =
@@ -163,8 +156,7 @@ module _ (facts : Facts) (c code t : ℕ) (stand : Stand) (p : Setup) (e : Man �
 
 -- a turn that takes the first man somewhere, as is known, exchanges no colours
 pub plain_if : (Holds : ℕ → ℕ → Type 0) (o : Entry) (t : ℕ) → IfMoved o t Holds → eqb (t / 8) 1 ≡ false
-plain_if Holds None t moved = absurd moved
-plain_if Holds (Some e) t moved = ne_eqb (t / 8) 1 (λ same. let t_in = moved.0 in omega arith)
+plain_if Holds o t moved = grind (arith, ne_eqb)
 
 -- what the image tells by the first man, where he is known
 pub kept_by : Facts → (c code t : ℕ) (stand : Stand) (p : Setup) (o : Entry) → IfSome o (λ e. IsFirstOfTwo c e.0) → IfSome o (λ e. stand.next ≡ Some e) → IfMoved o t (λ before after. before < after) → IsAdmissible p

@@ -23,14 +23,7 @@ unflipped facts c flipped p c_in is_of equal = facts.both_flips p c flipped fals
 -- where he stands
 found_first : Facts → (c : ℕ) (flipped : Bool) (p : Setup) (man : Man) (s : ℕ) → c < 36 → IsAdmissible p → IsOf c flipped p → tells_colours c (Some man) ≡ true → Stands p.men s man → IsOf c false p
 unfolding tells_colours
-found_first facts c false p man s c_in ok is_of tell stands = is_of
-found_first facts c true p man s c_in ok is_of tell stands = elim (one_of (has_equal_sides c) (eqb (men_in c (other_side man.side) man.kind) 0) (and_parts _ _ tell).1) [
-  | inl equal ↦ facts.both_flips p c true false c_in equal is_of
-  | inr none ↦
-      let some = counted_some p.men man s (ok.on_board s man stands) stands in
-      let are = is_of.men man in
-      let zero : men_in c (other_side man.side) man.kind ≡ 0 = eqb-true _ _ none in absurd (omega arith)
-]
+found_first facts c flipped p man s c_in ok is_of tell stands = grind (arith, one_of, counted_some, eqb-true)
 
 -- by the two men beside the kings
 pub colours_told : Facts → (c : ℕ) (flipped : Bool) (p : Setup) (first : Option Man) (rest : List Man) (one other : Entry) (among : Bool) → c < 36 → IsAdmissible p → IsOf c flipped p → tells_colours c first ≡ true
@@ -42,8 +35,7 @@ colours_told facts c flipped p (Some man) rest one other true c_in ok is_of tell
 ]
   where
     of_entry : (entry : Entry) → StandsBeside p.men entry → Holds entry man → IsOf c false p
-    of_entry None stands holds = absurd holds
-    of_entry (Some e) stands holds = found_first facts c flipped p man e.1 c_in ok is_of tell (stands.0 ∙ ap Some holds)
+    of_entry entry stands holds = grind (arith, found_first)
 colours_told facts c true p first rest one other false c_in ok is_of tell are beside test = is_of
 colours_told facts c false p first rest one other false c_in ok is_of tell are beside test =
     absurd (false≢true (test.1 (among_own c p ok.kings.white ok.kings.black first rest one other are is_of (kings_on false p White Black ok.kings.white ok.kings.black ok refl refl ok.kings.white_there ok.kings.black_there) beside)))

@@ -27,8 +27,4 @@ code_made c p s high number code ok settled is_of king below is goes coded =
     none_before = omega arith
 
     same : number_of (bases m) ((high ∷ goes.digits) ++ last_by m p) ≡ code
-    same =
-        number_append (men_bases m) (high ∷ goes.digits) (ends_by m) (last_by m p) 0 (below, goes.are)
-        ∙ ap (λ h. number_from (number_from h (map (base_of (has_pawns m)) (king_of Black ∷ men_beside m)) goes.digits) (ends_by m) (last_by m p)) none_before
-        ∙ ap (λ n. number_from n (ends_by m) (last_by m p)) (sym goes.is)
-        ∙ sym coded
+    same = grind (arith, number_append, ends_by, last_by)

@@ -1,5 +1,5 @@
 -- The men of a position on the squares that its stand or its frame tells.
-use Rattle.std.proofs.Common.{◌≡◌, ℕ, Bool, false, sym, subst, ◌↔◌}
+use Rattle.std.proofs.Common.{arith, ◌≡◌, ℕ, Bool, false, sym, subst, ◌↔◌}
 use Rattle.egt_index.specs.Prelude.{Side, men_of, Placement, IsFree, Setup, AreCounted, HasStand, IsOff, list_of, Stand}
 use Rattle.egt_index.proofs.After.{all_there}
 use Rattle.egt_index.proofs.Setups.{free_of, off_of}
@@ -11,7 +11,4 @@ module _ (c : ℕ) (stand : Stand) (side : Side) (passed : Bool) (p : Setup) (ha
   men_are = (all_there p.men (list_of stand) has.admissible.on_board (subst (AreCounted p.men) (sym has.stood.are) (counted_of c p has.is_of)) has.stood.all).0
 
   pub free_off : (t : ℕ) → IsFree p.men t ↔ IsOff (list_of stand) t
-  free_off t = (
-    λ free. off_of (list_of stand) t (subst (λ (men : Placement). IsFree men t) men_are free),
-    λ off. subst (λ (men : Placement). IsFree men t) (sym men_are) (free_of (list_of stand) t off),
-  )
+  free_off t = grind (arith, off_of, men_are, free_of)

@@ -12,10 +12,7 @@ use Rattle.egt_board.proofs.Lists.{len-men_of}
 
 -- the last of one or two men, or of none
 pub last_beside : (first second : Option Man) (men : List Man) → option_to_list first ++ option_to_list second ≡ men → (first ≡ None → second ≡ None) → last_of men ≡ second
-last_beside None None men are from = ap last_of (sym are)
-last_beside None (Some b) men are from = absurd (let none = from refl in cc)
-last_beside (Some a) None men are from = ap last_of (sym are)
-last_beside (Some a) (Some b) men are from = ap last_of (sym are)
+last_beside first second men are from = grind (arith, last_of)
 
 -- where there is no last man there is no entry of one
 no_entry : (pawns : Bool) (n high : ℕ) (man : Option Man) (last : Entry) → man ≡ None → Tells pawns n (option_to_list man) high (option_to_list last) → last ≡ None
@@ -45,11 +42,7 @@ with_none : (next : Entry) → option_to_list next ++ [] ≡ option_to_list next
 with_none next = grind arith
 
 pub list_before : (stand : Stand) → stand.last ≡ None → list_of stand ≡ before_last stand
-list_before stand none =
-    ap (λ (last : Entry). kings (option_to_list stand.next ++ option_to_list last)) none ∙ ap kings (with_none stand.next)
-  where
-    kings : List (Man × ℕ) → List (Man × ℕ)
-    kings list = (king_of White, stand.white) ∷ (king_of Black, stand.black) ∷ list
+list_before stand none = grind (arith, with_none)
 
 -- no more than three men
 pub few_before : (stand : Stand) → stand.last ≡ None → map.len (men_of (list_of stand)) < 4
@@ -66,8 +59,7 @@ apart_all stand last none apart = (
 )
   where
     of_last : (last : Entry) → AllApart (list_of (with_last stand last)) → IfSome last (λ e. IsOff (before_last stand) e.1)
-    of_last None apart = tt
-    of_last (Some e) apart = off_all (before_last stand) e apart
+    of_last last apart = grind (arith, off_all, before_last)
 
 off_pushed : (list : List (Man × ℕ)) (e d : Man × ℕ) → IsOff list d.1 → e.1 ≢ d.1 → IsOff (list ++ e ∷ []) d.1
 off_pushed [] e d off other = (other, tt)
@@ -79,14 +71,7 @@ apart_pushed (d ∷ list) e apart off = (off_pushed list e d apart.0 (λ same. o
 
 -- and where they do, and his is free, he does
 pub all_apart : (stand : Stand) (last : Entry) → stand.last ≡ None → AllApart (list_of stand) → IfSome last (λ e. IsOff (before_last stand) e.1) → AllApart (list_of (with_last stand last))
-all_apart stand last none apart off = of_last last off
-  where
-    before : AllApart (before_last stand)
-    before = subst AllApart (list_before stand none) apart
-
-    of_last : (last : Entry) → IfSome last (λ e. IsOff (before_last stand) e.1) → AllApart (list_of (with_last stand last))
-    of_last None off = subst AllApart (sym (list_before (with_last stand None) refl)) before
-    of_last (Some e) off = apart_pushed (before_last stand) e before off
+all_apart stand last none apart off = grind (arith, before_last, list_before, apart_pushed)
 
 -- the board with the last man
 pub board_with : (stand : Stand) (last : Entry) → stand.last ≡ None → AllApart (list_of (with_last stand last)) → with_entry (men_of (list_of stand)) last ≡ men_of (list_of (with_last stand last))

@@ -13,8 +13,7 @@ pub of_targets : {A : Type 0} (c : ℕ) → (has_target (material_of c) ≡ fals
 of_targets {A = A} c none some = of (has_target (material_of c)) refl
   where
     of : (b : Bool) → has_target (material_of c) ≡ b → A
-    of false is = none is
-    of true is = some is
+    of b is = grind arith
 
 -- ---- how many numbers have no target
 
@@ -67,10 +66,7 @@ pub code_low : (c n : ℕ) → has_target (material_of c) ≡ true → n < half_
 code_low c n has lt = code_targets c n has ∙ ap (λ b. cond {A = ℕ} b (2 * n) (2 * (n - half_of c) + 1)) (lt-ltb n (half_of c) lt)
 
 pub code_high : (c n : ℕ) → has_target (material_of c) ≡ true → half_of c ≤ n → code_of c n ≡ 2 * (n - half_of c) + 1
-code_high c n has ge = code_targets c n has ∙ not_less n (half_of c) ge (2 * n) (2 * (n - half_of c) + 1)
-  where
-    not_less : (n h : ℕ) → h ≤ n → (a b : ℕ) → cond (nat_lt n h) a b ≡ b
-    not_less n h ge a b = grind (arith, nat_tests)
+code_high c n has ge = grind (arith, code_targets)
 
 pub number_plain : (c code : ℕ) → has_target (material_of c) ≡ false → number_of c code ≡ code
 unfolding number_of
@@ -146,8 +142,7 @@ unfolding places
 places_of_none c none = ap digits_at none
 
 pub digits_some : (o : Option Man) → 0 < digits_at o
-digits_some None = omega arith
-digits_some (Some man) = some_digits man.kind
+digits_some o = grind (arith, some_digits)
 
 pub places_some : (c : ℕ) → 0 < places c
 unfolding places
@@ -163,10 +158,7 @@ whole_numbers c c_in = eqb-true (size_of c % (2 * places c)) 0 (passes_below (λ
 
 -- fronts and shelves, by how many fronts there are
 pub front_low : (c front fronts : ℕ) → fronts * (2 * places c) ≡ half_of c → front < fronts → (front + 1) * (2 * places c) ≤ half_of c
-front_low c front fronts all lt = let le = mul-le-mul_right (2 * places c) (above front fronts lt) in omega arith
-  where
-    above : (a b : ℕ) → a < b → a + 1 ≤ b
-    above a b lt = omega arith
+front_low c front fronts all lt = grind (arith, places)
 
 pub front_past : (c front fronts : ℕ) → fronts * (2 * places c) ≡ half_of c → fronts ≤ front → (front + 1) * (2 * places c) ≤ half_of c → ⊥
 front_past c front fronts all ge within = let le = mul-le-mul_right (2 * places c) ge in let some = places_some c in omega arith
@@ -207,8 +199,7 @@ module _ (passed : Bool) (c shelf high : ℕ) (at : IsShelfBehind passed c shelf
       ap (code_of c) same ∙ (omega arith)
 
   plain : (passed : Bool) → passed ≡ false → IsShelfBehind passed c shelf high → has_target (material_of c) ≡ false → code_of c number ≡ low
-  plain true e at none = absurd (false≢true (sym e))
-  plain false e at none = let first = at.first in let is = low_is in code_plain c number none ∙ (omega arith)
+  plain passed e h none = grind (arith, low_is, code_plain)
 
   pub ends_behind : Ends (material_of c) (code_of c number) (high * places c + k) side passed
   ends_behind = record {

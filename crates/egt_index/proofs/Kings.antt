@@ -14,8 +14,7 @@ some_passes p zero h = absurd (false≢true h)
 some_passes p (suc n) h = of_test (p n) refl h (λ h. some_passes p n h)
   where
     of_test : (b : Bool) → p n ≡ b → (b || some_below p n) ≡ true → (some_below p n ≡ true → (k : ℕ) × (k < n) × (p k ≡ true)) → (k : ℕ) × (k < suc n) × (p k ≡ true)
-    of_test true is h rest = (n, omega arith, is)
-    of_test false is h rest = let found = rest h in let lt = found.1 in (found.0, omega arith, found.2)
+    of_test b is h rest = grind arith
 
 -- the square has a digit
 unfoldable pub has_digit : Bool → ℕ → Bool

@@ -74,21 +74,10 @@ least_of_two facts c p flips u v (Some a) (Some b) u_in v_in first second none =
 
 -- a symmetry among those of the class keeps play, and no other does
 pub keeps_play : (c : ℕ) (flips : Bool) (p : Setup) (n : ℕ) → IsAdmissible p → IsOf c flips p → n < symmetries (has_pawns (material_of c)) → KeepsPlay n p.men
-keeps_play c flips p n ok is_of n_in = of_pawns (has_pawns (material_of c)) refl n_in
-  where
-    of_pawns : (pawns : Bool) → has_pawns (material_of c) ≡ pawns → n < symmetries pawns → KeepsPlay n p.men
-    of_pawns true is lt = inr lt
-    of_pawns false is lt = inl (no_pawns c flips p ok is_of is)
+keeps_play c flips p n ok is_of n_in = grind (arith, no_pawns)
 
 pub kept : (c : ℕ) (flips : Bool) (p : Setup) (n : ℕ) → n < 8 → IsOf c flips p → KeepsPlay n p.men → n < symmetries (has_pawns (material_of c))
-kept c flips p n n_in is_of keeps = of_pawns (has_pawns (material_of c)) refl
-  where
-    of_pawns : (pawns : Bool) → has_pawns (material_of c) ≡ pawns → n < symmetries pawns
-    of_pawns false is = n_in
-    of_pawns true is = elim keeps [
-      | inl none ↦ absurd (pawns_there c flips p is_of is none)
-      | inr lt ↦ lt
-    ]
+kept c flips p n n_in is_of keeps = grind (arith, pawns_there)
 
 pub king_is : (flips : Bool) → turned_man flips (king_of White) ≡ king_of (cond flips Black White)
 king_is flips = grind arith
@@ -149,13 +138,7 @@ best_of_both c p a b straight exchanged = of_codes a b straight exchanged
         ]
 
 lesser_either_way : (a b : Option ℕ) → lesser a b ≡ lesser b a
-lesser_either_way None None = refl
-lesser_either_way None (Some b) = refl
-lesser_either_way (Some a) None = refl
-lesser_either_way (Some a) (Some b) = ap Some (either a b)
-  where
-    either : (a b : ℕ) → min a b ≡ min b a
-    either a b = omega arith
+lesser_either_way a b = grind arith
 
 -- the colours in either order
 pub best_of_colours : (c : ℕ) (p : Setup) (flipped : Bool) (a b : Option ℕ) → LeastWith c p flipped a → LeastWith c p (not flipped) b → Best c p 16 (lesser a b)

@@ -46,9 +46,7 @@ told_below c code stand side tells = subst (λ n. n < product (bases m)) (sym is
     digits = tells.men.digits ++ side_number side ∷ cond (has_target m) (0 ∷ []) []
 
     is : code ≡ number_of (bases m) digits
-    is =
-        tells.ends.number_is ∙ ap (λ n. number_from n (2 ∷ cond (has_target m) (2 ∷ []) []) (side_number side ∷ cond (has_target m) (0 ∷ []) [])) tells.men.number_is
-        ∙ sym (code_of_parts m tells.men.digits side 0 tells.men.are)
+    is = grind (arith, code_of_parts)
 
 module _ (c king white black : ℕ) (man : Man) (is : IsLoneMan c man) (king_in : king < king_base (has_pawns (material_of c))) (king_is : king_square (has_pawns (material_of c)) king ≡ white) (black_in : black < 64) where
   module _ (side : Side) (digit : ℕ) (below : digit < kind_digits man.kind) where
@@ -70,9 +68,7 @@ module _ (c king white black : ℕ) (man : Man) (is : IsLoneMan c man) (king_in 
         few = within man.kind
 
         same : number_on king stand ≡ (king * 64 + black) * kind_digits man.kind + digit
-        same =
-            let back : digit + kind_less man.kind - kind_less man.kind ≡ digit = omega arith in
-            ap (λ n. (king * 64 + black) * kind_digits man.kind + n) back
+        same = grind arith
 
     told : TellsMen false c ((king * 64 + black) * kind_digits man.kind * 2 + side_number side + 2 * digit) (lone_stand white black man (digit + kind_less man.kind)) side
     unfolding stand number

@@ -13,18 +13,7 @@ record Digit (pawns : Bool) (side : Side) (kind : Kind) (s : ℕ) : Type 0 where
   base : kind_digits kind ≡ base_by pawns side kind
 
 digit_at : (pawns : Bool) (side : Side) (kind : Kind) (s : ℕ) → (side ≡ White → kind ≡ K → ⊥) → (kind ≡ P → (1 ≤ s / 8) × (s / 8 < 7)) → s < 64 → Digit pawns side kind s
-digit_at pawns White K s not may s_in = absurd (not refl refl)
-digit_at pawns Black K s not may s_in = record { below = omega arith; is = omega arith; base = refl }
-digit_at pawns White P s not may s_in = let h = may refl in let low = h.0 in let high = h.1 in record { below = omega arith; is = omega arith; base = refl }
-digit_at pawns Black P s not may s_in = let h = may refl in let low = h.0 in let high = h.1 in record { below = omega arith; is = omega arith; base = refl }
-digit_at pawns White Q s not may s_in = record { below = omega arith; is = omega arith; base = refl }
-digit_at pawns Black Q s not may s_in = record { below = omega arith; is = omega arith; base = refl }
-digit_at pawns White R s not may s_in = record { below = omega arith; is = omega arith; base = refl }
-digit_at pawns Black R s not may s_in = record { below = omega arith; is = omega arith; base = refl }
-digit_at pawns White B s not may s_in = record { below = omega arith; is = omega arith; base = refl }
-digit_at pawns Black B s not may s_in = record { below = omega arith; is = omega arith; base = refl }
-digit_at pawns White N s not may s_in = record { below = omega arith; is = omega arith; base = refl }
-digit_at pawns Black N s not may s_in = record { below = omega arith; is = omega arith; base = refl }
+digit_at pawns side kind s not may s_in = grind arith
 
 splits_by : (man : Man) (n s : ℕ) → man ≢ king_of White → MayStand man s → s < 64 → Splits (n * kind_digits man.kind + (s - kind_less man.kind)) man n s
 splits_by man n s other may s_in = record {

@@ -16,11 +16,7 @@ rows = refl
 
 pub row_is : (c : ℕ) (d : Option Man × Option Man) → c < 36 → option_to_list (slice_index_or NON_KINGS c d).0 ++ option_to_list (slice_index_or NON_KINGS c d).1 ≡ men_beside (material_of c)
 unfolding men_of_row
-row_is c d c_in =
-    sym (get_or-map men_of_row NON_KINGS c d) ∙ ap (λ xs. slice_index_or xs c (men_of_row d)) rows ∙ get_or-map-range_with_len (λ k. men_beside (material_of k)) 0 36 c c (men_of_row d) c_in (add_none c)
-  where
-    add_none : (c : ℕ) → 0 + c ≡ c
-    add_none c = omega arith
+row_is c d c_in = grind (arith, get_or-map, rows, get_or-map-range_with_len)
 
 unfoldable pub agree : Bool → Bool → Bool
 agree true b = b
@@ -29,7 +25,6 @@ agree false false = true
 
 pub agreed : (a b : Bool) → agree a b ≡ true → a ≡ b
 unfolding agree
-agreed true b h = sym h
 agreed a b h = grind arith
 
 pawns_agree : all_below (λ c. agree (slice_index_or PAWNS c false) (has_pawns (material_of c))) 36 ≡ true
@@ -56,8 +51,7 @@ are_no_kings = refl
 
 no_king_told : (o : Option Man) → is_no_king o ≡ true → IfSome o (λ man. man ≢ king_of White)
 unfolding is_no_king
-no_king_told None h = tt
-no_king_told (Some man) h = λ same. not_both _ (eq-eqb _ _ (ap man_number same)) h
+no_king_told o h = grind (arith, not_both, eq-eqb)
 
 pub no_king : (c : ℕ) (d : Option Man × Option Man) → c < 36 → IfSome (slice_index_or NON_KINGS c d).0 (λ man. man ≢ king_of White) × IfSome (slice_index_or NON_KINGS c d).1 (λ man. man ≢ king_of White)
 no_king c d c_in =

@@ -4,10 +4,7 @@ use Rattle.egt_index.specs.Prelude.{cases_lt, mul-le-mul_right, number_from, num
 
 -- a digit behind does not make up for a greater number before it
 higher : (a b base digit other : ℕ) → a < b → digit < base → a * base + digit < b * base + other
-higher a b base digit other lt fits = omega (arith, mul-le-mul_right base (above a b lt))
-  where
-    above : (a b : ℕ) → a < b → a + 1 ≤ b
-    above a b lt = omega arith
+higher a b base digit other lt fits = grind arith
 
 pub number_from-lt : (bases digits others : List ℕ) (a b : ℕ) → AreDigits bases digits → AreDigits bases others → a < b
     → number_from a bases digits < number_from b bases others

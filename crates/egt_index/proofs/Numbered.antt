@@ -24,15 +24,11 @@ no_bits word none not k = (λ one. not_both (bit_at 0 k) (bit_at-zero k) (sym (a
 
 -- equal men are in order but where the first stands on the greater square
 in_order : (x : Entry) (man : Man) (s : ℕ) → ¬ AreBehind x (Some (man, s)) → IsInOrder x (Some (man, s))
-in_order None man s not = tt
-in_order (Some x) man s not = λ same. elim (cases_lt s x.1) [ inl lt ↦ absurd (not (same, lt)) | inr le ↦ le ]
+in_order x man s not = grind arith
 
 -- the first number of a shelf with that side to move
 both_first : (P : ℕ → ℕ → Type 0) (n white black : ℕ) → P (n + side_number White) white → P (n + side_number Black) black → P n white × P (n + 1) black
-both_first P n white black here there = (subst (λ k. P k white) same here, there)
-  where
-    same : n + 0 ≡ n
-    same = omega arith
+both_first P n white black here there = grind arith
 
 module _ (passed : Bool) (c shelf high : ℕ) (man : Man) (c_in : c < 36) (last : last_of (men_beside (material_of c)) ≡ Some man) (other : man ≢ king_of White) (at : IsShelfBehind passed c shelf high) where
   abbrev m : Material
@@ -51,8 +47,7 @@ module _ (passed : Bool) (c shelf high : ℕ) (man : Man) (c_in : c < 36) (last 
   len = places_of_last c man last
 
   pub ends : (mover : Side) (k : ℕ) → k < kind_digits man.kind → Ends m (code_of c (first mover + 2 * k)) (number k) mover passed
-  ends mover k below =
-      subst (λ (d : ℕ). Ends m (code_of c (first mover + 2 * k)) (high * d + k) mover passed) len (ends_behind passed c shelf high at mover k (subst (λ d. k < d) (sym len) below))
+  ends mover k below = grind (arith, code_of, len, ends_behind)
 
   module _ (front : Front) (is : IsFront c high front) where
     abbrev stand : ℕ → Stand
@@ -172,8 +167,7 @@ indexed_more c first k bits more here are same others tells j = elim (cases_eq j
 ]
   where
     told : (here : Bool) → TellsIndex here c (code_of c (first + 2 * k)) → bit_at more k ≡ (if here then 1 else 0) → (bit_at more k ≡ 1) ↔ ((k < k + 1) × ¬ IsVoid c (code_of c (first + 2 * k)))
-    told true tells is = (λ one. ((omega arith), tells.node refl), λ there. is)
-    told false tells is = (λ one. not_both (bit_at more k) is one, λ there. absurd (there.1 (tells.void refl)))
+    told here tells is = grind (arith, not_both)
 
 pub indexed_all : (c shelf start digits : ℕ) (found : Places) → start ≡ shelf * (2 * places c) → digits ≡ places c → IndexedTo c start digits found.white → IndexedTo c (start + 1) digits found.black → AreIndexes c shelf found
 indexed_all c shelf start digits found start_is digits_is whites blacks = record {

@@ -40,49 +40,16 @@ not_other side h = grind arith
 -- there each side's pawn stands on one square
 pub one_square : (digits : List ℕ) (side : Side) (s t : ℕ) → AreDigits (men_bases a_pawn_each) digits
     → IsListed (men_at a_pawn_each digits) (pawn_of side) s → IsListed (men_at a_pawn_each digits) (pawn_of side) t → s ≡ t
-one_square [] side s t are here there = absurd are
-one_square (a ∷ []) side s t are here there = absurd are.1
-one_square (a ∷ b ∷ []) side s t are here there = absurd are.1.1
-one_square (a ∷ b ∷ x ∷ []) side s t are here there = absurd are.1.1.1
-one_square (a ∷ b ∷ x ∷ y ∷ z ∷ rest) side s t are here there = absurd are.1.1.1.1
-one_square (a ∷ b ∷ x ∷ y ∷ []) White s t are here there = sym (white s here) ∙ white t there
-  where
-    white : (u : ℕ) → IsListed (men_at a_pawn_each (a ∷ b ∷ x ∷ y ∷ [])) (pawn_of White) u → x + 8 ≡ u
-    white u (inl h) = absurd (no_king White White h.0)
-    white u (inr (inl h)) = absurd (no_king Black White h.0)
-    white u (inr (inr (inl h))) = h.1
-    white u h = grind arith
-one_square (a ∷ b ∷ x ∷ y ∷ []) Black s t are here there = sym (black s here) ∙ black t there
-  where
-    black : (u : ℕ) → IsListed (men_at a_pawn_each (a ∷ b ∷ x ∷ y ∷ [])) (pawn_of Black) u → y + 8 ≡ u
-    black u (inl h) = absurd (no_king White Black h.0)
-    black u (inr (inl h)) = absurd (no_king Black Black h.0)
-    black u (inr (inr (inl h))) = absurd (not_other Black h.0)
-    black u (inr (inr (inr (inl h)))) = h.1
-    black u (inr (inr (inr (inr h)))) = absurd h
+one_square digits side s t are here there = grind (arith, no_king, not_other)
 
 -- the pawn that has just advanced tells the target
 target_told : (mover : Side) (men : Placement) (t u : ℕ) → IsTarget men mover t → IsTarget men mover u
     → ((a b : ℕ) → Stands men a (pawn_of (other_side mover)) → Stands men b (pawn_of (other_side mover)) → a ≡ b) → t ≡ u
-target_told White men t u here there one = let same = one (t - 8) (u - 8) here.advanced there.advanced in let rank = here.rank in let other = there.rank in omega arith
-target_told Black men t u here there one = let same = one (t + 8) (u + 8) here.advanced there.advanced in omega arith
+target_told mover men t u here there one = grind arith
 
 same_target : (m : Material) (digits : List ℕ) (side : Side) (men : Placement) (t u : Option ℕ) → ((b : Bool) → b ≡ has_target m → b ≡ true → (a b : ℕ) → Stands men a (pawn_of (other_side side)) → Stands men b (pawn_of (other_side side)) → a ≡ b)
     → FitsTarget men side t → FitsTarget men side u → HasTargetDigit m t → HasTargetDigit m u → target_digits m t ≡ target_digits m u → t ≡ u
-same_target m digits side men t u one here there has has' same = by_test (has_target m) refl t u here there has has' same
-  where
-    digits_differ : (a b : ℕ) → a ∷ [] ≡ b ∷ [] → a ≡ b
-    digits_differ a b h = cc
-
-    by_test : (b : Bool) → b ≡ has_target m → (t u : Option ℕ) → FitsTarget men side t → FitsTarget men side u → IsTrue b ⊎ (t ≡ None) → IsTrue b ⊎ (u ≡ None)
-        → cond b (target_digit t ∷ []) [] ≡ cond b (target_digit u ∷ []) [] → t ≡ u
-    by_test true is None None here there has has' same = refl
-    by_test true is (Some t) None here there has has' same = absurd (let h = digits_differ 1 0 same in omega arith)
-    by_test true is None (Some u) here there has has' same = absurd (let h = digits_differ 0 1 same in omega arith)
-    by_test true is (Some t) (Some u) here there has has' same = ap Some (target_told side men t u here there (one true is refl))
-    by_test false is t u here there (inl h) has' same = absurd (false≢true h)
-    by_test false is t u here there (inr e) (inl h) same = absurd (false≢true h)
-    by_test false is t u here there (inr e) (inr f) same = e ∙ sym f
+same_target m digits side men t u one here there has has' same = grind (arith, target_digit, target_told)
 
 setup : Placement → Side → Option ℕ → Setup
 setup men side target = record { men = men; side = side; target = target }
@@ -107,5 +74,4 @@ spells_once c code p q s t =
         in_list z stands = subst (λ men. Stands men z (pawn_of (other_side p.side))) s.men stands
 
         of_two : material_of c ≡ a_pawn_each → IsListed (men_at (material_of c) s.digits) (pawn_of (other_side p.side)) x → IsListed (men_at (material_of c) s.digits) (pawn_of (other_side p.side)) y → x ≡ y
-        of_two same = subst (λ m. AreDigits (men_bases m) s.digits → IsListed (men_at m s.digits) (pawn_of (other_side p.side)) x → IsListed (men_at m s.digits) (pawn_of (other_side p.side)) y → x ≡ y) (sym same)
-            (one_square s.digits (other_side p.side) x y) s.are_digits
+        of_two same = grind (arith, one_square)

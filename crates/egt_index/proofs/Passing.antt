@@ -53,12 +53,10 @@ abbrev pub IsNext : ℕ → ℕ → Type 0
 IsNext s t = ((t ≡ s + 1) × (file_of s < 7)) ⊎ ((s ≡ t + 1) × (0 < file_of s))
 
 beside_next : (s t : ℕ) → IsBeside s t → IsNext s t
-beside_next s t (ranks, inl more) = inr ((omega arith), (omega arith))
-beside_next s t (ranks, inr less) = inl ((omega arith), (omega arith))
+beside_next s t h = grind arith
 
 beside_back : (s t : ℕ) → IsBeside s t → IsNext t s
-beside_back s t (ranks, inl more) = inl ((omega arith), (omega arith))
-beside_back s t (ranks, inr less) = inr ((omega arith), (omega arith))
+beside_back s t h = grind arith
 
 pub record AreSideBySide (mover : Side) (on s : ℕ) : Type 0 where
   pub rank : rank_of on ≡ taking_rank mover
@@ -71,26 +69,17 @@ not_other : (side : Side) → pawn_of (other_side side) ≡ pawn_of side → ⊥
 not_other side h = grind arith
 
 white_listed : (w b x y s : ℕ) → IsListed ((king_of White, w) ∷ (king_of Black, b) ∷ (pawn_of White, x) ∷ (pawn_of Black, y) ∷ []) (pawn_of White) s → s ≡ x
-white_listed w b x y s (inl h) = absurd (no_king White White h.0)
-white_listed w b x y s (inr (inl h)) = absurd (no_king Black White h.0)
-white_listed w b x y s (inr (inr (inl h))) = sym h.1
-white_listed w b x y s h = grind arith
+white_listed w b x y s h = grind (arith, no_king)
 
 black_listed : (w b x y s : ℕ) → IsListed ((king_of White, w) ∷ (king_of Black, b) ∷ (pawn_of White, x) ∷ (pawn_of Black, y) ∷ []) (pawn_of Black) s → s ≡ y
-black_listed w b x y s (inl h) = absurd (no_king White Black h.0)
-black_listed w b x y s (inr (inl h)) = absurd (no_king Black Black h.0)
-black_listed w b x y s (inr (inr (inl h))) = absurd (not_other Black h.0)
-black_listed w b x y s (inr (inr (inr (inl h)))) = sym h.1
-black_listed w b x y s (inr (inr (inr (inr h)))) = absurd h
+black_listed w b x y s h = grind (arith, no_king, not_other)
 
 -- in a settled position with a target they stand so
 pub side_by_side : (c : ℕ) (stand : Stand) (mover : Side) (p : Setup) → HasStand c false stand mover true p → (pawns : ArePawns stand) → AreSideBySide mover pawns.white pawns.black
 side_by_side c stand mover p there pawns = of_target p.target refl there.target_is
   where
     list_is : list_of stand ≡ (king_of White, stand.white) ∷ (king_of Black, stand.black) ∷ (pawn_of White, pawns.white) ∷ (pawn_of Black, pawns.black) ∷ []
-    list_is =
-        ap (λ (e : Entry). (king_of White, stand.white) ∷ (king_of Black, stand.black) ∷ (option_to_list e ++ option_to_list stand.last)) pawns.next
-        ∙ ap (λ (e : Entry). (king_of White, stand.white) ∷ (king_of Black, stand.black) ∷ (option_to_list (Some (pawn_of White, pawns.white)) ++ option_to_list e)) pawns.last
+    list_is = grind arith
 
     found : (side : Side) (s : ℕ) → Stands p.men s (pawn_of side) → IsListed ((king_of White, stand.white) ∷ (king_of Black, stand.black) ∷ (pawn_of White, pawns.white) ∷ (pawn_of Black, pawns.black) ∷ []) (pawn_of side) s
     found side s stands =
@@ -153,23 +142,14 @@ pub record IsAtDigit (c : ℕ) (front : Front) (man : Man) (k : ℕ) (stand : St
 
 pub at_digit : (c : ℕ) (front : Front) (man : Man) (k square : ℕ) (stand : Stand) → c < 36 → has_target (material_of c) ≡ true → IsFrontBefore c front man → k < 48 → stand ≡ with_last front.stand (Some (man, square)) → square ≡ k + 8
     → IsAtDigit c front man k stand
-at_digit c front man k square stand c_in has before below is same = record {
-  class_in = c_in;
-  has = has;
-  before = before;
-  below = below;
-  is = is ∙ ap (λ (s : ℕ). with_last front.stand (Some (man, s))) same;
-}
+at_digit c front man k square stand c_in has before below is same = grind arith
 
 module _ (c : ℕ) (front : Front) (man : Man) (mover : Side) (k : ℕ) (stand : Stand) (at : IsAtDigit c front man k stand) where
   abbrev before : IsFrontBefore c front man
   before = at.before
 
   his : man ≡ pawn_of Black
-  his = last_is (sym before.last ∙ last_pawn c at.has)
-    where
-      last_is : {a b : Man} → Some a ≡ Some b → a ≡ b
-      last_is e = cc
+  his = grind (arith, before, last_pawn)
 
   abbrev entry : Entry
   entry = Some (man, k + kind_less man.kind)
@@ -239,10 +219,7 @@ module _ (c : ℕ) (front : Front) (man : Man) (mover : Side) (k : ℕ) (stand :
 -- whatever his digit, both pawns stand behind the kings, and the last is his
 module _ (c : ℕ) (front : Front) (man : Man) (c_in : c < 36) (has : has_target (material_of c) ≡ true) (before : IsFrontBefore c front man) where
   pawn : man ≡ pawn_of Black
-  pawn = last_is (sym before.last ∙ last_pawn c has)
-    where
-      last_is : {a b : Man} → Some a ≡ Some b → a ≡ b
-      last_is e = cc
+  pawn = grind (arith, before, last_pawn, has)
 
   pawns_behind : (k : ℕ) → k < kind_digits man.kind → ArePawns (with_last front.stand (Some (man, k + kind_less man.kind)))
   pawns_behind k below = are_pawns (with_last front.stand (Some (man, k + kind_less man.kind)))

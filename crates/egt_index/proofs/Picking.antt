@@ -25,22 +25,10 @@ rising false White K d e lt e_in = ltb-true _ _ (passes_below (λ d. ltb (king_s
 rising pawns side kind d e lt e_in = grind arith
 
 pub lesser_digit : (pawns : Bool) (man : Man) (d e : ℕ) → d < base_of pawns man → square_of pawns man d < square_of pawns man e → d < e
-lesser_digit pawns man d e d_in lt = elim (cases_lt d e) [
-  | inl less ↦ less
-  | inr le ↦ elim (cases_eq e d) [
-    | inl same ↦ absurd (let h = ap (square_of pawns man) same in omega arith)
-    | inr other ↦ absurd (let h = rising pawns man.side man.kind e d (omega arith) d_in in omega arith)
-  ]
-]
+lesser_digit pawns man d e d_in lt = grind (arith, cases_eq, rising)
 
 pub same_digit : (pawns : Bool) (man : Man) (d e : ℕ) → d < base_of pawns man → e < base_of pawns man → square_of pawns man d ≡ square_of pawns man e → d ≡ e
-same_digit pawns man d e d_in e_in same = elim (cases_lt d e) [
-  | inl less ↦ absurd (let h = rising pawns man.side man.kind d e less e_in in omega arith)
-  | inr le ↦ elim (cases_lt e d) [
-    | inl less ↦ absurd (let h = rising pawns man.side man.kind e d less d_in in omega arith)
-    | inr ge ↦ omega arith
-  ]
-]
+same_digit pawns man d e d_in e_in same = grind (arith, rising)
 
 -- all men are picked
 pub picks_all : (pawns : Bool) (men : Placement) (list : List Man) (digits : List ℕ) → ((s : ℕ) (man : Man) → Stands men s man → s < 64) → AreCounted men list
@@ -54,10 +42,7 @@ picks_all pawns men (man ∷ list) (d ∷ ds) on_board counted are picks =
     )
   where
     stays : (q s : ℕ) (other : Man) → Stands (placement.remove men q) s other → s < 64
-    stays q s other stands = elim (cases_eq s q) [
-      | inl same ↦ absurd (let none = sym (get-remove_same men q s same) ∙ stands in cc)
-      | inr apart ↦ on_board s other (sym (get-remove_other men q s apart) ∙ stands)
-    ]
+    stays q s other stands = grind (arith, cases_eq, get-remove_same, get-remove_other)
 
 -- other digits that place the same men are equal, or of a greater number
 pub picks_least : (pawns : Bool) (men : Placement) (list : List Man) (digits others : List ℕ) → AreDigits (map (base_of pawns) list) digits → AreDigits (map (base_of pawns) list) others
@@ -89,5 +74,4 @@ picks_least pawns men (man ∷ list) (d ∷ ds) (e ∷ es) are theirs picks is a
 
     of_rest : d ≡ e → (ds ≡ es) ⊎ ((high : ℕ) → number_from high (map (base_of pawns) list) ds < number_from high (map (base_of pawns) list) es)
         → (d ∷ ds ≡ e ∷ es) ⊎ ((high : ℕ) → number_from (high * base_of pawns man + d) (map (base_of pawns) list) ds < number_from (high * base_of pawns man + e) (map (base_of pawns) list) es)
-    of_rest same (inl rest) = inl (conses same rest)
-    of_rest same (inr rest) = inr (λ high. subst (λ x. number_from (high * base_of pawns man + d) (map (base_of pawns) list) ds < number_from (high * base_of pawns man + x) (map (base_of pawns) list) es) same (rest (high * base_of pawns man + d)))
+    of_rest same h = grind arith

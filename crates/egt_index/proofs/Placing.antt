@@ -62,12 +62,7 @@ all_bits n k small = (
     same = omega arith
 
 pub man_bits : (kind : Kind) (n k : ℕ) → kind ≢ P → n < 2 ^ 64 → (bit_at n k ≡ 1) ↔ ((k < kind_digits kind) × (bit_at n (k + kind_less kind) ≡ 1))
-man_bits P n k not small = absurd (not refl)
-man_bits Q n k not small = all_bits n k small
-man_bits R n k not small = all_bits n k small
-man_bits B n k not small = all_bits n k small
-man_bits N n k not small = all_bits n k small
-man_bits K n k not small = all_bits n k small
+man_bits kind n k not small = grind (arith, all_bits)
 
 -- the digits from some one on
 from_on : (d k : ℕ) → d ≤ 64 → k < 64 → (bit_at (2 ^ 64 - 2 ^ d) k ≡ 1) ↔ (d ≤ k)
@@ -133,18 +128,7 @@ placed_bits front man mover king k word kept occupied without king_is digits is 
         digits.1 (placed.below, omega arith)
 
 pub digit_on : (pawns : Bool) (side : Side) (kind : Kind) (d : ℕ) → man_of side kind ≢ king_of White → (base_by pawns side kind ≡ kind_digits kind) × (square_by_digit pawns side kind d ≡ d + kind_less kind)
-digit_on pawns White K d not = absurd (not refl)
-digit_on pawns Black K d not = (refl, omega arith)
-digit_on pawns White P d not = (refl, refl)
-digit_on pawns Black P d not = (refl, refl)
-digit_on pawns White Q d not = (refl, omega arith)
-digit_on pawns Black Q d not = (refl, omega arith)
-digit_on pawns White R d not = (refl, omega arith)
-digit_on pawns Black R d not = (refl, omega arith)
-digit_on pawns White B d not = (refl, omega arith)
-digit_on pawns Black B d not = (refl, omega arith)
-digit_on pawns White N d not = (refl, omega arith)
-digit_on pawns Black N d not = (refl, omega arith)
+digit_on pawns side kind d not = grind arith
 
 -- the last man behind a front
 module _ (c high : ℕ) (man : Man) (c_in : c < 36) (last : last_of (men_beside (material_of c)) ≡ Some man) (other : man ≢ king_of White) where
@@ -224,10 +208,7 @@ module _ (c high : ℕ) (man : Man) (c_in : c < 36) (last : last_of (men_beside 
           (off_of (list_of front.stand) (square k) (subst (λ (men : Placement). IsFree men (square k)) is.board placed.free)))
 
       all_on_board : (s : ℕ) (m : Man) → Stands (map.insert front.board (square k) man) s m → s < 64
-      all_on_board s m stands = elim (cases_eq s (square k)) [
-        | inl e ↦ let below = placed.below in omega (arith, within man.kind)
-        | inr not ↦ on_board s m (sym (get-insert_other front.board (square k) man s not) ∙ stands)
-      ]
+      all_on_board s m stands = grind (arith, cases_eq, within, get-insert_other)
 
       spelled : SpellsMen m (number k) (list_of stand)
       spelled = men placed.below

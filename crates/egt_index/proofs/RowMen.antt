@@ -16,12 +16,7 @@ record EndsWith (targets : Bool) (code high : ℕ) (side : Side) (passed : Bool)
 
 -- what stands before the ends is the number of the row
 number_with : (targets : Bool) (code high : ℕ) (side : Side) (passed : Bool) → EndsWith targets code high side passed → code / cond {A = ℕ} targets 4 2 ≡ high
-number_with true code high White true ends = let is = ends.is in omega arith
-number_with true code high White false ends = let is = ends.is in omega arith
-number_with true code high Black true ends = let is = ends.is in omega arith
-number_with true code high Black false ends = let is = ends.is in omega arith
-number_with false code high White passed ends = let is = ends.is in omega arith
-number_with false code high Black passed ends = let is = ends.is in omega arith
+number_with targets code high side passed ends = grind arith
 
 pub row_number : (m : Material) (code high : ℕ) (side : Side) (passed : Bool) → Ends m code high side passed → code / ends_of m ≡ high
 row_number m code high side passed ends = number_with (has_target m) code high side passed (record { is = ends.number_is; never = ends.never })

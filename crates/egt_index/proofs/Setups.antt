@@ -57,13 +57,7 @@ pub men_spelled : (c high : ℕ) (list : List (Man × ℕ)) → SpellsMen (mater
 men_spelled c high list men = ap men_among men.list_is ∙ placed_men (has_pawns (material_of c)) (men_in_order (material_of c)) men.digits men.are
 
 may_stand : (pawns : Bool) (side : Side) (kind : Kind) (d : ℕ) → d < base_by pawns side kind → MayStand (record { side = side; kind = kind }) (square_by_digit pawns side kind d)
-may_stand pawns White P d d_in = λ e. (omega arith, omega arith)
-may_stand pawns Black P d d_in = λ e. (omega arith, omega arith)
-may_stand pawns side K d d_in = λ e. absurd (let kinds = ap kind_number e in omega arith)
-may_stand pawns side Q d d_in = λ e. absurd (let kinds = ap kind_number e in omega arith)
-may_stand pawns side R d d_in = λ e. absurd (let kinds = ap kind_number e in omega arith)
-may_stand pawns side B d d_in = λ e. absurd (let kinds = ap kind_number e in omega arith)
-may_stand pawns side N d d_in = λ e. absurd (let kinds = ap kind_number e in omega arith)
+may_stand pawns side kind d d_in = grind arith
 
 pub placed_may : (pawns : Bool) (men : List Man) (digits : List ℕ) (man : Man) (s : ℕ) → AreDigits (map (base_of pawns) men) digits → IsListed (placed pawns men digits) man s → MayStand man s
 placed_may pawns [] digits man s are h = absurd h
@@ -151,8 +145,7 @@ all_stand (e ∷ list) apart on_board = (
     not_here s man stands same = let h = sym (free_of list e.1 apart.0) ∙ subst (λ q. Stands (men_of list) q man) same stands in cc
 
 target_there : (passed : Bool) (side : Side) (list : List (Man × ℕ)) (target : Option ℕ) → IsTold passed side list target → is_some target ≡ passed
-target_there false side list target told = ap is_some told
-target_there passed side list target told = grind arith
+target_there passed side list target told = grind (arith, is_some)
 
 -- a position with these men has them in their places
 pub stood_spelled : (c high : ℕ) (stand : Stand) (p : Setup) → SpellsMen (material_of c) high (list_of stand) → AllApart (list_of stand) → IsAdmissible p → p.men ≡ men_of (list_of stand) → Stood c false p.men (list_of stand)
@@ -175,10 +168,7 @@ stand_spelled c code high stand side passed target men apart told spells settled
 
 -- a position with the board is the setup
 pub on_board_of : (list : List (Man × ℕ)) (side : Side) (target : Option ℕ) (men : Placement) (p : Setup) → men ≡ men_of list → p ≡ record { men = men; side = side; target = target } → p ≡ setup_of list side target
-on_board_of list side target men p men_is is = is ∙ ap set men_is
-  where
-    set : Placement → Setup
-    set men = record { men = men; side = side; target = target }
+on_board_of list side target men p men_is is = grind arith
 
 pub setup_spelled : (c code high : ℕ) (side : Side) (passed : Bool) (list : List (Man × ℕ)) (target : Option ℕ) (p : Setup) → Ends (material_of c) code high side passed → SpellsMen (material_of c) high list → IsTold passed side list target
     → AllApart list → p ≡ setup_of list side target → IsAdmissible p → Spells c code p

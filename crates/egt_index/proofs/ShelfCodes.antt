@@ -19,12 +19,7 @@ module _ (passed : Bool) (c shelf high : ℕ) (men : ShelfMen) (c_in : c < 36) (
   -- a number's code tells the men where the digits of the men do
   told_code : (side : Side) (digit : ℕ) → digit < kind_digits men.last.kind → SpellsMen (material_of c) (high * kind_digits men.last.kind + digit) (list_of (stand_with men (digit + kind_less men.last.kind)))
       → TellsMen passed c (code_of c (number_in c shelf side digit)) (stand_with men (digit + kind_less men.last.kind)) side
-  told_code side digit below spells = record {
-    number = high * kind_digits men.last.kind + digit;
-    men = spells;
-    filled = λ e. absurd (cc);
-    ends = ends passed c shelf high men.last c_in last other at side digit below;
-  }
+  told_code side digit below spells = grind (arith, ends)
 
   -- the men who are found before the last one
   module _ (one_other : men.one ∷ men.last ∷ [] ≡ men_beside (material_of c) → men.one ≢ king_of White) (stand : Stand) (before : IsBefore c high stand) (white : stand.white ≡ men.white) (black : stand.black ≡ men.black) (next : stand.next ≡ Some (men.one, men.on)) where
@@ -71,11 +66,7 @@ module _ (passed : Bool) (c shelf high : ℕ) (men : ShelfMen) (c_in : c < 36) (
         few = within men.last.kind
 
         number : number_on king stand ≡ high * kind_digits men.last.kind + d
-        number =
-            let back : d + kind_less men.last.kind - kind_less men.last.kind ≡ d = omega arith in
-            ap (λ n. ((king * 64 + men.black) * kind_digits men.one.kind + (men.on - kind_less men.one.kind)) * kind_digits men.last.kind + n) back
-            ∙ ap (λ n. ((king * 64 + men.black) * kind_digits men.one.kind + n) * kind_digits men.last.kind + d) (sym digit_is)
-            ∙ ap (λ n. n * kind_digits men.last.kind + d) (sym high_is)
+        number = grind arith
 
     pub shelf_on : IsShelfOf passed c shelf men
     shelf_on = (
@@ -94,11 +85,7 @@ last_told c men is_of = sym (ap last_of (tails (tails is_of.are)))
 
 -- of the men beside the kings the first is none
 pub first_beside : (x y : Option Man) (one last : Man) (men : List Man) → option_to_list x ++ option_to_list y ≡ men → IfSome x (λ man. man ≢ king_of White) → (x ≡ None → y ≡ None) → one ∷ last ∷ [] ≡ men → one ≢ king_of White
-first_beside None y one last men are not none is = absurd (of y (none refl) are)
-  where
-    of : (o : Option Man) → o ≡ None → option_to_list o ≡ men → ⊥
-    of o e are = grind arith
-first_beside (Some man) y one last men are not none is = λ same. not (heads (are ∙ sym is) ∙ same)
+first_beside x y one last men are not none is = grind (arith, heads)
 
 -- the positions of the upper shelves have a target, and no others
 pub halves : (c shelf : ℕ) (men : ShelfMen) (is : IsShelf c shelf men) → has_target (material_of c) ≡ true → (is.passed ≡ true) ↔ (half_of c ≤ shelf * (2 * places c))
@@ -111,22 +98,13 @@ halves c shelf men is has = (there, back)
     same = omega arith
 
     coded : code_of c (shelf * (2 * places c)) ≡ tells.number * 4 + cond is.passed 1 0
-    coded =
-        ap (code_of c) (sym same)
-        ∙ subst (λ b. code_of c (number_in c shelf White 0) ≡ number_from tells.number (2 ∷ cond b (2 ∷ []) []) (0 ∷ cond b (cond is.passed 1 0 ∷ []) [])) has tells.ends.number_is
-        ∙ last_two tells.number (cond is.passed 1 0)
-      where
-        last_two : (n f : ℕ) → (n * 2 + 0) * 2 + f ≡ n * 4 + f
-        last_two n f = omega arith
+    coded = grind (arith, code_of, tells)
 
     flag : (b : Bool) → cond {A = ℕ} b 1 0 % 2 ≡ 1 → b ≡ true
     flag b odd = grind arith
 
     there : is.passed ≡ true → half_of c ≤ shelf * (2 * places c)
-    there passed = elim (cases_lt (shelf * (2 * places c)) (half_of c)) [
-      | inl lt ↦ let low = code_low c (shelf * (2 * places c)) has lt in let code = coded in let one = ap (λ b. cond {A = ℕ} b 1 0) passed in absurd (omega arith)
-      | inr ge ↦ ge
-    ]
+    there passed = grind (arith, places, code_low)
 
     back : half_of c ≤ shelf * (2 * places c) → is.passed ≡ true
     back ge = flag is.passed (let high = code_high c (shelf * (2 * places c)) has ge in let code = coded in omega arith)

@@ -56,17 +56,13 @@ module _ (c : ℕ) (men : ShelfMen) (is_of : AreMenOf c men) where
   )
     where
       few : high + 1 ≤ fronts
-      few = let le = mul-le-mul_right one (kings king black king_in black_in) in omega arith
-        where
-          kings : (king black : ℕ) → king < king_base pawns → black < 64 → king * 64 + black + 1 ≤ king_base pawns * 64
-          kings king black king_in black_in = omega arith
+      few = grind arith
 
       all : (high + 1) * (2 * places c) ≤ half_of c
       all = let le = mul-le-mul_right (2 * places c) few in let half = half_is in omega arith
 
       first : (passed : Bool) → (high + cond passed fronts 0) * (2 * places c) ≡ high * (2 * places c) + cond passed (half_of c) 0
-      first true = let half = half_is in omega arith
-      first false = omega arith
+      first passed = grind (arith, half_is)
 
   -- and the digits of each such number spell men
   module _ (passed : Bool) (shelf high : ℕ) (c_in : c < 36) (at : IsShelfBehind passed c shelf high) where

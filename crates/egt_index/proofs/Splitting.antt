@@ -9,12 +9,10 @@ use Rattle.egt_index.proofs.Coding.{AreDigits-append}
 use Rattle.egt_index.proofs.Coded.{number_append}
 
 pawn_base : (pawns : Bool) (side : Side) (kind : Kind) → kind ≡ P → base_by pawns side kind ≡ 48
-pawn_base pawns White kind is = ap (base_by pawns White) is
-pawn_base pawns Black kind is = ap (base_by pawns Black) is
+pawn_base pawns side kind is = grind arith
 
 pawn_square : (pawns : Bool) (side : Side) (kind : Kind) (digit : ℕ) → kind ≡ P → square_by_digit pawns side kind digit ≡ digit + 8
-pawn_square pawns White kind digit is = ap (λ k. square_by_digit pawns White k digit) is
-pawn_square pawns Black kind digit is = ap (λ k. square_by_digit pawns Black k digit) is
+pawn_square pawns side kind digit is = grind arith
 
 pub split_pawn : (number : ℕ) (man : Man) (square : ℕ) → man.kind ≡ P → square ≡ number % 48 + 8 → Splits number man (number / 48) square
 split_pawn number man square is on = record {

@@ -12,17 +12,10 @@ use Rattle.egt_index.proofs.Tallied.{tests_alike, in_class}
 use Rattle.egt_board.proofs.KingsAside.{king_is}
 
 pub turned_back : (flips : Bool) (man : Man) → turned_man flips (turned_man flips man) ≡ man
-turned_back false man = refl
-turned_back true man = of_side man.side man.kind
-  where
-    of_side : (side : Side) (kind : Kind) → turned_man true (turned_man true (record { side = side; kind = kind })) ≡ record { side = side; kind = kind }
-    of_side side kind = grind arith
+turned_back flips man = grind arith
 
 tested_turned : (flips : Bool) (a b : Man) → is_man a (turned_man flips b) ≡ is_man (turned_man flips a) b
-tested_turned flips a b =
-    tests_alike (man_number a) (man_number (turned_man flips b)) (man_number (turned_man flips a)) (man_number b)
-    (λ e. ap man_number (ap (turned_man flips) (man_told a (turned_man flips b) e) ∙ turned_back flips b))
-    (λ e. ap man_number (sym (turned_back flips a) ∙ ap (turned_man flips) (man_told (turned_man flips a) b e)))
+tested_turned flips a b = grind (arith, tests_alike, man_told, turned_back)
 
 tally_turned : (flips : Bool) (man : Man) (list : List Man) → tally man (map (turned_man flips) list) ≡ tally (turned_man flips man) list
 tally_turned flips man [] = refl
@@ -52,60 +45,15 @@ king_kind : (flips : Bool) (side : Side) → (turned_man flips (king_of side)).k
 king_kind flips side = grind arith
 
 pub kings_on : (flips : Bool) (p : Setup) (side other : Side) (w b : ℕ) → IsAdmissible p → side ≡ cond flips Black White → other ≡ other_side side → IsKingOn p.men side w → IsKingOn p.men other b → KingsOn flips p.men w b
-kings_on flips p side other w b ok side_is other_is white black = record {
-  white_in = ok.on_board w _ white.stands;
-  black_in = ok.on_board b _ black.stands;
-  apart = apart;
-  white = white_there;
-  black = black_there;
-  only = λ s man king stands. elim (king_is man king) [
-    | inl e ↦ of_side White flips s side_is (stands ∙ ap Some e)
-    | inr e ↦ of_side Black flips s side_is (stands ∙ ap Some e)
-  ];
-}
-  where
-    first : (flips : Bool) → king_of (cond flips Black White) ≡ turned_man flips (king_of White)
-    first flips = grind arith
-
-    last : (flips : Bool) → king_of (other_side (cond flips Black White)) ≡ turned_man flips (king_of Black)
-    last flips = grind arith
-
-    white_there : Stands p.men w (turned_man flips (king_of White))
-    white_there = white.stands ∙ ap (λ s. Some (king_of s)) side_is ∙ ap Some (first flips)
-
-    black_there : Stands p.men b (turned_man flips (king_of Black))
-    black_there = black.stands ∙ ap (λ s. Some (king_of s)) (other_is ∙ ap other_side side_is) ∙ ap Some (last flips)
-
-    differ : (flips : Bool) → turned_man flips (king_of White) ≡ turned_man flips (king_of Black) → ⊥
-    differ true e = let sides = ap (λ m. side_number m.side) e in omega arith
-    differ false e = let sides = ap (λ m. side_number m.side) e in omega arith
-
-    apart : w ≢ b
-    apart same = differ flips (one_man p.men w _ _ white_there (ap (placement.get p.men) same ∙ black_there))
-
-    of_white : (s : ℕ) → Stands p.men s (king_of side) → (s ≡ w) ⊎ (s ≡ b)
-    of_white s stands = inl (white.only s stands)
-
-    of_black : (s : ℕ) → Stands p.men s (king_of other) → (s ≡ w) ⊎ (s ≡ b)
-    of_black s stands = inr (black.only s stands)
-
-    of_side : (king : Side) (flips : Bool) (s : ℕ) → side ≡ cond flips Black White → Stands p.men s (king_of king) → (s ≡ w) ⊎ (s ≡ b)
-    of_side White false s is stands = of_white s (stands ∙ ap (λ z. Some (king_of z)) (sym is))
-    of_side White true s is stands = of_black s (stands ∙ ap (λ z. Some (king_of z)) (sym (other_is ∙ ap other_side is)))
-    of_side Black false s is stands = of_black s (stands ∙ ap (λ z. Some (king_of z)) (sym (other_is ∙ ap other_side is)))
-    of_side Black true s is stands = of_white s (stands ∙ ap (λ z. Some (king_of z)) (sym is))
+kings_on flips p side other w b ok side_is other_is white black = grind (arith, king_is, one_man)
 
 -- the same by the kings' squares in the colours of the board
 pub kings_by : (flips : Bool) (p : Setup) (w b : ℕ) → IsAdmissible p → IsKingOn p.men White w → IsKingOn p.men Black b → KingsOn flips p.men (cond flips b w) (cond flips w b)
-kings_by true p w b ok white black = kings_on true p Black White b w ok refl refl black white
-kings_by false p w b ok white black = kings_on false p White Black w b ok refl refl white black
+kings_by flips p w b ok white black = grind (arith, kings_on)
 
 -- no other man stands where the kings do
 off_kings : (flips : Bool) (men : Placement) (w b s : ℕ) (man : Man) → KingsOn flips men w b → Stands men s man → man.kind ≢ K → (s ≢ w) × (s ≢ b)
-off_kings flips men w b s man kings stands beside = (
-  λ same. beside (ap (λ m. m.kind) (one_man men w _ _ (subst (λ t. Stands men t man) same stands) kings.white) ∙ king_kind flips White),
-  λ same. beside (ap (λ m. m.kind) (one_man men b _ _ (subst (λ t. Stands men t man) same stands) kings.black) ∙ king_kind flips Black),
-)
+off_kings flips men w b s man kings stands beside = grind (arith, one_man, king_kind)
 
 -- the men beside the kings are those of the list
 record Others (flips : Bool) (men : Placement) (list : List Man) : Type 0 where
@@ -145,10 +93,7 @@ record Next (flips : Bool) (men : Placement) (man : Man) (one other : Entry) : T
   is : (one ≡ Some (turned_man flips man, square)) ⊎ (other ≡ Some (turned_man flips man, square))
 
 next_of : (flips : Bool) (men : Placement) (man : Man) (list : List Man) (one other : Entry) → Others flips men (man ∷ list) → HasBeside men one other → Next flips men man one other
-next_of flips men man list one other h beside =
-    let first = first_is_there h.placement (turned_man flips man) (map (turned_man flips) list) h.counted in
-    let here = h.here first.0 (turned_man flips man) first.2.stands in
-    record { square = first.0; on_board = first.1; stands = here.0; beside = here.1; is = beside.all first.0 (turned_man flips man) here.0 here.1 }
+next_of flips men man list one other h beside = grind (arith, first_is_there)
 
 -- in colours that are the class's the first man of the name is among them
 pub among_own : (c : ℕ) (p : Setup) (w b : ℕ) (first : Option Man) (rest : List Man) (one other : Entry) → option_to_list first ++ rest ≡ men_beside (material_of c) → IsOf c false p → KingsOn false p.men w b → HasBeside p.men one other
@@ -228,12 +173,10 @@ last_of flips men first second one other next last f h beside order =
 
 -- the order by the test of the one
 name_order : (first : Option Man) (flips : Bool) (one other : Entry) (b : Bool) → IsTrue b ↔ IsFirst first flips one → IsInNameOrder first flips one other (cond b one other) (cond b other one)
-name_order first flips one other true test = inl (test.0 refl, refl, refl)
-name_order first flips one other false test = inr ((λ h. false≢true (test.1 h)), refl, refl)
+name_order first flips one other b test = grind arith
 
 on_either : (b : Bool) (one other : Entry) (s t : ℕ) → IsOn one s → IsOn other t → IsOn (cond b one other) (cond b s t)
-on_either true one other s t on on' = on
-on_either false one other s t on on' = on'
+on_either b one other s t on on' = grind arith
 
 on_square : (entry : Entry) (man : Man) (s t : ℕ) → IsOn entry t → entry ≡ Some (man, s) → t ≡ s
 on_square entry man s t on is = sym (subst (λ e. IsOn e t) is on)

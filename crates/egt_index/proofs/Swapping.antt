@@ -16,20 +16,10 @@ use Rattle.egt_index.proofs.Turned.{counted_of}
 
 -- the turn that changes nothing
 pub stays : (p : Setup) → IsAdmissible p → IsTurn 0 p p
-stays p ok = (inr (omega arith), record { men = λ t t_in. refl; side = refl; target = same p.target; on_board = ok.on_board })
-  where
-    same : (o : Option ℕ) → o ≡ option_map (λ s. s) o
-    same o = grind arith
+stays p ok = grind arith
 
 sorted_list : (p : Setup) (stand : Stand) → IsAdmissible p → AllStand false p.men (list_of stand) → IsInOrder stand.next stand.last → AreSorted (list_of stand)
-sorted_list p stand ok all order = (
-  all.0,
-  (λ s h.
-      let there = ok.kings.white_there in
-      let one = there.only stand.white all.1 in
-      let other = there.only s (listed_there p.men (rest_of stand) (king_of White) s all.3 h) in omega arith),
-  sorted_rest p stand ok all order,
-)
+sorted_list p stand ok all order = grind (arith, listed_there, rest_of, sorted_rest)
 
 -- digits of equal men in order make the least code
 pub least_in_order : (c code : ℕ) (stand : Stand) (p : Setup) → IsAdmissible p → AllStand false p.men (list_of stand) → IsInOrder stand.next stand.last → (men_among (list_of stand) ≡ men_in_order (material_of c))

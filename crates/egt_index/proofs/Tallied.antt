@@ -8,23 +8,13 @@ use Rattle.egt_board.proofs.Sides.{kind_few}
 
 -- equal tests of what is equal alike
 pub tests_alike : (a b x y : ℕ) → (a ≡ b → x ≡ y) → (x ≡ y → a ≡ b) → eqb a b ≡ eqb x y
-tests_alike a b x y there back = elim (eqb_tells a b) [
-  | inl h ↦ h.0 ∙ sym (eq-eqb x y (there h.1))
-  | inr h ↦ elim (eqb_tells x y) [
-    | inl k ↦ absurd (h.1 (back k.1))
-    | inr k ↦ h.0 ∙ sym k.0
-  ]
-]
+tests_alike a b x y there back = grind (arith, eqb_tells, eq-eqb)
 
 same_side : (side : Side) (k other : Kind) → is_man (man_of side k) (man_of side other) ≡ is_kind k other
-same_side side k other =
-    tests_alike (6 * side_number side + kind_number k) (6 * side_number side + kind_number other) (kind_number k) (kind_number other) (λ e. omega arith) (λ e. omega arith)
+same_side side k other = grind (arith, tests_alike)
 
 apart_of : (side other : Side) (k l : Kind) → (side_number side ≡ side_number other → ⊥) → is_man (man_of side k) (man_of other l) ≡ false
-apart_of side other k l differ = elim (eqb_tells (6 * side_number side + kind_number k) (6 * side_number other + kind_number l)) [
-  | inl h ↦ absurd (differ (let below = kind_few k in let below' = kind_few l in let same = h.1 in omega arith))
-  | inr h ↦ h.0
-]
+apart_of side other k l differ = grind (arith, eqb_tells, kind_few)
 
 own : (side : Side) (k : Kind) (kinds : List Kind) → tally (man_of side k) (map (man_of side) kinds) ≡ count_by (is_kind k) kinds
 own side k [] = refl

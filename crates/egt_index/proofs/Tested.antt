@@ -6,9 +6,7 @@ pub implied : (a b : Bool) → a ≡ true → (not a || b) ≡ true → b ≡ tr
 implied a b h e = grind arith
 
 pub one_of : (a b : Bool) → (a || b) ≡ true → (a ≡ true) ⊎ (b ≡ true)
-one_of true b h = inl refl
-one_of false b h = inr h
+one_of a b h = grind arith
 
 pub not_both : (b : Bool) → b ≡ true → not b ≡ true → ⊥
-not_both true e h = false≢true h
-not_both false e h = false≢true e
+not_both b e h = grind arith

@@ -14,10 +14,7 @@ use Rattle.egt_index.proofs.Setups.{fits_apart, setup_spelled, stand_spelled}
 
 -- a position without a target is settled
 pub untargeted_settled : (q : Setup) → q.target ≡ None → IsSettled q
-untargeted_settled q none = of_target q.target none
-  where
-    of_target : (t : Option ℕ) → t ≡ None → IfSome t (λ t. HasPawnBeside q.men q.side (ahead (other_side q.side) t))
-    of_target t e = grind arith
+untargeted_settled q none = grind (arith, ahead)
 
 -- where a target is told of there is a pawn each
 pub pawns_told : (passed : Bool) (c code : ℕ) (stand : Stand) (side : Side) → TellsMen passed c code stand side → passed ≡ true → HasPawns (list_of stand)
@@ -59,9 +56,7 @@ target_listed White men list t is target = let rank = target.rank in (t - 8, lis
 target_listed Black men list t is target = (t + 8, listed list (pawn_of White) (t + 8) (subst (λ (m : Placement). Stands m (t + 8) (pawn_of White)) is target.advanced), (omega arith))
 
 target_told : (passed : Bool) (side : Side) (men : Placement) (list : List (Man × ℕ)) (target : Option ℕ) → men ≡ men_of list → FitsTarget men side target → is_some target ≡ passed → IsTold passed side list target
-target_told false side men list target is fits none = no_target target none
-target_told true side men list None is fits some = absurd (false≢true some)
-target_told true side men list (Some t) is fits some = target_listed side men list t is fits
+target_told passed side men list target is fits none = grind (arith, no_target, target_listed)
 
 -- and a position with these men is what it spells
 pub stands_told : (passed : Bool) (c code : ℕ) (p : Setup) (stand : Stand) (side : Side) → HasStand c false stand side passed p → TellsMen passed c code stand side → Spells c code p

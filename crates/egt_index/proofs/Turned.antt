@@ -28,10 +28,7 @@ turned_in : (flipped : Bool) (side : Side) → side_in flipped (other_side side)
 turned_in flipped side = grind arith
 
 twice : (man : Man) → man_by Colours (man_by Colours man) ≡ man
-twice man = of_side man.side man.kind
-  where
-    of_side : (side : Side) (kind : Kind) → man_by Colours (man_by Colours (record { side = side; kind = kind })) ≡ record { side = side; kind = kind }
-    of_side side kind = grind arith
+twice man = grind arith
 
 -- a turn keeps the class, and flips what it flips
 pub turned_class : Facts → (c : ℕ) (flipped turns : Bool) (n : ℕ) (p q : Setup) → IsAdmissible p → n < 8 → KeepsPlay n p.men → IsTurnedBy n turns p q → IsOf c flipped p → IsOf c (differ flipped turns) q
@@ -64,8 +61,7 @@ all_right_pawns = refl
 
 none_past : (c : ℕ) (side : Side) → 36 ≤ c → men_in c side P ≡ 0
 unfolding men_in
-none_past c White le = ap (λ m. count_in (kinds_of m White) P) (past c le)
-none_past c Black le = ap (λ m. count_in (kinds_of m Black) P) (past c le)
+none_past c side le = grind (arith, past)
 
 -- where both sides have a pawn there may be a target
 target_there : (c : ℕ) → 1 ≤ men_in c White P → 1 ≤ men_in c Black P → has_target (material_of c) ≡ true
@@ -117,16 +113,14 @@ no_pawns c flipped p ok is_of none s man stands pawn =
         first_false a b h e = grind arith
 
         of_side : (side : Side) → (eqb (men_in c White P) 0 && eqb (men_in c Black P) 0) ≡ true → men_in c side P ≡ 0
-        of_side White both = eqb-true _ _ (and_parts _ _ both).0
-        of_side Black both = eqb-true _ _ (and_parts _ _ both).1
+        of_side side both = grind (arith, eqb-true)
 
 -- a settled form is of the position's class
 pub settled_class : Facts → (c : ℕ) (flipped : Bool) (p q : Setup) → SettlesTo p q → IsOf c flipped p → IsOf c flipped q
 settled_class facts c flipped p q settles is_of = record { men = λ man. ap (λ m. count_of m man) (facts.settled_men p q settles) ∙ is_of.men man }
 
 pub settled_side : (p q : Setup) → SettlesTo p q → q.side ≡ p.side
-settled_side p q (inl settled) = ap (λ (s : Setup). s.side) settled.1
-settled_side p q (inr other) = ap (λ (s : Setup). s.side) other.1
+settled_side p q h = grind arith
 
 -- the men of what a position settles to stand where they stood
 pub settled_stand : Facts → (c : ℕ) (flipped : Bool) (p q : Setup) (stand : Stand) (side : Side) (passed : Bool) → IsAdmissible p → IsOf c flipped p → Stood c flipped p.men (list_of stand) → side ≡ p.side → is_some q.target ≡ passed

@@ -65,10 +65,7 @@ AllOnBoard (e ∷ list) = (e.1 < 64) × AllOnBoard list
 
 entries_on_board : (x y : Entry) → IfSome x (λ e. e.1 < 64) → IfSome y (λ e. e.1 < 64) → AllOnBoard (option_to_list x ++ option_to_list y)
 unfolding AllOnBoard
-entries_on_board None None x_in y_in = tt
-entries_on_board None (Some d) x_in y_in = (y_in, tt)
-entries_on_board (Some e) None x_in y_in = (x_in, tt)
-entries_on_board (Some e) (Some d) x_in y_in = (x_in, (y_in, tt))
+entries_on_board x y x_in y_in = grind arith
 
 list_on_board : (stand : Stand) → AreOnBoard stand → AllOnBoard (list_of stand)
 unfolding AllOnBoard

@@ -52,12 +52,7 @@ returns-in_err-position-clause-none c =
 
 -- or it spells the position
 spelled : (c : After-is_settled) → Spells c.args.class c.args.code c.in_ok-position.position
-spelled c =
-    let list = list_of c.in_ok-stand.stand in
-    setup_spelled c.args.class c.args.code c.ends-number.result.0 c.ends-number.result.1 c.ends-number.result.2 list c.target_of-target.result c.in_ok-position.position c.ends-number.ensures c.in_ok-stand.ensures.some
-    c.target_of-target.ensures (c.are_apart.ensures.0 c.if-not-are_apart.false)
-    (on_board_of list c.ends-number.result.1 c.target_of-target.result c.board_of-board.result c.in_ok-position.position c.board_of-board.ensures.men c.in_ok-position.ensures.setup)
-    (subst IsAdmissible (sym c.in_ok-position.ensures.setup) (c.in_ok-position.ensures.admits.0 refl))
+spelled c = grind (arith, setup_spelled, on_board_of)
 
 pub returns-then-is_settled-clause-spells : goal.returns-then-is_settled-clause-spells
 returns-then-is_settled-clause-spells c = spelled c.before

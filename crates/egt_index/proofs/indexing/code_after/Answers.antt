@@ -31,5 +31,4 @@ returns c = λ p has keeps.
     ∙ ap (λ d. number_from c.number_behind-number.result (2 ∷ cond (has_target (material_of c.args.class)) (2 ∷ []) []) (side_number (turned_side (c.args.turn / 8 == 1) p.side) ∷ cond (has_target (material_of c.args.class)) (d ∷ []) [])) (passed_digit p.target c.args.passed has.target_is))
   where
     passed_digit : (o : Option ℕ) (passed : Bool) → is_some o ≡ passed → cond passed 1 0 ≡ target_digit o
-    passed_digit None passed is = ap (λ b. cond b 1 0) (sym is)
-    passed_digit (Some t) passed is = ap (λ b. cond b 1 0) (sym is)
+    passed_digit o passed is = grind arith

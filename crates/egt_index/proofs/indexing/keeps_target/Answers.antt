@@ -1,4 +1,4 @@
-use Rattle.std.proofs.Common.{ℕ, ◌≡◌, Option, true, false, refl, ap, sym, ◌∙◌, inl, inr, Bool, IsTrue, ◌↔◌}
+use Rattle.std.proofs.Common.{arith, ℕ, ◌≡◌, Option, true, false, refl, ap, sym, ◌∙◌, inl, inr, Bool, IsTrue, ◌↔◌}
 use Rattle.egt_index.specs.Prelude.{false≢true, is_some, Setup, IsSettled, SettlesTo}
 use Rattle.egt_index.proofs.indexing.keeps_target.Goals as goal
 
@@ -15,10 +15,7 @@ returns-in-Some c = λ q settles. by_test q c.is_settled.result c.is_settled.ens
     there = ap (λ (o : Option ℕ). is_some o) (sym c.target.ensures ∙ c.in-Some.is)
 
     by_test : (q : Setup) (b : Bool) → IsTrue b ↔ IsSettled p → SettlesTo p q → is_some q.target ≡ b
-    by_test q true test (inl settled) = ap target_in settled.1 ∙ there
-    by_test q true test (inr other) = absurd (other.0 (test.0 refl))
-    by_test q false test (inl settled) = absurd (false≢true (test.1 settled.0))
-    by_test q false test (inr other) = ap target_in other.1
+    by_test q b test h = grind arith
 
 pub returns-in-None : goal.returns-in-None
 returns-in-None c = λ q settles. by_form q settles
@@ -27,5 +24,4 @@ returns-in-None c = λ q settles. by_form q settles
     p = c.args.position.now
 
     by_form : (q : Setup) → SettlesTo p q → is_some q.target ≡ false
-    by_form q (inl settled) = ap target_in settled.1 ∙ ap (λ (o : Option ℕ). is_some o) (sym c.target.ensures ∙ c.in-None.is)
-    by_form q (inr other) = ap target_in other.1
+    by_form q h = grind (arith, is_some)

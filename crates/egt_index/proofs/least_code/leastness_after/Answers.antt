@@ -27,11 +27,7 @@ returns-then-own-image-clause-keeps c = λ h stand front p side passed code has 
 -- the image has the kings on the same squares, and exchanges no colours
 same_kings : (c : After-leastness_by_first) (stand : Stand) → HasKingsOn c.args.white c.args.black stand → eqb (c.args.turn / 8) 1 ≡ false
     → 64 * stand.white + stand.black ≡ after c.args.turn stand.white stand.black
-same_kings c stand on plain =
-    sym (ap (λ flips. cond {A = ℕ} flips (64 * stand.black + stand.white) (64 * stand.white + stand.black)) plain)
-    ∙ sym (same_by_kings (own c.args.turn) c.kings-own.result c.args.white c.args.black stand on c.kings-own.ensures)
-    ∙ (omega (arith, c.if-image-own.false, c.if-own-image.false))
-    ∙ same_by_kings (after c.args.turn) c.kings_after-image.result c.args.white c.args.black stand on c.kings_after-image.ensures
+same_kings c stand on plain = grind (arith, same_by_kings)
 
 pub returns-clause-beats : goal.returns-clause-beats
 returns-clause-beats c = λ h stand front p side passed code has keeps brings s.

@@ -10,9 +10,7 @@ across : (c : After-leastness_after-one) (stand : Stand) → HasKingsOn c.args.w
 across c stand on = (on.1, on.0)
 
 home : (c : After-leastness_after-one) (stand : Stand) → HasKingsOn c.args.white c.args.black stand → AreHome (has_pawns (material_of c.args.class)) true (seen_across stand).white c.home-first.result.0 c.home-first.result.1
-home c stand on =
-    subst (λ (white : ℕ). AreHome (has_pawns (material_of c.args.class)) true white c.home-first.result.0 c.home-first.result.1) (sym on.1)
-    (subst (λ pawns. AreHome pawns true c.args.black c.home-first.result.0 c.home-first.result.1) c.has_pawns.ensures c.home-first.ensures)
+home c stand on = grind arith
 
 there : (c : After-leastness_after-one) (stand : Stand) (p : Setup) (side : Side) (passed : Bool) → HasStand c.args.class false stand side passed p → HasStand c.args.class true (seen_across stand) side passed p
 there c stand p side passed has =

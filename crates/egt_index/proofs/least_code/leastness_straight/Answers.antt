@@ -1,4 +1,4 @@
-use Rattle.std.proofs.Common.{◌≡◌, ◌<◌, Bool, false, Option, ℕ, Some, None, IfSome, sym, subst}
+use Rattle.std.proofs.Common.{arith, ◌≡◌, ◌<◌, Bool, false, Option, ℕ, Some, None, IfSome, sym, subst}
 use Rattle.egt_index.specs.Prelude.{Setup, Side, material_of, HasKingsOn, Keeps, SpellsAt, AreHome, king_square}
 use Rattle.egt_index.specs.Prelude.{has_pawns, king_base, HasStand, IsInOrder, Stand}
 use Rattle.egt_index.proofs.Beating.{keeps_with, turn_beaten, turn_kept, white_home}
@@ -12,11 +12,7 @@ leastness_after-requires-clause-turn c = subst (λ (o : Option ℕ). IfSome o (�
 -- the turns that leave the king at home
 home : (c : After-still_home) (stand : Stand) (p : Setup) (side : Side) (passed : Bool) (code : ℕ) → HasKingsOn c.args.white c.args.black stand → HasStand c.args.class false stand side passed p → SpellsAt c.args.class code stand p
     → AreHome (has_pawns (material_of c.args.class)) false stand.white 0 c.still_home.result
-home c stand p side passed code on has s =
-    let there = white_home c.args.class code p stand.white stand.black s.spells has.stood.all.1 has.stood.all.3.1 in
-    let turns = subst (λ (white : ℕ). (d : ℕ) → d < king_base c.has_pawns.result → king_square c.has_pawns.result d ≡ white → AreHome c.has_pawns.result false white 0 c.still_home.result)
-    (sym on.0) c.still_home.ensures.home in
-    subst (λ pawns. (d : ℕ) → d < king_base pawns → king_square pawns d ≡ stand.white → AreHome pawns false stand.white 0 c.still_home.result) c.has_pawns.ensures turns there.0 there.1 there.2
+home c stand p side passed code on has s = grind (arith, white_home)
 
 -- the turn that changes nothing
 kept_still : (c : After-still_home) (stand : Stand) (p : Setup) (side : Side) (passed : Bool) (code : ℕ) → IsInOrder stand.next stand.last → HasStand c.args.class false stand side passed p → SpellsAt c.args.class code stand p → Keeps c.args.class p 0 code

@@ -9,7 +9,4 @@ returns-clause-row c = subst (λ first. IsLoneRow c.args.class first c.args.whit
     (subst (λ b. king_square b c.in_ok-high.high ≡ c.args.white) c.has_pawns.ensures c.in_ok-high.ensures.is) (omega (arith, c.number-black.ensures.on_board, c.number-black.ensures.value)))
   where
     is : (c.from.result * 64 + c.from-2.result) * c.digits_of.result * 2 ≡ (c.in_ok-high.high * 64 + c.args.black) * kind_digits c.args.man.kind * 2
-    is =
-        ap (λ h. (h * 64 + c.from-2.result) * c.digits_of.result * 2) c.from.ensures
-        ∙ ap (λ b. (c.in_ok-high.high * 64 + b) * c.digits_of.result * 2) (c.from-2.ensures ∙ c.number.ensures.value)
-        ∙ ap (λ d. (c.in_ok-high.high * 64 + c.args.black) * d * 2) c.digits_of.ensures.is
+    is = grind arith

@@ -15,9 +15,7 @@ low : (c : Then-number-half) → code_of c.args.class c.args.number ≡ 2 * c.ar
 low c = code_low c.args.class c.args.number (has c.before) (subst (λ h. c.args.number < h) c.half-half.ensures c.if-number-half.true)
 
 high : (c : Else-number-half) → code_of c.args.class c.args.number ≡ 2 * (c.args.number - c.half-half.result) + 1
-high c =
-    code_high c.args.class c.args.number (has c.before) (subst (λ h. h ≤ c.args.number) c.half-half.ensures c.if-number-half.false)
-    ∙ ap (λ h. 2 * (c.args.number - h) + 1) (sym c.half-half.ensures)
+high c = grind (arith, code_high, has)
 
 pub returns-then-not-has_target-clause-is : goal.returns-then-not-has_target-clause-is
 returns-then-not-has_target-clause-is c = sym (code_plain c.args.class c.args.number (sym c.has_target.ensures ∙ c.if-not-has_target.true))

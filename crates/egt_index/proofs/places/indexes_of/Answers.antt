@@ -7,10 +7,7 @@ use Rattle.egt_index.proofs.places.indexes_of.Goals as goal
 
 -- past the last shelf there is none
 found : (c shelf : ℕ) (o : Option (ℕ × Bool)) → c < 36 → IsWithin c shelf → IfNone o (size_of c ≤ shelf * (2 * places c)) → IsSome o
-found c shelf (Some x) c_in within past = refl
-found c shelf None c_in within past =
-    let some = places_some c in
-    absurd (omega arith)
+found c shelf o c_in within past = grind (arith, places_some)
 
 pub unwrap-number-requires : goal.unwrap-number-requires
 unwrap-number-requires c = found c.args.class c.args.shelf c.front_number.result (omega (arith, c.number-number.ensures.below, c.number-number.ensures.value)) c.requires c.front_number.ensures.past

@@ -21,8 +21,7 @@ returns-in-Some c = of c.places_behind.result c.places_behind.ensures
 
     of : (o : Option Places) → IfSome o (λ found. (shelf high : ℕ) → IsFront c.args.class high c.in-Some.front → IsShelfBehind c.args.passed c.args.class shelf high → AreIndexes c.args.class shelf found)
         → IfSome o (λ found. (shelf : ℕ) → IsShelfBehind c.args.passed c.args.class shelf c.args.number → AreIndexes c.args.class shelf found)
-    of None told = tt
-    of (Some found) told = λ shelf at. told shelf c.args.number front at
+    of o told = grind arith
 
 -- without a front all codes are void
 pub returns-in-None : goal.returns-in-None

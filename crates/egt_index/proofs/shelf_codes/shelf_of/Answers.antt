@@ -6,10 +6,7 @@ use Rattle.egt_index.proofs.shelf_codes.shelf_of.Goals.{After-shelf_behind}
 use Rattle.egt_index.proofs.shelf_codes.shelf_of.Goals as goal
 
 front_is : (c : After-shelf_behind) → (c.from.result * 64 + c.from-2.result) * c.digits_of.result + c.in_ok-digit.digit ≡ (c.in_ok-high.high * 64 + c.args.men.now.black) * kind_digits c.args.men.now.one.kind + c.in_ok-digit.digit
-front_is c =
-    ap (λ h. (h * 64 + c.from-2.result) * c.digits_of.result + c.in_ok-digit.digit) c.from.ensures
-    ∙ ap (λ b. (c.in_ok-high.high * 64 + b) * c.digits_of.result + c.in_ok-digit.digit) (c.from-2.ensures ∙ c.number.ensures.value)
-    ∙ ap (λ d. (c.in_ok-high.high * 64 + c.args.men.now.black) * d + c.in_ok-digit.digit) c.digits_of.ensures.is
+front_is c = grind arith
 
 told : (c : After-shelf_behind) (shelf : ℕ) → IsShelfBehind c.args.passed c.args.class shelf ((c.from.result * 64 + c.from-2.result) * c.digits_of.result + c.in_ok-digit.digit) → IsShelfOf c.args.passed c.args.class shelf c.args.men.now
 told c shelf at =

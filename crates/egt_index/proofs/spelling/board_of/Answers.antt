@@ -25,9 +25,7 @@ with_entry-board-requires-clause-room c =
 -- the board with the first man beside the kings
 board_is : (c : goal.After-with_entry-arg-2-1) → c.with_entry-board.result ≡ men_of (kings c.args.stand.now ++ option_to_list c.args.stand.now.next)
 unfolding kings
-board_is c =
-    c.with_entry-board.ensures ∙ ap (λ (men : Placement). with_entry men c.args.stand.now.next) c.kings_on-kings.ensures
-    ∙ entry_put (kings c.args.stand.now) c.args.stand.now.next (apart_before (kings c.args.stand.now ++ option_to_list c.args.stand.now.next) (option_to_list c.args.stand.now.last) c.requires)
+board_is c = grind (arith, entry_put, kings, apart_before)
 
 pub with_entry-requires-clause-free : goal.with_entry-requires-clause-free
 unfolding kings
@@ -43,9 +41,7 @@ with_entry-requires-clause-room c =
 
 all_is : (c : After-with_entry) → c.with_entry.result ≡ men_of (list_of c.args.stand.now)
 unfolding kings
-all_is c =
-    c.with_entry.ensures ∙ ap (λ (men : Placement). with_entry men c.args.stand.now.last) (board_is c.before)
-    ∙ entry_put (kings c.args.stand.now ++ option_to_list c.args.stand.now.next) c.args.stand.now.last c.requires
+all_is c = grind (arith, board_is, entry_put, kings)
 
 pub returns-clause-men : goal.returns-clause-men
 returns-clause-men c = all_is c

@@ -1,4 +1,4 @@
-use Rattle.std.proofs.Common.{◌≡◌, Option, Some, None, IfNone, IfSome, subst, refl, sym, ◌∙◌}
+use Rattle.std.proofs.Common.{arith, ◌≡◌, Option, Some, None, IfNone, IfSome, subst, refl, sym, ◌∙◌}
 use Rattle.egt_index.specs.Prelude.{false≢true, IsSome, material_of, SpellsMen, SpellsNoMen, IsFilled, list_of, Stand}
 use Rattle.egt_index.proofs.AtIndex.{taken}
 use Rattle.egt_index.proofs.Decoded.{has_pawns_list, no_men}
