@@ -1,5 +1,5 @@
 -- Attacks by the men of a board's slots.
-use Rattle.std.proofs.Common.{◌≡◌, ◌≢◌, ◌↔◌, ◌⊎◌, ℕ, List, [], ◌∷◌, Some, None, refl, sym, ap, ◌∙◌, subst, inl, inr}
+use Rattle.std.proofs.Common.{arith, ◌≡◌, ◌≢◌, ◌↔◌, ◌⊎◌, ℕ, List, [], ◌∷◌, Some, None, refl, sym, ap, ◌∙◌, subst, inl, inr}
 use Rattle.egt_board.specs.Prelude.{bit_at, nat_cmp, cases_eq, Side, Man, Placement, Stands, IsFree, get-remove_same}
 use Rattle.egt_board.specs.Prelude.{get-remove_other, Reaches, Reaches-free, Slot, listed, placed, InOrder, AreKept}
 use Rattle.egt_board.specs.Prelude.{slots_of, Inside, find-below, first_half, second_half, IsAttacked, AttacksFrom}
@@ -74,13 +74,7 @@ attacked_as a board men occupied side t kept is seen =
 -- the squares that are free once the man on one of them is taken off
 pub free_without : (board : Placement) (all left lifted : ℕ) → ((u : ℕ) → (bit_at all u ≡ 0) ↔ IsFree board u) → bit_at left lifted ≡ 0 → ((u : ℕ) → u ≢ lifted → bit_at left u ≡ bit_at all u)
     → (u : ℕ) → (bit_at left u ≡ 0) ↔ IsFree (map.remove board lifted) u
-free_without board all left lifted free gone others u = elim (cases_eq u lifted) [
-  | inl e ↦ (λ _. get-remove_same board lifted u e, λ _. ap (bit_at left) e ∙ gone)
-  | inr other ↦ (
-    λ none. get-remove_other board lifted u other ∙ (free u).0 (sym (others u other) ∙ none),
-    λ none. others u other ∙ (free u).1 (sym (get-remove_other board lifted u other) ∙ none),
-  )
-]
+free_without board all left lifted free gone others u = grind (arith, cases_eq, get-remove_same, get-remove_other)
 
 -- a board is seen as it is
 pub seen_itself : (board : Placement) (side : Side) (occupied : ℕ) → ((u : ℕ) → (bit_at occupied u ≡ 0) ↔ IsFree board u) → IsSeenAs board side occupied board
@@ -92,13 +86,7 @@ pub seen_without : (board : Placement) (side : Side) (all left lifted : ℕ) →
 seen_without board side all left lifted foreign free gone others = record { stand = stand; free = free_without board all left lifted free gone others }
   where
     stand : (s : ℕ) (man : Man) → man.side ≡ side → Stands (map.remove board lifted) s man ↔ Stands board s man
-    stand s man own = elim (cases_eq s lifted) [
-      | inl e ↦ (
-        λ there. let bad : None ≡ Some man = sym (get-remove_same board lifted s e) ∙ there in absurd (cc),
-        λ there. absurd (foreign man (ap (map.get board) (sym e) ∙ there) own),
-      )
-      | inr other ↦ (λ there. sym (get-remove_other board lifted s other) ∙ there, λ there. get-remove_other board lifted s other ∙ there)
-    ]
+    stand s man own = grind (arith, cases_eq, get-remove_same, get-remove_other)
 
 -- one of the board's four men attacks the square exactly where a man of that side does
 pub attacked_by : (a : Inside) (men : Placement) (occupied : ℕ) (side : Side) (t : ℕ) → AreKept (slots_of a) → placed (slots_of a) ≡ men → ((u : ℕ) → (bit_at occupied u ≡ 0) ↔ IsFree men u)

@@ -34,31 +34,11 @@ beams most (d ∷ ds) s = bit_or (beam most d s 0) (beams most ds s)
 
 further_found : (w : Way) (by a b : ℕ) → a < 8 → further_on w by a ≡ Some b → (b < 8) × Further w (1 * by) a b
 unfolding further_on
-further_found Up by a b a_in e = go (ltb (a + by) 8) refl e
-  where
-    go : (x : Bool) → ltb (a + by) 8 ≡ x → (elim x as (λ _. Option ℕ) [ true ↦ Some (a + by) | false ↦ None ]) ≡ Some b → (b < 8) × Further Up (1 * by) a b
-    go true h e = let less = ltb-true (a + by) 8 h in let same : a + by ≡ b = cc in (omega arith, omega arith)
-    go false h e = absurd (cc)
-further_found Down by a b a_in e = go (ltb a by) refl e
-  where
-    go : (x : Bool) → ltb a by ≡ x → (elim x as (λ _. Option ℕ) [ true ↦ None | false ↦ Some (a - by) ]) ≡ Some b → (b < 8) × Further Down (1 * by) a b
-    go true h e = absurd (cc)
-    go false h e = let more = ltb-false a by h in let same : a - by ≡ b = cc in (omega arith, omega arith)
-further_found Still by a b a_in e = let same : a ≡ b = cc in (omega arith, sym same)
+further_found w by a b a_in e = grind (arith, ltb-true, ltb-false)
 
 further_none : (w : Way) (by a b : ℕ) → further_on w by a ≡ None → b < 8 → Further w (1 * by) a b → ⊥
 unfolding further_on
-further_none Up by a b e b_in f = go (ltb (a + by) 8) refl e
-  where
-    go : (x : Bool) → ltb (a + by) 8 ≡ x → (elim x as (λ _. Option ℕ) [ true ↦ Some (a + by) | false ↦ None ]) ≡ None → ⊥
-    go true h e = cc
-    go false h e = let past = ltb-false (a + by) 8 h in omega arith
-further_none Down by a b e b_in f = go (ltb a by) refl e
-  where
-    go : (x : Bool) → ltb a by ≡ x → (elim x as (λ _. Option ℕ) [ true ↦ None | false ↦ Some (a - by) ]) ≡ None → ⊥
-    go true h e = let less = ltb-true a by h in omega arith
-    go false h e = cc
-further_none Still by a b e b_in f = cc
+further_none w by a b e b_in f = grind (arith, ltb-false, ltb-true)
 
 file_at : (f r : ℕ) → f < 8 → file_of (8 * r + f) ≡ f
 file_at f r h = omega arith
@@ -85,15 +65,7 @@ next_found d s t s_in e = go (further_on d.files d.wide (file_of s)) (further_on
 
 next_none : (d : Step) (s t : ℕ) → next_square d s ≡ None → Away d 1 s t → ⊥
 unfolding next_square joint
-next_none d s t e away = go (further_on d.files d.wide (file_of s)) (further_on d.ranks d.high (rank_of s)) refl refl e
-  where
-    in_board : t < 64
-    in_board = away.on_board
-
-    go : (f r : Option ℕ) → further_on d.files d.wide (file_of s) ≡ f → further_on d.ranks d.high (rank_of s) ≡ r → joint f r ≡ None → ⊥
-    go None r hf hr e = further_none d.files d.wide (file_of s) (file_of t) hf (omega arith) away.across
-    go (Some f) None hf hr e = further_none d.ranks d.high (rank_of s) (rank_of t) hr (let h = in_board in omega arith) away.along
-    go (Some f) (Some r) hf hr e = cc
+next_none d s t e away = grind (arith, further_none)
 
 -- the bits of a beam are what a ride over the bare board reaches
 beam_reached : (n k s a set : ℕ) (d : Step) → Rode 0 set k s a d → AreReached 0 (beam n d a set) (k + n) s d

@@ -27,11 +27,7 @@ clear-lt n k below one =
 
 -- a bit that a test did not find is 0
 pub bit_at_untold : (b : Bool) (n t : ℕ) → ((b ≡ true) ↔ (bit_at n t ≡ 1)) → b ≡ false → bit_at n t ≡ 0
-bit_at_untold b n t told untrue =
-    elim (cases_eq (bit_at n t) 1) [
-      | inl one ↦ absurd (false≢true (sym untrue ∙ told.1 one))
-      | inr other ↦ let small = bit_at-lt n t in omega arith
-    ]
+bit_at_untold b n t told untrue = grind (arith, cases_eq, bit_at-lt)
 
 -- a number of 64 bits has its ones below 64
 pub bit_at-within : (n t : ℕ) → n < 2 ^ 64 → bit_at n t ≡ 1 → t < 64

@@ -48,8 +48,7 @@ covered (e ∷ es) f n small keys =
     let more = total-cleared f e.0 n (small e.0) in omega arith
   where
     bound : (t : ℕ) → (t ≡ e.0) ⊎ (t ≢ e.0) → changed_at f e.0 0 t ≤ 1
-    bound t (inl h) = let is = changed_here f e.0 0 t h in omega arith
-    bound t (inr h) = let is = changed_other f e.0 0 t h in let le = small t in omega arith
+    bound t h = grind (arith, changed_here, changed_other)
 
     key : (t : ℕ) → changed_at f e.0 0 t ≡ 1 → (t ≡ e.0) ⊎ (t ≢ e.0) → IsKey t es
     key t one (inl h) = let is = changed_here f e.0 0 t h in absurd (omega arith)
@@ -66,18 +65,10 @@ own_few men side set k few k_in king held =
     let size = placement.len-entries men in omega arith
   where
     not_own : bit_at set.bits k ≡ 0
-    not_own = elim (cases_eq (bit_at set.bits k) 1) [
-      | inl one ↦
-          let own = (held k).0 one in
-          let both : Some own.man ≡ Some (king_of (other_side side)) = sym own.stands ∙ king.stands in
-          let same : own.man ≡ king_of (other_side side) = (cc) in
-          absurd (sides_differ side (sym own.theirs ∙ ap (λ (m : Man). m.side) same))
-      | inr other ↦ let small = bit_at-lt set.bits k in omega arith
-    ]
+    not_own = grind (arith, cases_eq, sides_differ, bit_at-lt)
 
     bound : (t : ℕ) → (t ≡ k) ⊎ (t ≢ k) → changed_at (bit_at set.bits) k 1 t ≤ 1
-    bound t (inl e) = let is = changed_here (bit_at set.bits) k 1 t e in omega arith
-    bound t (inr other) = let is = changed_other (bit_at set.bits) k 1 t other in let small = bit_at-lt set.bits t in omega arith
+    bound t h = grind (arith, changed_here, changed_other, bit_at-lt)
 
     key : (t : ℕ) → changed_at (bit_at set.bits) k 1 t ≡ 1 → (t ≡ k) ⊎ (t ≢ k) → IsKey t (placement.entries men)
     key t one (inl e) = ap is_some (sym (placement.get-entries men t) ∙ ap (placement.get men) e ∙ king.stands)

@@ -1,5 +1,5 @@
 -- A man sought among the slots of a board.
-use Rattle.std.proofs.Common.{◌≡◌, ◌⊎◌, ℕ, List, [], ◌∷◌, Some, None, sym, ap, ◌∙◌, inl, inr}
+use Rattle.std.proofs.Common.{arith, ◌≡◌, ◌⊎◌, ℕ, List, [], ◌∷◌, Some, None, sym, ap, ◌∙◌, inl, inr}
 use Rattle.egt_board.specs.Prelude.{nat_cmp, cases_eq, Man, Slot, listed, InOrder, find-below, first_half, second_half}
 use Rattle.std.specs.FinMap as map
 use Rattle.egt_board.proofs.Placed.{find-here, find-later}
@@ -39,6 +39,4 @@ found_holds (Some e ∷ xs) s man found = elim (cases_eq s e.0) [
 ]
   where
     pair : (e : ℕ × Man) → s ≡ e.0 → Some e.1 ≡ Some man → Some e ≡ Some (s, man)
-    pair e same both =
-        let is : e.1 ≡ man = cc in
-        ap (λ q. Some (q, e.1)) (sym same) ∙ ap (λ m. Some (s, m)) is
+    pair e same both = grind arith

@@ -7,14 +7,10 @@ Further-zero : (w : Way) (by a : ℕ) → Further w (0 * by) a a
 Further-zero w by a = grind arith
 
 Further-more : (w : Way) (n by a b c : ℕ) → Further w (n * by) a b → Further w (1 * by) b c → Further w ((n + 1) * by) a c
-Further-more Up n by a b c p q = omega arith
-Further-more Down n by a b c p q = omega arith
-Further-more Still n by a b c p q = q ∙ p
+Further-more w n by a b c p q = grind arith
 
 Further-same : (w : Way) (n a b c : ℕ) → Further w n a b → Further w n a c → b ≡ c
-Further-same Up n a b c p q = omega arith
-Further-same Down n a b c p q = omega arith
-Further-same Still n a b c p q = p ∙ sym q
+Further-same w n a b c p q = grind arith
 
 -- on the way to a coordinate of the board each nearer one is on it too
 Further-next : (w : Way) (n k by a b c : ℕ) → n + 1 ≤ k → b < 8 → c < 8 → Further w (n * by) a b → Further w (k * by) a c → (e : ℕ) × (e < 8) × Further w (1 * by) b e
@@ -33,18 +29,13 @@ pub Away-zero : (d : Step) (s : ℕ) → s < 64 → Away d 0 s s
 Away-zero d s h = record { on_board = h; across = Further-zero d.files d.wide (file_of s); along = Further-zero d.ranks d.high (rank_of s) }
 
 pub Away-more : (d : Step) (n s t u : ℕ) → Away d n s t → Away d 1 t u → Away d (n + 1) s u
-Away-more d n s t u p q = record {
-  on_board = q.on_board;
-  across = Further-more d.files n d.wide _ _ _ p.across q.across;
-  along = Further-more d.ranks n d.high _ _ _ p.along q.along;
-}
+Away-more d n s t u p q = grind (arith, Further-more)
 
 same_square : (t u : ℕ) → file_of t ≡ file_of u → rank_of t ≡ rank_of u → t ≡ u
 same_square t u f r = omega arith
 
 pub Away-same : (d : Step) (n s t u : ℕ) → Away d n s t → Away d n s u → t ≡ u
-Away-same d n s t u p q =
-    same_square t u (Further-same d.files (n * d.wide) _ _ _ p.across q.across) (Further-same d.ranks (n * d.high) _ _ _ p.along q.along)
+Away-same d n s t u p q = grind (arith, same_square, Further-same)
 
 file_at : (f r : ℕ) → f < 8 → file_of (8 * r + f) ≡ f
 file_at f r h = omega arith

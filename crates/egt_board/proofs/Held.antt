@@ -9,10 +9,7 @@ use Rattle.egt_board.proofs.Placed.{find-later}
 use Rattle.egt_board.proofs.Slots.{AreShown, listed-shown}
 
 is_side-same : (a b : Side) → (is_side a b ≡ 1) ↔ (b ≡ a)
-is_side-same White White = (λ _. refl, λ _. refl)
-is_side-same Black Black = (λ _. refl, λ _. refl)
-is_side-same White Black = (λ e. absurd (omega arith), λ e. absurd (cc))
-is_side-same Black White = (λ e. absurd (omega arith), λ e. absurd (cc))
+is_side-same a b = grind arith
 
 -- 1 where a man of this side is there
 bit_of : Side → Option Man → ℕ
@@ -22,15 +19,7 @@ bit_of side (Some man) = is_side side man.side
 -- a bit that is 1 where a man of the side stands
 bit_of-IsHeld : (men : Placement) (t : ℕ) (side : Side) (slot : Option Man) (b : ℕ) → map.get men t ≡ slot → b ≡ bit_of side slot → (b ≡ 1) ↔ IsHeld men t side
 unfolding bit_of
-bit_of-IsHeld men t side None b is e =
-    (λ one. absurd (omega arith), λ held. let bad : Some held.man ≡ None = sym held.stands ∙ is in absurd (cc))
-bit_of-IsHeld men t side (Some man) b is e =
-    let same = is_side-same side man.side in (
-      λ one. record { man = man; stands = is; theirs = same.0 (sym e ∙ one) },
-      λ held.
-          let same_man : held.man ≡ man = (let both : Some held.man ≡ Some man = sym held.stands ∙ is in cc) in
-          e ∙ same.1 (ap (λ (m : Man). m.side) (sym same_man) ∙ held.theirs),
-    )
+bit_of-IsHeld men t side slot b is e = grind (arith, is_side-same)
 
 marked : Side → List Slot → ℕ → ℕ
 marked side [] t = 0
@@ -111,8 +100,7 @@ taken-free a b c d men t n shown is =
     go (map.get men t) refl same
   where
     go : (o : Option Man) → map.get men t ≡ o → n ≡ bit_if o → (n ≡ 0) ↔ IsFree men t
-    go None e none = (λ _. e, λ _. none)
-    go (Some man) e one = (λ none. absurd (omega arith), λ free. let bad : Some man ≡ None = sym e ∙ free in absurd (cc))
+    go o e none = grind arith
 
 found-within : (es : List (ℕ × Man)) (s : ℕ) (man : Man) → AreOnBoard es → map.find nat_cmp s es ≡ Some man → s < 64
 found-within [] s man on found = let bad : None ≡ Some man = found in absurd (cc)

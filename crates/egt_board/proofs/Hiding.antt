@@ -14,89 +14,30 @@ AllRoyal (d ∷ ds) = IsRoyal d × AllRoyal ds
 
 straight_royal : AllRoyal straight_steps
 unfolding AllRoyal
-straight_royal = (
-  record { files = Up; ranks = Still; is = refl; moves = omega arith },
-  (
-    record { files = Down; ranks = Still; is = refl; moves = omega arith },
-    (
-      record { files = Still; ranks = Up; is = refl; moves = omega arith },
-      (
-        record { files = Still; ranks = Down; is = refl; moves = omega arith },
-        tt,
-      ),
-    ),
-  ),
-)
+straight_royal = grind arith
 
 diagonal_royal : AllRoyal diagonal_steps
 unfolding AllRoyal
-diagonal_royal = (
-  record { files = Up; ranks = Up; is = refl; moves = omega arith },
-  (
-    record { files = Up; ranks = Down; is = refl; moves = omega arith },
-    (
-      record { files = Down; ranks = Up; is = refl; moves = omega arith },
-      (
-        record { files = Down; ranks = Down; is = refl; moves = omega arith },
-        tt,
-      ),
-    ),
-  ),
-)
+diagonal_royal = grind arith
 
 queen_royal : AllRoyal (straight_steps ++ diagonal_steps)
 unfolding AllRoyal straight_royal diagonal_royal
 queen_royal = (straight_royal.0, (straight_royal.1.0, (straight_royal.1.1.0, (straight_royal.1.1.1.0, diagonal_royal))))
 
 sliders_royal : (man : Man) → is_slider man.kind ≡ true → AllRoyal (steps_of man.side man.kind)
-sliders_royal man h = go man.kind h
-  where
-    go : (k : Kind) → is_slider k ≡ true → AllRoyal (steps_of man.side k)
-    go Q h = queen_royal
-    go R h = straight_royal
-    go B h = diagonal_royal
-    go N h = absurd (false≢true h)
-    go P h = absurd (false≢true h)
-    go K h = absurd (false≢true h)
+sliders_royal man h = grind (arith, queen_royal, straight_royal, diagonal_royal)
 
 -- between what is reached and the man every square is free
 ride_between : (Free : ℕ → Type 0) (most s t u : ℕ) (d : Step) → IsRoyal d → Rides Free most s t d → IsBetween s t u → Free u
-ride_between Free most s t u d royal r b =
-    let some = b.some in
-    let less = b.less in
-    let here = joined d r.count s t royal r.moves r.away in
-    let there = joined b.step b.far s t b.royal (omega arith) b.there in
-    let same : b.step ≡ d = sym there.step ∙ here.step in
-    let count : r.count ≡ b.far = sym here.count ∙ there.count in
-    r.clear b.near u b.some (omega arith) (subst (λ (e : Step). Away e b.near s u) same b.here)
+ride_between Free most s t u d royal r b = grind (arith, joined)
 
 -- and where they are free it is reached
 ride_clear : (Free Bare : ℕ → Type 0) (most s t : ℕ) (d : Step) → IsRoyal d → Rides Bare most s t d → ((u : ℕ) → IsBetween s t u → Free u) → Rides Free most s t d
-ride_clear Free Bare most s t d royal r free = record {
-  count = r.count;
-  moves = r.moves;
-  within = r.within;
-  away = r.away;
-  clear = λ k u some less away. free u (record { step = d; royal = royal; near = k; far = r.count; some = some; less = less; here = away; there = r.away });
-}
+ride_clear Free Bare most s t d royal r free = grind arith
 
 -- what stands between is on the line too
 ride_nearer : (Bare : ℕ → Type 0) (most s t u : ℕ) (d : Step) → IsRoyal d → ((v : ℕ) → Bare v) → Rides Bare most s t d → IsBetween s t u → Rides Bare most s u d
-ride_nearer Bare most s t u d royal bare r b =
-    let some = b.some in
-    let less = b.less in
-    let here = joined d r.count s t royal r.moves r.away in
-    let there = joined b.step b.far s t b.royal (omega arith) b.there in
-    let same : b.step ≡ d = sym there.step ∙ here.step in
-    let count : r.count ≡ b.far = sym here.count ∙ there.count in
-    let within = r.within in
-    record {
-      count = b.near;
-      moves = b.some;
-      within = omega arith;
-      away = subst (λ (e : Step). Away e b.near s u) same b.here;
-      clear = λ k v k_some k_less away. bare v;
-    }
+ride_nearer Bare most s t u d royal bare r b = grind (arith, joined)
 
 reach_between : (Free : ℕ → Type 0) (most s t u : ℕ) (ds : List Step) → AllRoyal ds → OneOf (Rides Free most s t) ds → IsBetween s t u → Free u
 unfolding AllRoyal
@@ -161,15 +102,7 @@ near F G s t (d ∷ ds) some = elim some [
 ]
 
 leaper_attacks : (F G : ℕ → Type 0) (man : Man) (s t : ℕ) → is_slider man.kind ≡ false → Reaches F man s t → Reaches G man s t
-leaper_attacks F G man s t leaps r = go man.kind leaps r
-  where
-    go : (k : Kind) → is_slider k ≡ false → OneOf (Rides F (farthest k) s t) (steps_of man.side k) → OneOf (Rides G (farthest k) s t) (steps_of man.side k)
-    go Q h r = absurd (false≢true (sym h))
-    go R h r = absurd (false≢true (sym h))
-    go B h r = absurd (false≢true (sym h))
-    go N h r = near F G s t (steps_of man.side N) r
-    go P h r = near F G s t (steps_of man.side P) r
-    go K h r = near F G s t (steps_of man.side K) r
+leaper_attacks F G man s t leaps r = grind (arith, near)
 
 -- the step of a man that is no slider leads to no square with others between
 royal_near : (F : ℕ → Type 0) (s t u : ℕ) (ds : List Step) → AllRoyal ds → OneOf (Rides F 1 s t) ds → IsBetween s t u → ⊥
@@ -190,8 +123,7 @@ royal_near F s t u (d ∷ ds) royal some b = elim some [
 
 pawn_royal : (side : Side) → AllRoyal (pawn_steps side)
 unfolding AllRoyal
-pawn_royal White = (record { files = Up; ranks = Up; is = refl; moves = omega arith }, (record { files = Down; ranks = Up; is = refl; moves = omega arith }, tt))
-pawn_royal Black = (record { files = Up; ranks = Down; is = refl; moves = omega arith }, (record { files = Down; ranks = Down; is = refl; moves = omega arith }, tt))
+pawn_royal side = grind arith
 
 up_apart : (n a b : ℕ) → b ≡ a + n → apart a b ≡ n
 up_apart n a b h = omega arith
@@ -201,19 +133,11 @@ down_apart n a b h = omega arith
 
 -- squares one and two apart are on no line
 off_the_line : (s t u : ℕ) → (((apart (file_of s) (file_of t) ≡ 1) × (apart (rank_of s) (rank_of t) ≡ 2)) ⊎ ((apart (file_of s) (file_of t) ≡ 2) × (apart (rank_of s) (rank_of t) ≡ 1))) → IsBetween s t u → ⊥
-off_the_line s t u h b =
-    let some = b.some in
-    let less = b.less in
-    let gap = gap_of s t (joined b.step b.far s t b.royal (omega arith) b.there).aligned in
-    elim h [ inl e ↦ (let f = e.0 in let r = e.1 in omega arith) | inr e ↦ (let f = e.0 in let r = e.1 in omega arith) ]
+off_the_line s t u h b = grind (arith, gap_of, joined)
 
 -- one step of a knight
 one_step : (F : ℕ → Type 0) (s t : ℕ) (d : Step) → Rides F 1 s t d → Away d 1 s t
-one_step F s t d r =
-    let moves = r.moves in
-    let within = r.within in
-    let one : r.count ≡ 1 = omega arith in
-    subst (λ k. Away d k s t) one r.away
+one_step F s t d r = grind arith
 
 knight_off : (F : ℕ → Type 0) (s t u : ℕ) → OneOf (Rides F 1 s t) knight_steps → IsBetween s t u → ⊥
 knight_off F s t u (inl r) b = let a = one_step F s t _ r in off_the_line s t u (inl (up_apart 1 _ _ a.across, up_apart 2 _ _ a.along)) b
@@ -246,11 +170,7 @@ free_between F man s t u r b = go (is_slider man.kind) refl
     go false h = absurd (leaper_between F man s t u h r b)
 
 pub clear_reach : (F : ℕ → Type 0) (man : Man) (s t : ℕ) → Reaches (Open 0) man s t → ((u : ℕ) → IsBetween s t u → F u) → Reaches F man s t
-clear_reach F man s t bare free = go (is_slider man.kind) refl
-  where
-    go : (slides : Bool) → is_slider man.kind ≡ slides → Reaches F man s t
-    go true h = reach_clear F (Open 0) (farthest man.kind) s t (steps_of man.side man.kind) (sliders_royal man h) bare free
-    go false h = leaper_attacks (Open 0) F man s t h bare
+clear_reach F man s t bare free = grind (arith, reach_clear, sliders_royal, leaper_attacks)
 
 nearer_reach : (man : Man) (s t u : ℕ) → Reaches (Open 0) man s t → IsBetween s t u → Reaches (Open 0) man s u
 nearer_reach man s t u bare b = go (is_slider man.kind) refl

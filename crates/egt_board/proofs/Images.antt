@@ -43,14 +43,7 @@ pub record Kept (p q : Setup) : Type 0 where
   pub mirrors : (n : ℕ) × Reflects n p q
 
 pub Kept-same : (p : Setup) → IsAdmissible p → Kept p p
-Kept-same p ok = record {
-  admissible = ok;
-  settled = (λ h. h, λ h. h);
-  men = inl (record { men = λ man. refl; side = refl });
-  back = (0, refl);
-  no_pawn = λ none. none;
-  mirrors = (0, refl);
-}
+Kept-same p ok = grind arith
 
 pub Kept-on : (p q r : Setup) → Kept p q → Kept q r → Kept p r
 Kept-on p q r first second = record {
@@ -79,16 +72,7 @@ side_by-same : (m : Mirror) → IsKeepingSides m → (side : Side) → side_by m
 side_by-same m keeps side = grind arith
 
 pub carried_of : (m : Mirror) (p q : Setup) → IsKeepingSides m → IsMirrored m p q → IsCarried (square_by m) p q
-carried_of m p q keeps is = record {
-  men = λ t t_in. is.men t t_in ∙ same (map.get p.men t);
-  side = is.side ∙ side_by-same m keeps p.side;
-  target = is.target;
-  on_board = is.on_board;
-}
-  where
-    same : (o : Option Man) → option_map (man_by m) o ≡ o
-    same None = refl
-    same (Some man) = ap Some (man_by-same m keeps man)
+carried_of m p q keeps is = grind (arith, side_by-same, man_by-same)
 
 -- so it is one step to an image
 turn_of : (m : Mirror) (p q : Setup) → Allows m p.men → IsMirrored m p q → IsTurnOf p q
@@ -98,22 +82,13 @@ turn_of Diagonal p q allows is = inl (4, omega arith, inl allows, carried_of Dia
 turn_of Colours p q allows is = inr is
 
 pub target_within : (men : Placement) (mover : Side) (target : Option ℕ) → FitsTarget men mover target → (t : ℕ) → target ≡ Some t → t < 64
-target_within men mover target fits t is =
-    let target_is = subst (FitsTarget men mover) is fits in
-    let b = target_between mover t target_is.rank in
-    let low = b.1 in omega arith
+target_within men mover target fits t is = grind (arith, target_between)
 
 allows_by : (m : Mirror) (men men' : Placement) → (HasNoPawn men → HasNoPawn men') → Allows m men → Allows m men'
-allows_by Files men men' none allows = tt
-allows_by Ranks men men' none allows = none allows
-allows_by Diagonal men men' none allows = none allows
-allows_by Colours men men' none allows = tt
+allows_by m men men' none allows = grind arith
 
 tallies_by : (m : Mirror) (p : Setup) → SameMen p (setup_by m p) ⊎ ExchangedMen p (setup_by m p)
-tallies_by Files p = inl (record { men = count_by Files p.men; side = refl })
-tallies_by Ranks p = inl (record { men = count_by Ranks p.men; side = refl })
-tallies_by Diagonal p = inl (record { men = count_by Diagonal p.men; side = refl })
-tallies_by Colours p = inr (record { men = count_by Colours p.men; side = refl })
+tallies_by m p = grind (arith, count_by)
 
 -- what a mirror keeps
 pub setup_by-kept : (m : Mirror) (p : Setup) → IsAdmissible p → Allows m p.men → Kept p (setup_by m p)

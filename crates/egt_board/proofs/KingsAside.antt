@@ -104,14 +104,7 @@ record IsOnKing (x : Slot) (white black : ℕ) : Type 0 where
   on : (held.0 ≡ white) ⊎ (held.0 ≡ black)
 
 pub king_is : (man : Man) → man.kind ≡ K → (man ≡ king_of White) ⊎ (man ≡ king_of Black)
-king_is man e = of_side man.side refl
-  where
-    of : Side → Kind → Man
-    of side kind = record { side = side; kind = kind }
-
-    of_side : (side : Side) → man.side ≡ side → (man ≡ king_of White) ⊎ (man ≡ king_of Black)
-    of_side White is = inl (ap (λ z. of z man.kind) is ∙ ap (of White) e)
-    of_side Black is = inr (ap (λ z. of z man.kind) is ∙ ap (of Black) e)
+king_is man e = grind arith
 
 on_king : (men : Placement) (kings : HasKings men) (x : Slot) → holds_king x ≡ true → ((s : ℕ) (man : Man) → x ≡ Some (s, man) → Stands men s man) → IsOnKing x kings.white kings.black
 on_king men kings None h there = absurd (false≢true h)

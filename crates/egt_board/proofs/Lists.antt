@@ -108,7 +108,4 @@ len-men_of xs = subst (λ n. placement.len (placement.from_entries {R = nat_cmp}
 
 -- and fewer stand there than are still to come
 pub Laid-room : (board : Placement) (men : List (Man × ℕ)) (i : ℕ) → i < length men → length men ≤ 4 → Laid board men i → placement.len board < 4
-Laid-room board men i i_in few laid =
-    let le = len-men_of (take i men) in
-    let n = length-take i men in
-    subst (λ b. placement.len b < 4) (sym laid.shown) (omega arith)
+Laid-room board men i i_in few laid = grind (arith, len-men_of, take, length-take)

@@ -80,10 +80,7 @@ is_king : (kind : Kind) → kind_number kind ≡ 5 → kind ≡ K
 is_king kind e = grind arith
 
 king_number : (side other : Side) (kind : Kind) → 6 * side_number side + 5 ≡ 6 * side_number other + kind_number kind → let man : Man = record { side = other; kind = kind } in man ≡ king_of side
-king_number White White kind e = ap (λ k. record { side = White; kind = k }) (is_king kind (omega arith))
-king_number White Black kind e = absurd (omega arith)
-king_number Black White kind e = let few = kind_few kind in absurd (omega arith)
-king_number Black Black kind e = ap (λ k. record { side = Black; kind = k }) (is_king kind (omega arith))
+king_number side other kind e = grind (arith, is_king, kind_few)
 
 king_here : (side : Side) → stands_here (king_of side) (Some (king_of side)) ≡ 1
 king_here side = grind arith
@@ -96,11 +93,7 @@ one_king men side s n s_in king =
     let none = none_at_all n in omega arith
   where
     other : (t : ℕ) → t ≢ s → (o : Option Man) → placement.get men t ≡ o → stands_here (king_of side) (placement.get men t) ≡ 0
-    other t apart None e = ap (stands_here (king_of side)) e
-    other t apart (Some man) e = elim (eqb_tells (man_number (king_of side)) (man_number man)) [
-      | inl h ↦ absurd (apart (king.only t (e ∙ ap Some (king_number side man.side man.kind h.1))))
-      | inr h ↦ ap (stands_here (king_of side)) e ∙ ap (λ b. cond b 1 0) h.0
-    ]
+    other t apart o e = grind (arith, eqb_tells, king_number)
 
 pub king_counted : (men : Placement) (side : Side) (s : ℕ) → s < 64 → IsKingOn men side s → count_of men (king_of side) ≡ 1
 unfolding count_of

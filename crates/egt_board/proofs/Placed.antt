@@ -14,8 +14,4 @@ abbrev pub Sorted : List (ℕ × Man) → Type 0
 Sorted es = T (map.is_sorted nat_cmp es)
 
 pub lt_of_less : (a b : ℕ) → T (is_lt (nat_cmp a b)) → a < b
-lt_of_less a b = go (ltb a b) (eqb a b) refl
-  where
-    go : (l e : Bool) → ltb a b ≡ l → T (is_lt (cond l Less (cond e Equal Greater))) → a < b
-    go true e is h = ltb-true a b is
-    go l e is h = grind arith
+lt_of_less a b = grind (arith, ltb-true)

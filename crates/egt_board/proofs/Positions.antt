@@ -5,10 +5,7 @@ use Rattle.egt_board.specs.Prelude.{FitsTarget}
 
 -- the king that waits, chosen by the side to move
 pub waiting_king : (men : Placement) (side : Side) (white black s : ℕ) → IsKingOn men White white → IsKingOn men Black black → ((side ≡ White) × (s ≡ black)) ⊎ ((side ≡ Black) × (s ≡ white)) → IsKingOn men (other_side side) s
-waiting_king men side white black s w b chosen = elim chosen [
-  | inl h ↦ subst (λ x. IsKingOn men (other_side x) s) (sym h.0) (subst (IsKingOn men Black) (sym h.1) b)
-  | inr h ↦ subst (λ x. IsKingOn men (other_side x) s) (sym h.0) (subst (IsKingOn men White) (sym h.1) w)
-]
+waiting_king men side white black s w b chosen = grind arith
 
 -- a target that fits, and none
 pub fits_some : (men : Placement) (mover : Side) (target : Option ℕ) (t : ℕ) → target ≡ Some t → IsTarget men mover t → FitsTarget men mover target
@@ -21,5 +18,4 @@ pub none_of : {A : Type 0} (o : Option A) → is_some o ≡ false → o ≡ None
 none_of o e = grind arith
 
 pub some_of : {A : Type 0} (o : Option A) → is_some o ≡ true → (x : A) × (o ≡ Some x)
-some_of None e = absurd (false≢true e)
-some_of (Some x) e = (x, refl)
+some_of o e = grind arith

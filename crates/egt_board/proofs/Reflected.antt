@@ -15,13 +15,11 @@ one_if (Some man) = 1
 
 put_same : (men : Placement) (s q : ℕ) (o : Option Man) → q ≡ s → map.get men q ≡ None → map.get (put_some men s o) q ≡ o
 unfolding put_some
-put_same men s q None e none = none
-put_same men s q (Some man) e none = get-insert_same men s man q e
+put_same men s q o e none = grind (arith, get-insert_same)
 
 put_other : (men : Placement) (s q : ℕ) (o : Option Man) → q ≢ s → map.get (put_some men s o) q ≡ map.get men q
 unfolding put_some
-put_other men s q None other = refl
-put_other men s q (Some man) other = get-insert_other men s man q other
+put_other men s q o other = grind (arith, get-insert_other)
 
 put_len : (m : Mirror) (men : Placement) (s : ℕ) (o : Option Man) → map.len (put_some men s (option_map (man_by m) o)) ≤ map.len men + one_if o
 unfolding put_some one_if
@@ -126,9 +124,7 @@ setup_by-back m p ok target_in = record {
 }
   where
     seen : (o : Option Man) → o ≡ option_map (man_by m) (option_map (man_by m) o)
-    seen None = refl
-    seen (Some man) = ap Some (sym (man_by-twice m man))
+    seen o = grind (arith, man_by-twice)
 
     again : (o : Option ℕ) → ((t : ℕ) → o ≡ Some t → t < 64) → o ≡ option_map (square_by m) (option_map (square_by m) o)
-    again None h = refl
-    again (Some t) h = ap Some (sym (square_by-twice m t (h t refl)))
+    again o h = grind (arith, square_by-twice)

@@ -18,24 +18,13 @@ pub record Rode (occupied set n s a : ℕ) (d : Step) : Type 0 where
   pub reached : AreReached occupied set n s d
 
 pub Rode-none : (occupied s : ℕ) (d : Step) → s < 64 → Rode occupied 0 0 s s d
-Rode-none occupied s d s_in = record {
-  here = Away-zero d s s_in;
-  on_board = s_in;
-  clear = λ k u some none away. absurd (omega arith);
-  reached = λ t t_in. (
-    λ bit. let bad : 0 ≡ 1 = sym (bit_at-zero t) ∙ bit in absurd (omega arith),
-    λ r. let some = r.moves in let none = r.within in absurd (omega arith),
-  );
-}
+Rode-none occupied s d s_in = grind (arith, Away-zero, bit_at-zero)
 
 Rides-more : (occupied n m s t : ℕ) (d : Step) → n ≤ m → Rides (Open occupied) n s t d → Rides (Open occupied) m s t d
-Rides-more occupied n m s t d le r =
-    let within = r.within in
-    record { count = r.count; moves = r.moves; within = omega arith; away = r.away; clear = r.clear }
+Rides-more occupied n m s t d le r = grind arith
 
 Rides-fewer : (occupied n m s t : ℕ) (d : Step) (r : Rides (Open occupied) m s t d) → r.count ≤ n → Rides (Open occupied) n s t d
-Rides-fewer occupied n m s t d r within =
-    record { count = r.count; moves = r.moves; within = within; away = r.away; clear = r.clear }
+Rides-fewer occupied n m s t d r within = grind arith
 
 -- one more square
 pub reach_more : (occupied set set' n s a b : ℕ) (d : Step) → Rode occupied set n s a d → Away d 1 a b → bit_at set' b ≡ 1 → ((t : ℕ) → t ≢ b → bit_at set' t ≡ bit_at set t) → AreReached occupied set' (n + 1) s d
@@ -45,13 +34,7 @@ reach_more occupied set set' n s a b d rode away same others = λ t t_in. (there
     end = Away-more d n s a b rode.here away
 
     last : Rides (Open occupied) (n + 1) s b d
-    last = record {
-      count = n + 1;
-      moves = omega arith;
-      within = omega arith;
-      away = end;
-      clear = λ k u some less. rode.clear k u some (omega arith);
-    }
+    last = grind (arith, end)
 
     there : (t : ℕ) → t < 64 → bit_at set' t ≡ 1 → Rides (Open occupied) (n + 1) s t d
     there t t_in bit = elim (cases_eq t b) [

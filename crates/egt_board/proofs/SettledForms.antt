@@ -1,5 +1,5 @@
 -- What a position settles to, and what its images settle to.
-use Rattle.std.proofs.Common.{◌≡◌, ℕ, Bool, true, false, if◌then◌else◌, refl, sym, ap, ◌∙◌, subst, inl, inr}
+use Rattle.std.proofs.Common.{arith, ◌≡◌, ℕ, Bool, true, false, if◌then◌else◌, refl, sym, ap, ◌∙◌, subst, inl, inr}
 use Rattle.egt_board.specs.Prelude.{Decided, tells, decided_settled, settled_form, AreImages, Setup, IsAdmissible}
 use Rattle.egt_board.specs.Prelude.{IsSettled, SettlesTo, untargeted, KeepsPlay, IsTurnedBy}
 use Rattle.egt_board.proofs.Turns.{turned_kept, turned_is_image, images_turned}
@@ -13,10 +13,7 @@ unfolding settled_form
 settled_form-is p = settles_as_told p (decided_settled p)
 
 settles_once : (p q r : Setup) → SettlesTo p q → SettlesTo p r → q ≡ r
-settles_once p q r (inl first) (inl second) = first.1 ∙ sym second.1
-settles_once p q r (inl first) (inr second) = absurd (second.0 first.0)
-settles_once p q r (inr first) (inl second) = absurd (first.0 second.0)
-settles_once p q r (inr first) (inr second) = first.1 ∙ sym second.1
+settles_once p q r h e = grind arith
 
 pub settles_made : (p q : Setup) → (SettlesTo p q → q ≡ settled_form p) × (q ≡ settled_form p → SettlesTo p q)
 settles_made p q = (
@@ -28,16 +25,13 @@ untargeted_admissible : (p : Setup) → IsAdmissible p → IsAdmissible (untarge
 untargeted_admissible p ok = record { few = ok.few; on_board = ok.on_board; kings = ok.kings; pawns = ok.pawns; target = tt; quiet = ok.quiet }
 
 pub settles_admissible : (p q : Setup) → IsAdmissible p → SettlesTo p q → IsAdmissible q
-settles_admissible p q ok (inl settled) = subst IsAdmissible (sym settled.1) ok
-settles_admissible p q ok (inr unsettled) = subst IsAdmissible (sym unsettled.1) (untargeted_admissible p ok)
+settles_admissible p q ok h = grind (arith, untargeted_admissible)
 
 pub settles_settled : (p q : Setup) → SettlesTo p q → IsSettled q
-settles_settled p q (inl settled) = subst IsSettled (sym settled.1) settled.0
-settles_settled p q (inr unsettled) = subst IsSettled (sym unsettled.1) tt
+settles_settled p q h = grind arith
 
 pub settles_men : (p q : Setup) → SettlesTo p q → q.men ≡ p.men
-settles_men p q (inl settled) = ap (λ (x : Setup). x.men) settled.1
-settles_men p q (inr unsettled) = ap (λ (x : Setup). x.men) unsettled.1
+settles_men p q h = grind arith
 
 -- a turn takes the position without its target to the turned one without its target
 untargeted_turned : (n : ℕ) (flipped : Bool) (p q : Setup) → IsTurnedBy n flipped p q → IsTurnedBy n flipped (untargeted p) (untargeted q)

@@ -14,35 +14,11 @@ use Rattle.egt_board.proofs.Hiding.{Reaches-target}
 -- a bit of one of four sets, and of all four
 pub any_of_four : (W X Y Z : Type 0) (p q r s n : ℕ) → p < 2 → q < 2 → r < 2 → s < 2 → n ≡ max (max p q) (max r s)
     → (p ≡ 1) ↔ W → (q ≡ 1) ↔ X → (r ≡ 1) ↔ Y → (s ≡ 1) ↔ Z → (n ≡ 1) ↔ (W ⊎ (X ⊎ (Y ⊎ Z)))
-any_of_four W X Y Z p q r s n p_bit q_bit r_bit s_bit is a b c d = (
-  λ one. elim (cases_eq p 1) [
-    | inl h ↦ inl (a.0 h)
-    | inr not_p ↦ elim (cases_eq q 1) [
-      | inl h ↦ inr (inl (b.0 h))
-      | inr not_q ↦ elim (cases_eq r 1) [
-        | inl h ↦ inr (inr (inl (c.0 h)))
-        | inr not_r ↦ inr (inr (inr (d.0 (omega arith))))
-      ]
-    ]
-  ],
-  λ some. elim some [
-    | inl h ↦ (let e = a.1 h in omega arith)
-    | inr rest ↦ elim rest [
-      | inl h ↦ (let e = b.1 h in omega arith)
-      | inr others ↦ elim others [
-        | inl h ↦ (let e = c.1 h in omega arith)
-        | inr h ↦ (let e = d.1 h in omega arith)
-      ]
-    ]
-  ],
-)
+any_of_four W X Y Z p q r s n p_bit q_bit r_bit s_bit is a b c d = grind (arith, cases_eq)
 
 pub all_of_four : (W X Y Z : Type 0) (p q r s n : ℕ) → p < 2 → q < 2 → r < 2 → s < 2 → n ≡ min (min p q) (min r s)
     → (p ≡ 1) ↔ W → (q ≡ 1) ↔ X → (r ≡ 1) ↔ Y → (s ≡ 1) ↔ Z → (n ≡ 1) ↔ (W × X × Y × Z)
-all_of_four W X Y Z p q r s n p_bit q_bit r_bit s_bit is a b c d = (
-  λ one. (a.0 (omega arith), b.0 (omega arith), c.0 (omega arith), d.0 (omega arith)),
-  λ all. let e = a.1 all.0 in let f = b.1 all.1 in let g = c.1 all.2 in let h = d.1 all.3 in omega arith,
-)
+all_of_four W X Y Z p q r s n p_bit q_bit r_bit s_bit is a b c d = grind arith
 
 AllStop : ℕ → Side → ℕ → ℕ → List Slot → Type 0
 AllStop occupied side square t [] = Unit {0}
@@ -131,19 +107,11 @@ AllMove (d ∷ ds) = Moves d × AllMove ds
 
 shifts_off : (w : Way) (n by a : ℕ) → 0 < n → Shifts w by → Further w (n * by) a a → ⊥
 unfolding Shifts
-shifts_off Up n by a some s f = elim s [ inl e ↦ (let g = subst (λ b. a ≡ a + n * b) e f in omega arith) | inr e ↦ (let g = subst (λ b. a ≡ a + n * b) e f in omega arith) ]
-shifts_off Down n by a some s f = elim s [ inl e ↦ (let g = subst (λ b. a ≡ a + n * b) e f in omega arith) | inr e ↦ (let g = subst (λ b. a ≡ a + n * b) e f in omega arith) ]
-shifts_off Still n by a some s f = s
+shifts_off w n by a some s f = grind arith
 
 all_move : (side : Side) (kind : Kind) → AllMove (steps_of side kind)
 unfolding AllMove Moves Shifts
-all_move side Q = (inl (inl refl), (inl (inl refl), (inr (inl refl), (inr (inl refl), (inl (inl refl), (inl (inl refl), (inl (inl refl), (inl (inl refl), tt))))))))
-all_move side R = (inl (inl refl), (inl (inl refl), (inr (inl refl), (inr (inl refl), tt))))
-all_move side B = (inl (inl refl), (inl (inl refl), (inl (inl refl), (inl (inl refl), tt))))
-all_move side N = (inl (inl refl), (inl (inl refl), (inl (inl refl), (inl (inl refl), (inl (inr refl), (inl (inr refl), (inl (inr refl), (inl (inr refl), tt))))))))
-all_move White P = (inl (inl refl), (inl (inl refl), tt))
-all_move Black P = (inl (inl refl), (inl (inl refl), tt))
-all_move side K = (inl (inl refl), (inl (inl refl), (inr (inl refl), (inr (inl refl), (inl (inl refl), (inl (inl refl), (inl (inl refl), (inl (inl refl), tt))))))))
+all_move side kind = grind arith
 
 none_moves : (F : ℕ → Type 0) (most s : ℕ) (ds : List Step) → AllMove ds → OneOf (Rides F most s s) ds → ⊥
 unfolding AllMove Moves

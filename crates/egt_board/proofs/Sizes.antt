@@ -101,14 +101,7 @@ all_few_ahead White = refl
 all_few_ahead Black = refl
 
 one_of_four : (a b c d : Bool) → (a ≡ true) ⊎ ((b ≡ true) ⊎ ((c ≡ true) ⊎ (d ≡ true))) → (a || (b || (c || d))) ≡ true
-one_of_four true b c d h = refl
-one_of_four false true c d h = refl
-one_of_four false false true d h = refl
-one_of_four false false false true h = refl
-one_of_four false false false false h = absurd (elim h [
-  | inl e ↦ false≢true e
-  | inr h ↦ elim h [ inl e ↦ false≢true e | inr h ↦ elim h [ inl e ↦ false≢true e | inr e ↦ false≢true e ] ]
-])
+one_of_four a b c d h = grind arith
 
 at_below : (p : ℕ → Bool) (n k : ℕ) → all_below p n ≡ true → k < n → p k ≡ true
 unfolding all_below
@@ -123,34 +116,15 @@ Line s t = (file_of s ≡ file_of t) ⊎ ((rank_of s ≡ rank_of t) ⊎ ((file_o
 
 aligned_of : (s t : ℕ) → Line s t → aligned s t ≡ true
 unfolding aligned Line
-aligned_of s t line =
-    one_of_four (eqb (file_of s) (file_of t)) (eqb (rank_of s) (rank_of t)) (eqb (file_of s + rank_of s) (file_of t + rank_of t)) (eqb (file_of s + rank_of t) (file_of t + rank_of s))
-    (elim line [
-      | inl h ↦ inl (eq-eqb (file_of s) (file_of t) h)
-      | inr line ↦ inr (elim line [
-        | inl h ↦ inl (eq-eqb (rank_of s) (rank_of t) h)
-        | inr line ↦ inr (elim line [
-          | inl h ↦ inl (eq-eqb (file_of s + rank_of s) (file_of t + rank_of t) h)
-          | inr h ↦ inr (eq-eqb (file_of s + rank_of t) (file_of t + rank_of s) h)
-        ])
-      ])
-    ])
+aligned_of s t line = grind (arith, one_of_four, eq-eqb)
 
 straight_line : (F : ℕ → Type 0) (most s t : ℕ) → OneOf (Rides F most s t) straight_steps → Line s t
 unfolding Line
-straight_line F most s t some = of_four some
-    (λ r. let h = r.away.along in inr (inl (omega arith)))
-    (λ r. let h = r.away.along in inr (inl (omega arith)))
-    (λ r. let h = r.away.across in inl (omega arith))
-    (λ r. let h = r.away.across in inl (omega arith))
+straight_line F most s t some = grind (arith, of_four)
 
 diagonal_line : (F : ℕ → Type 0) (most s t : ℕ) → OneOf (Rides F most s t) diagonal_steps → Line s t
 unfolding Line
-diagonal_line F most s t some = of_four some
-    (λ r. let h = r.away.along in let g = r.away.across in inr (inr (inr (omega arith))))
-    (λ r. let h = r.away.along in let g = r.away.across in inr (inr (inl (omega arith))))
-    (λ r. let h = r.away.along in let g = r.away.across in inr (inr (inl (omega arith))))
-    (λ r. let h = r.away.along in let g = r.away.across in inr (inr (inr (omega arith))))
+diagonal_line F most s t some = grind (arith, of_four)
 
 OneOf-append : (Holds : Step → Type 0) (ds es : List Step) → OneOf Holds (ds ++ es) → OneOf Holds ds ⊎ OneOf Holds es
 OneOf-append Holds [] es some = inr some
@@ -161,18 +135,10 @@ OneOf-append Holds (d ∷ ds) es some = elim some [
 
 -- a step that goes somewhere
 straight_apart : (F : ℕ → Type 0) (most s t : ℕ) → OneOf (Rides F most s t) straight_steps → s ≢ t
-straight_apart F most s t some = λ same. of_four some
-    (λ r. let h = r.away.across in let k = r.moves in omega arith)
-    (λ r. let h = r.away.across in let k = r.moves in omega arith)
-    (λ r. let h = r.away.along in let k = r.moves in omega arith)
-    (λ r. let h = r.away.along in let k = r.moves in omega arith)
+straight_apart F most s t some = grind (arith, of_four)
 
 diagonal_apart : (F : ℕ → Type 0) (most s t : ℕ) → OneOf (Rides F most s t) diagonal_steps → s ≢ t
-diagonal_apart F most s t some = λ same. of_four some
-    (λ r. let h = r.away.across in let k = r.moves in omega arith)
-    (λ r. let h = r.away.across in let k = r.moves in omega arith)
-    (λ r. let h = r.away.across in let k = r.moves in omega arith)
-    (λ r. let h = r.away.across in let k = r.moves in omega arith)
+diagonal_apart F most s t some = grind (arith, of_four)
 
 small_step : ℕ → Step → Bool
 small_step n d = leb d.wide n && leb d.high n
@@ -186,9 +152,7 @@ some_small Holds n (d ∷ ds) all some = elim some [
 ]
 
 Further-within : (w : Way) (by n a b : ℕ) → by ≤ n → Further w (1 * by) a b → (a ≤ b + n) × (b ≤ a + n)
-Further-within Up by n a b le h = (omega arith, omega arith)
-Further-within Down by n a b le h = (omega arith, omega arith)
-Further-within Still by n a b le h = (omega arith, omega arith)
+Further-within w by n a b le h = grind arith
 
 within_of : (F : ℕ → Type 0) (n s t : ℕ) (ds : List Step) → list_all (small_step n) ds ≡ true → OneOf (Rides F 1 s t) ds → within n s t ≡ true
 unfolding within small_step
@@ -208,38 +172,12 @@ apart_true : (s t : ℕ) → s ≢ t → not (eqb s t) ≡ true
 apart_true s t apart = elim (eqb_tells s t) [ inl h ↦ absurd (apart h.1) | inr h ↦ ap not h.0 ]
 
 one_of_two : (a b : Bool) → (a ≡ true) ⊎ (b ≡ true) → (a || b) ≡ true
-one_of_two true b h = refl
-one_of_two false b h = elim h [ inl e ↦ absurd (false≢true e) | inr e ↦ e ]
+one_of_two a b h = grind arith
 
 -- a pawn attacks the squares next to the one ahead
 near_pawn : (F : ℕ → Type 0) (side : Side) (s t : ℕ) → OneOf (Rides F 1 s t) (pawn_steps side) → near side P s t ≡ true
 unfolding near further
-near_pawn F White s t some = elim some [
-  | inl r ↦
-      let one : r.count ≡ 1 = (let m = r.moves in let w = r.within in omega arith) in
-      let h = r.away.along in let g = r.away.across in
-      and_from _ _ (eq-eqb (rank_of t) (rank_of s + 1) (omega arith)) (one_of_two _ _ (inl (eq-eqb (file_of t) (file_of s + 1) (omega arith))))
-  | inr some ↦ elim some [
-    | inl r ↦
-        let one : r.count ≡ 1 = (let m = r.moves in let w = r.within in omega arith) in
-        let h = r.away.along in let g = r.away.across in
-        and_from _ _ (eq-eqb (rank_of t) (rank_of s + 1) (omega arith)) (one_of_two _ _ (inr (eq-eqb (file_of s) (file_of t + 1) (omega arith))))
-    | inr none ↦ absurd none
-  ]
-]
-near_pawn F Black s t some = elim some [
-  | inl r ↦
-      let one : r.count ≡ 1 = (let m = r.moves in let w = r.within in omega arith) in
-      let h = r.away.along in let g = r.away.across in
-      and_from _ _ (eq-eqb (rank_of s) (rank_of t + 1) (omega arith)) (one_of_two _ _ (inl (eq-eqb (file_of t) (file_of s + 1) (omega arith))))
-  | inr some ↦ elim some [
-    | inl r ↦
-        let one : r.count ≡ 1 = (let m = r.moves in let w = r.within in omega arith) in
-        let h = r.away.along in let g = r.away.across in
-        and_from _ _ (eq-eqb (rank_of s) (rank_of t + 1) (omega arith)) (one_of_two _ _ (inr (eq-eqb (file_of s) (file_of t + 1) (omega arith))))
-    | inr none ↦ absurd none
-  ]
-]
+near_pawn F side s t some = grind (arith, and_from, eq-eqb, one_of_two)
 
 -- a man attacks only squares that are near
 near_of : (F : ℕ → Type 0) (side : Side) (kind : Kind) (s t : ℕ) → OneOf (Rides F (farthest kind) s t) (steps_of side kind) → near side kind s t ≡ true
@@ -256,8 +194,7 @@ near_of F side K s t r =
 
 -- a pawn advances only to squares that are near ahead
 one_or_two : (b : Bool) (n : ℕ) → 0 < n → n ≤ cond b 2 1 → (n ≡ 1) ⊎ (n ≡ 2)
-one_or_two true n some most = elim (cases_eq n 1) [ inl e ↦ inl e | inr other ↦ inr (omega arith) ]
-one_or_two false n some most = inl (omega arith)
+one_or_two b n some most = grind (arith, cases_eq)
 
 ahead_of : (F : ℕ → Type 0) (side : Side) (s t : ℕ) → Advances F side s t → near_ahead side s t ≡ true
 unfolding near_ahead further
@@ -266,15 +203,13 @@ ahead_of F White s t a =
     and_from _ _ (eq-eqb (file_of s) (file_of t) (omega arith)) (one_of_two _ _ (go (one_or_two _ a.rides.count a.rides.moves a.rides.within)))
   where
     go : (a.rides.count ≡ 1) ⊎ (a.rides.count ≡ 2) → (eqb (rank_of t) (rank_of s + 1) ≡ true) ⊎ (eqb (rank_of t) (rank_of s + 2) ≡ true)
-    go (inl one) = let h = a.rides.away.along in inl (eq-eqb (rank_of t) (rank_of s + 1) (omega arith))
-    go (inr two) = let h = a.rides.away.along in inr (eq-eqb (rank_of t) (rank_of s + 2) (omega arith))
+    go h = grind (arith, eq-eqb)
 ahead_of F Black s t a =
     let g = a.rides.away.across in
     and_from _ _ (eq-eqb (file_of s) (file_of t) (omega arith)) (one_of_two _ _ (go (one_or_two _ a.rides.count a.rides.moves a.rides.within)))
   where
     go : (a.rides.count ≡ 1) ⊎ (a.rides.count ≡ 2) → (eqb (rank_of s) (rank_of t + 1) ≡ true) ⊎ (eqb (rank_of s) (rank_of t + 2) ≡ true)
-    go (inl one) = let h = a.rides.away.along in inl (eq-eqb (rank_of s) (rank_of t + 1) (omega arith))
-    go (inr two) = let h = a.rides.away.along in inr (eq-eqb (rank_of s) (rank_of t + 2) (omega arith))
+    go h = grind (arith, eq-eqb)
 
 -- a set of squares that are near has few
 few_of_near : (is_near : ℕ → ℕ → Bool) (most : ℕ) (set : SquareSet) (s : ℕ) → all_below (few_near is_near most) 64 ≡ true → s < 64 → ((t : ℕ) → bit_at set.bits t ≡ 1 → is_near s t ≡ true) → size_of set ≤ most
@@ -285,10 +220,7 @@ few_of_near is_near most set s all s_in nears =
     omega arith
   where
     bit_le : (t : ℕ) → bit_at set.bits t ≤ cond (is_near s t) 1 0
-    bit_le t = elim (cases_eq (bit_at set.bits t) 1) [
-      | inl one ↦ rw (nears t one) (omega arith)
-      | inr other ↦ let small = bit_at-lt set.bits t in omega arith
-    ]
+    bit_le t = grind (arith, cases_eq, bit_at-lt)
 
 -- so a man attacks few, and a pawn advances to few
 pub reach_few : (set : SquareSet) (F : ℕ → Type 0) (man : Man) (s : ℕ) → s < 64 → ((t : ℕ) → bit_at set.bits t ≡ 1 → Reaches F man s t) → size_of set ≤ most_reached man.kind

@@ -54,11 +54,7 @@ placed_of xs men s = map.same_entries_map _ _ (entries_placed xs (kept_of xs men
 
 -- what stands on a square
 or_find : (s : ℕ) (x : Slot) (xs : List Slot) → option_or (man_on s x) (map.find nat_cmp s (listed xs)) ≡ map.find nat_cmp s (listed (x ∷ xs))
-or_find s None xs = refl
-or_find s (Some e) xs = one (eqb s e.0) ∙ ap (λ b. cond b (Some e.1) (map.find nat_cmp s (listed xs))) (sym (unsigned_tied s e.0))
-  where
-    one : (b : Bool) → option_or (cond b (Some e.1) None) (map.find nat_cmp s (listed xs)) ≡ cond b (Some e.1) (map.find nat_cmp s (listed xs))
-    one b = grind arith
+or_find s x xs = grind (arith, nat_cmp, listed, unsigned_tied)
 
 or_assoc : (p q r : Option Man) → option_or (option_or p q) r ≡ option_or p (option_or q r)
 or_assoc p q r = grind arith
@@ -118,9 +114,7 @@ cmp_equal : (a b : ℕ) → a ≡ b → nat_cmp a b ≡ Equal
 cmp_equal a b h = ap (λ l. cond l Less (cond (eqb a b) Equal Greater)) (le-ltb a b (omega arith)) ∙ ap (λ e. cond e Equal Greater) (eq-eqb a b h)
 
 cmp_greater : (a b : ℕ) → b < a → nat_cmp a b ≡ Greater
-cmp_greater a b h =
-    let apart : eqb a b ≡ false = elim (eqb_tells a b) [ inl same ↦ (let e = same.1 in absurd (omega arith)) | inr other ↦ other.0 ] in
-    ap (λ l. cond l Less (cond (eqb a b) Equal Greater)) (le-ltb a b (omega arith)) ∙ ap (λ e. cond e Equal Greater) apart
+cmp_greater a b h = grind (arith, eqb_tells, le-ltb)
 
 -- the slots once a man has come to them
 unfoldable pub with_man : Slot → List Slot → List Slot
@@ -176,9 +170,7 @@ on_board_put k man [] on k_in = (k_in, tt)
 on_board_put k man (e ∷ es) on k_in = go (nat_cmp k e.0) (on_board_put k man es on.1 k_in)
   where
     go : (o : Ordering) → AreOnBoard (map.put nat_cmp k man es) → AreOnBoard (by_order o ((k, man) ∷ e ∷ es) ((e.0, man) ∷ es) (e ∷ map.put nat_cmp k man es))
-    go Less rest = (k_in, on)
-    go Equal rest = (on.0, on.1)
-    go Greater rest = (on.0, rest)
+    go o rest = grind arith
 
 length_put : (k : ℕ) (man : Man) (es : List (ℕ × Man)) → length (map.put nat_cmp k man es) ≤ length es + 1
 length_put k man [] = omega arith
@@ -232,7 +224,6 @@ others-below s [] below = refl
 others-below s (e ∷ es) below = go (nat_cmp s e.0) below (others-below s es)
   where
     go : (o : Ordering) → T (is_lt o && below_all nat_cmp s es) → (T (below_all nat_cmp s es) → others s es ≡ es) → cond (not (is_eq o)) (e ∷ others s es) (others s es) ≡ e ∷ es
-    go Less h rest = ap (λ xs. e ∷ xs) (rest h)
     go o h rest = grind arith
 
 left_on : (n s : ℕ) (es : List (ℕ × Man)) → InOrder es → length es ≤ n → without_man false s (padded n es) ≡ padded n (others s es)
@@ -262,10 +253,7 @@ turned : {A : Type 0} (b : Bool) (x y : A) → cond (not b) x y ≡ cond b y x
 turned b x y = grind arith
 
 even_either_way : (s t : ℕ) → eq_by_cmp nat_cmp s t ≡ eq_by_cmp nat_cmp t s
-even_either_way s t = unsigned_tied s t ∙ elim (eqb_tells s t) [
-  | inl same ↦ same.0 ∙ sym (eq-eqb t s (sym same.1))
-  | inr other ↦ other.0 ∙ elim (eqb_tells t s) [ inl same ↦ absurd (other.1 (sym same.1)) | inr apart ↦ sym apart.0 ]
-] ∙ sym (unsigned_tied t s)
+even_either_way s t = grind (arith, unsigned_tied, eqb_tells, eq-eqb)
 
 entries_less : (s : ℕ) (men : Placement) → map.entries (map.remove men s) ≡ others s (map.entries men)
 unfolding others
@@ -296,8 +284,7 @@ on_board_others s [] on = tt
 on_board_others s (e ∷ es) on = go (not (eq_by_cmp nat_cmp s e.0)) (on_board_others s es on.1)
   where
     go : (b : Bool) → AreOnBoard (others s es) → AreOnBoard (cond b (e ∷ others s es) (others s es))
-    go true rest = (on.0, rest)
-    go false rest = rest
+    go b rest = grind arith
 
 pub shown_less : (xs : List Slot) (men : Placement) (s : ℕ) → AreShown xs men → AreShown (without_man false s xs) (map.remove men s)
 shown_less xs men s is =
@@ -421,20 +408,12 @@ slots_rise a b c d men is =
     let rise = subst AreRising (sym is.full) (padded_rise 4 (map.entries men) (map.entries_sorted men) is.on_board) in (rise.0, rise.1.0, rise.1.1.0)
 
 last_empty : (a b c d : Slot) (es : List (ℕ × Man)) → a ∷ b ∷ c ∷ d ∷ [] ≡ padded 4 es → length es < 4 → place d ≡ 64
-last_empty a b c d [] is room = let none : d ≡ None = cc in ap place none
-last_empty a b c d (e ∷ []) is room = let none : d ≡ None = cc in ap place none
-last_empty a b c d (e ∷ f ∷ []) is room = let none : d ≡ None = cc in ap place none
-last_empty a b c d (e ∷ f ∷ g ∷ []) is room = let none : d ≡ None = cc in ap place none
-last_empty a b c d (e ∷ f ∷ g ∷ h ∷ es) is room = absurd (omega arith)
+last_empty a b c d es is room = grind (arith, place)
 
 by_tests : (new a b c d : Slot) (t u v w : Bool) → ltb (place a) (place new) ≡ t → ltb (place b) (place new) ≡ u → ltb (place c) (place new) ≡ v → ltb (place d) (place new) ≡ w
     → opened new true None (a ∷ b ∷ c ∷ d ∷ []) ≡ cond t a new ∷ cond u b (cond t new a) ∷ cond v c (cond u new b) ∷ cond w d (cond v new c) ∷ []
 unfolding opened
-by_tests new a b c d t u v w e f g h =
-    ap (λ x. cond x a new ∷ cond (ltb (place b) (place new)) b (cond x new a) ∷ cond (ltb (place c) (place new)) c (cond (ltb (place b) (place new)) new b) ∷ cond (ltb (place d) (place new)) d (cond (ltb (place c) (place new)) new c) ∷ []) e
-    ∙ ap (λ x. cond t a new ∷ cond x b (cond t new a) ∷ cond (ltb (place c) (place new)) c (cond x new b) ∷ cond (ltb (place d) (place new)) d (cond (ltb (place c) (place new)) new c) ∷ []) f
-    ∙ ap (λ x. cond t a new ∷ cond u b (cond t new a) ∷ cond x c (cond u new b) ∷ cond (ltb (place d) (place new)) d (cond x new c) ∷ []) g
-    ∙ ap (λ x. cond t a new ∷ cond u b (cond t new a) ∷ cond v c (cond u new b) ∷ cond x d (cond v new c) ∷ []) h
+by_tests new a b c d t u v w e f g h = grind (arith, place)
 
 -- the slots with one man more, who stands ahead of the first, of the second, of the third or of none
 pub record Comes (a b c d : Slot) (men : Placement) (new : Slot) : Type 0 where

@@ -4,7 +4,4 @@ use Rattle.egt_board.specs.Prelude.{cases_eq}
 
 -- a square of either set
 pub bit_of_either : (a b m : ℕ) → a < 2 → b < 2 → m ≡ max a b → (m ≡ 1) ↔ ((a ≡ 1) ⊎ (b ≡ 1))
-bit_of_either a b m a_bit b_bit e = (
-  λ one. elim (cases_eq a 1) [ inl h ↦ inl h | inr other ↦ inr (omega arith) ],
-  λ h. elim h [ inl one ↦ omega arith | inr one ↦ omega arith ],
-)
+bit_of_either a b m a_bit b_bit e = grind (arith, cases_eq)

@@ -19,27 +19,14 @@ one_where_same a b = cond (eqb a b) 1 0
 
 -- two tests that say the same
 same_test : (a b c d : ℕ) → (a ≡ b → c ≡ d) → (c ≡ d → a ≡ b) → one_where_same a b ≡ one_where_same c d
-same_test a b c d f g = ap one (elim (eqb_tells a b) [
-  | inl h ↦ h.0 ∙ sym (eq-eqb c d (f h.1))
-  | inr h ↦ elim (eqb_tells c d) [ inl k ↦ absurd (h.1 (g k.1)) | inr k ↦ h.0 ∙ sym k.0 ]
-])
-  where
-    one : Bool → ℕ
-    one test = cond test 1 0
+same_test a b c d f g = grind (arith, eqb_tells, eq-eqb)
 
 -- men of the other sides are the same where the men are
 numbers_exchanged : (s t : Side) (k l : Kind) → one_where_same (6 * side_number (other_side s) + kind_number k) (6 * side_number (other_side t) + kind_number l) ≡ one_where_same (6 * side_number s + kind_number k) (6 * side_number t + kind_number l)
-numbers_exchanged White White k l = same_test _ _ _ _ (λ e. omega arith) (λ e. omega arith)
-numbers_exchanged Black Black k l = same_test _ _ _ _ (λ e. omega arith) (λ e. omega arith)
-numbers_exchanged White Black k l = let a = kind_few k in let b = kind_few l in same_test _ _ _ _ (λ e. omega arith) (λ e. omega arith)
-numbers_exchanged Black White k l = let a = kind_few k in let b = kind_few l in same_test _ _ _ _ (λ e. omega arith) (λ e. omega arith)
+numbers_exchanged s t k l = grind (arith, same_test, kind_few)
 
 here_by : (m : Mirror) (man : Man) (o : Option Man) → stands_here (man_by m man) (option_map (man_by m) o) ≡ stands_here man o
-here_by m man None = refl
-here_by Files man (Some other) = refl
-here_by Ranks man (Some other) = refl
-here_by Diagonal man (Some other) = refl
-here_by Colours man (Some other) = numbers_exchanged man.side other.side man.kind other.kind
+here_by m man o = grind (arith, numbers_exchanged)
 
 -- a mirror leaves as many men, each of them turned
 pub count_by : (m : Mirror) (men : Placement) (man : Man) → count_of (men_by m men) (man_by m man) ≡ count_of men man

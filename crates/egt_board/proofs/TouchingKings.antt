@@ -11,28 +11,4 @@ ride F s t d away = record { count = 1; moves = omega arith; within = omega arit
 
 -- each of a king's steps leads back by another
 pub reached_back : (F G : ℕ → Type 0) (side other : Side) (s t : ℕ) → s < 64 → Reaches F (king_of side) s t → Reaches G (king_of other) t s
-reached_back F G side other s t s_in (inl r) =
-    let a = once F s t _ r in
-    inr (inl (ride G t s _ (record { on_board = s_in; across = a.across; along = sym a.along })))
-reached_back F G side other s t s_in (inr (inl r)) =
-    let a = once F s t _ r in
-    inl (ride G t s _ (record { on_board = s_in; across = a.across; along = sym a.along }))
-reached_back F G side other s t s_in (inr (inr (inl r))) =
-    let a = once F s t _ r in
-    inr (inr (inr (inl (ride G t s _ (record { on_board = s_in; across = sym a.across; along = a.along })))))
-reached_back F G side other s t s_in (inr (inr (inr (inl r)))) =
-    let a = once F s t _ r in
-    inr (inr (inl (ride G t s _ (record { on_board = s_in; across = sym a.across; along = a.along }))))
-reached_back F G side other s t s_in (inr (inr (inr (inr (inl r))))) =
-    let a = once F s t _ r in
-    inr (inr (inr (inr (inr (inr (inr (inl (ride G t s _ (record { on_board = s_in; across = a.across; along = a.along })))))))))
-reached_back F G side other s t s_in (inr (inr (inr (inr (inr (inl r)))))) =
-    let a = once F s t _ r in
-    inr (inr (inr (inr (inr (inr (inl (ride G t s _ (record { on_board = s_in; across = a.across; along = a.along }))))))))
-reached_back F G side other s t s_in (inr (inr (inr (inr (inr (inr (inl r))))))) =
-    let a = once F s t _ r in
-    inr (inr (inr (inr (inr (inl (ride G t s _ (record { on_board = s_in; across = a.across; along = a.along })))))))
-reached_back F G side other s t s_in (inr (inr (inr (inr (inr (inr (inr (inl r)))))))) =
-    let a = once F s t _ r in
-    inr (inr (inr (inr (inl (ride G t s _ (record { on_board = s_in; across = a.across; along = a.along }))))))
-reached_back F G side other s t s_in (inr (inr (inr (inr (inr (inr (inr (inr none)))))))) = absurd none
+reached_back F G side other s t s_in h = grind (arith, once, ride)

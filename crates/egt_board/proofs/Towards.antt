@@ -37,31 +37,15 @@ way_still a b h = ap (λ x. cond x Up (cond (ltb b a) Down Still)) (le-ltb a b (
 
 -- k times this way leads there by the way that is found
 pub way_found : (w : Way) (k a b : ℕ) → 0 < k → Further w (k * size_of_way w) a b → (way_to a b ≡ w) × (apart a b ≡ k * size_of_way w)
-way_found Up k a b some h = (way_up a b (omega arith), omega arith)
-way_found Down k a b some h = (way_down a b (omega arith), omega arith)
-way_found Still k a b some h = (way_still a b (omega arith), omega arith)
+way_found w k a b some h = grind (arith, way_up, way_down, way_still)
 
 -- and the way that is found leads there
 pub way_leads : (n a b : ℕ) → (apart a b ≡ n) ⊎ (apart a b ≡ 0) → Further (way_to a b) (n * size_of_way (way_to a b)) a b
-way_leads n a b h = elim (cases_order a b) [
-  | inl same ↦ subst (λ w. Further w (n * size_of_way w) a b) (sym (way_still a b same)) (sym same)
-  | inr other ↦ elim other [
-    | inl up ↦ subst (λ w. Further w (n * size_of_way w) a b) (sym (way_up a b up)) (elim h [ inl e ↦ omega arith | inr e ↦ absurd (omega arith) ])
-    | inr down ↦ subst (λ w. Further w (n * size_of_way w) a b) (sym (way_down a b down)) (elim h [ inl e ↦ omega arith | inr e ↦ absurd (omega arith) ])
-  ]
-]
+way_leads n a b h = grind (arith, way_still, way_up, way_down)
 
 sizes : (fw rw : Way) (k f r : ℕ) → 0 < k → 0 < size_of_way fw + size_of_way rw → f ≡ k * size_of_way fw → r ≡ k * size_of_way rw
     → (max f r ≡ k) × (off_line f r ≡ 0)
-sizes Up Up k f r some moves e h = (omega arith, omega arith)
-sizes Up Down k f r some moves e h = (omega arith, omega arith)
-sizes Up Still k f r some moves e h = (omega arith, omega arith)
-sizes Down Up k f r some moves e h = (omega arith, omega arith)
-sizes Down Down k f r some moves e h = (omega arith, omega arith)
-sizes Down Still k f r some moves e h = (omega arith, omega arith)
-sizes Still Up k f r some moves e h = (omega arith, omega arith)
-sizes Still Down k f r some moves e h = (omega arith, omega arith)
-sizes Still Still k f r some moves e h = absurd (omega arith)
+sizes fw rw k f r some moves e h = grind arith
 
 pub record AreJoined (d : Step) (k s t : ℕ) : Type 0 where
   pub aligned : are_aligned s t ≡ true
@@ -90,31 +74,13 @@ pub record AreOnLine (s t : ℕ) : Type 0 where
   pub away : Away (toward s t) (distance s t) s t
 
 far_ways : (a b c d : ℕ) → 0 < max (apart a b) (apart c d) → 0 < size_of_way (way_to a b) + size_of_way (way_to c d)
-far_ways a b c d far = elim (cases_order a b) [
-  | inl same ↦ elim (cases_order c d) [
-    | inl also ↦ absurd (omega arith)
-    | inr other ↦ elim other [
-      | inl up ↦ subst (λ w. 0 < size_of_way (way_to a b) + size_of_way w) (sym (way_up c d up)) (omega arith)
-      | inr down ↦ subst (λ w. 0 < size_of_way (way_to a b) + size_of_way w) (sym (way_down c d down)) (omega arith)
-    ]
-  ]
-  | inr other ↦ elim other [
-    | inl up ↦ subst (λ w. 0 < size_of_way w + size_of_way (way_to c d)) (sym (way_up a b up)) (omega arith)
-    | inr down ↦ subst (λ w. 0 < size_of_way w + size_of_way (way_to c d)) (sym (way_down a b down)) (omega arith)
-  ]
-]
+far_ways a b c d far = grind (arith, way_up, way_down)
 
 first_size : (f r : ℕ) → off_line f r ≡ 0 → (f ≡ max f r) ⊎ (f ≡ 0)
-first_size f r h = elim (cases_order f r) [
-  | inl same ↦ inl (omega arith)
-  | inr other ↦ elim other [ inl less ↦ inr (omega arith) | inr more ↦ inl (omega arith) ]
-]
+first_size f r h = grind arith
 
 second_size : (f r : ℕ) → off_line f r ≡ 0 → (r ≡ max f r) ⊎ (r ≡ 0)
-second_size f r h = elim (cases_order f r) [
-  | inl same ↦ inl (omega arith)
-  | inr other ↦ elim other [ inl less ↦ inl (omega arith) | inr more ↦ inr (omega arith) ]
-]
+second_size f r h = grind arith
 
 pub on_line : (s t : ℕ) → s < 64 → t < 64 → are_aligned s t ≡ true → AreOnLine s t
 on_line s t s_in t_in h = go (ltb 0 (distance s t)) refl h
@@ -148,35 +114,19 @@ on_line s t s_in t_in h = go (ltb 0 (distance s t)) refl h
 
 -- steps one after another
 further_sum : (w : Way) (by m n a b c : ℕ) → Further w (m * by) a b → Further w (n * by) b c → Further w ((m + n) * by) a c
-further_sum Up by m n a b c p q = omega arith
-further_sum Down by m n a b c p q = omega arith
-further_sum Still by m n a b c p q = q ∙ p
+further_sum w by m n a b c p q = grind arith
 
 pub Away-sum : (d : Step) (m n s t u : ℕ) → Away d m s t → Away d n t u → Away d (m + n) s u
-Away-sum d m n s t u p q = record {
-  on_board = q.on_board;
-  across = further_sum d.files d.wide m n _ _ _ p.across q.across;
-  along = further_sum d.ranks d.high m n _ _ _ p.along q.along;
-}
+Away-sum d m n s t u p q = grind (arith, further_sum)
 
 further_rest : (w : Way) (by m n a b c : ℕ) → Further w (m * by) a b → Further w ((m + n) * by) a c → Further w (n * by) b c
-further_rest Up by m n a b c p q = omega arith
-further_rest Down by m n a b c p q = omega arith
-further_rest Still by m n a b c p q = q ∙ sym p
+further_rest w by m n a b c p q = grind arith
 
 pub Away-rest : (d : Step) (m n s t u : ℕ) → Away d m s t → Away d (m + n) s u → Away d n t u
-Away-rest d m n s t u p q = record {
-  on_board = q.on_board;
-  across = further_rest d.files d.wide m n _ _ _ p.across q.across;
-  along = further_rest d.ranks d.high m n _ _ _ p.along q.along;
-}
+Away-rest d m n s t u p q = grind (arith, further_rest)
 
 pub within_board : (s t : ℕ) → s < 64 → t < 64 → distance s t < 8
 within_board s t s_in t_in = omega arith
 
 pub gap_of : (s t : ℕ) → are_aligned s t ≡ true → off_line (apart (file_of s) (file_of t)) (apart (rank_of s) (rank_of t)) ≡ 0
-gap_of s t h = go (ltb 0 (distance s t)) h
-  where
-    go : (b : Bool) → cond b (eqb (off_line (apart (file_of s) (file_of t)) (apart (rank_of s) (rank_of t))) 0) false ≡ true → off_line (apart (file_of s) (file_of t)) (apart (rank_of s) (rank_of t)) ≡ 0
-    go true line = eqb-true _ 0 line
-    go false line = absurd (false≢true line)
+gap_of s t h = grind (arith, eqb-true)

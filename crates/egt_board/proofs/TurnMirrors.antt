@@ -15,8 +15,7 @@ mirrored_if true m p ok allows = record { here = ok; there = (setup_by-kept m p 
 mirrored_if false m p ok allows = refl
 
 admissible_if : (turns : Bool) (m : Mirror) (p q : Setup) → IsAdmissible p → AreMirroredIf turns m p q → IsAdmissible q
-admissible_if true m p q ok are = are.there
-admissible_if false m p q ok same = subst IsAdmissible same ok
+admissible_if turns m p q ok are = grind arith
 
 no_pawn_if : (turns : Bool) (m : Mirror) (p q : Setup) → AreMirroredIf turns m p q → HasNoPawn p.men → HasNoPawn q.men
 no_pawn_if true m p q are none = no_pawn_by m p.men q.men are.mirrored.men are.there.on_board none
@@ -69,11 +68,7 @@ turned_mirrors n flipped p q ok keeps is = record {
 
 -- a mirror that keeps sides carries the men
 carried_if : (turns : Bool) (m : Mirror) (p q : Setup) → IsKeepingSides m → OnBoard p.men → AreMirroredIf turns m p q → IsCarried (square_if turns m) p q
-carried_if true m p q keeps ok are = carried_of m p q keeps are.mirrored
-carried_if false m p q keeps ok same = subst (IsCarried (λ s. s) p) same (record { men = λ t t_in. refl; side = refl; target = stays p.target; on_board = ok })
-  where
-    stays : (o : Option ℕ) → o ≡ option_map (λ s. s) o
-    stays o = grind arith
+carried_if turns m p q keeps ok are = grind (arith, carried_of)
 
 pub mirrors_turn : (n : ℕ) (flipped : Bool) (p q : Setup) → IsAdmissible p → ComesByMirrors n flipped p q → IsTurnedBy n flipped p q
 mirrors_turn n flipped p q ok comes = by_colours flipped comes.colours

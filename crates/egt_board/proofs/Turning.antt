@@ -37,10 +37,7 @@ kings_by Colours men men' shows ok ok' kings = record { white = square_by Colour
 
 -- a rank stays between the first and the last
 between_by : (m : Mirror) (kind : Kind) (s : ℕ) → s < 64 → Suits m kind → kind ≡ P → (0 < rank_of s) × (rank_of s < 7) → (0 < rank_of (square_by m s)) × (rank_of (square_by m s) < 7)
-between_by Files kind s s_in suits pawn h = (let a = h.0 in omega arith, let b = h.1 in omega arith)
-between_by Ranks kind s s_in suits pawn h = absurd (suits pawn)
-between_by Diagonal kind s s_in suits pawn h = absurd (suits pawn)
-between_by Colours kind s s_in suits pawn h = (let b = h.1 in omega arith, let a = h.0 in omega arith)
+between_by m kind s s_in suits pawn h = grind arith
 
 -- pawns stay off the first rank and the last
 pawns_by : (m : Mirror) (men men' : Placement) → Allows m men → ShowsMen m men men' → OnBoard men' → PawnsFit men → PawnsFit men'
@@ -84,8 +81,7 @@ target_by Colours men men' mover t allows shows is =
     }
 
 targets_by : (m : Mirror) (men men' : Placement) (mover : Side) (target : Option ℕ) → Allows m men → ShowsMen m men men' → FitsTarget men mover target → FitsTarget men' (side_by m mover) (option_map (square_by m) target)
-targets_by m men men' mover None allows shows fits = tt
-targets_by m men men' mover (Some t) allows shows is = target_by m men men' mover t allows shows is
+targets_by m men men' mover target allows shows fits = grind (arith, target_by)
 
 -- a mirrored position is admissible
 pub admissible_by : (m : Mirror) (p : Setup) (men' : Placement) (target : Option ℕ) → IsAdmissible p → Allows m p.men → ShowsMen m p.men men' → OnBoard men' → map.len men' ≤ map.len p.men → target ≡ option_map (square_by m) p.target

@@ -13,8 +13,7 @@ use Rattle.egt_board.proofs.Images.{Kept, Kept-on, setup_by-kept, images_by_turn
 
 setup_if-on_board : (turns : Bool) (m : Mirror) (p : Setup) → OnBoard p.men → OnBoard (setup_if turns m p).men
 unfolding setup_if
-setup_if-on_board true m p ok = men_by-on_board m p.men
-setup_if-on_board false m p ok = ok
+setup_if-on_board turns m p ok = grind (arith, men_by-on_board)
 
 -- the setup under the symmetry of that number
 image_by : ℕ → Setup → Setup
@@ -164,19 +163,11 @@ squares_agree m n flipped s n_in s_in = eqb-true _ _ (all_below-at 64 _ s (all_b
 
 man_then : (m : Mirror) (flipped : Bool) (man : Man) → turned_man flipped (man_by m man) ≡ turned_man (flipped_then m flipped) man
 unfolding flipped_then
-man_then Files flipped man = refl
-man_then Ranks flipped man = refl
-man_then Diagonal flipped man = refl
-man_then Colours false man = refl
-man_then Colours true man = man_by-twice Colours man
+man_then m flipped man = grind (arith, man_by-twice)
 
 side_then : (m : Mirror) (flipped : Bool) (side : Side) → turned_side flipped (side_by m side) ≡ turned_side (flipped_then m flipped) side
 unfolding flipped_then
-side_then Files flipped side = refl
-side_then Ranks flipped side = refl
-side_then Diagonal flipped side = refl
-side_then Colours false side = refl
-side_then Colours true side = side_by-twice Colours side
+side_then m flipped side = grind (arith, side_by-twice)
 
 number_then-small : (m : Mirror) (n : ℕ) → n < 8 → number_then m n < 8
 unfolding number_then
@@ -193,8 +184,7 @@ set_then m n flipped p r q less ok first second = record {
 }
   where
     men : (o : Option Man) → option_map (turned_man flipped) (option_map (man_by m) o) ≡ option_map (turned_man (flipped_then m flipped)) o
-    men None = refl
-    men (Some man) = ap Some (man_then m flipped man)
+    men o = grind (arith, man_then)
 
     target : (o : Option ℕ) → p.target ≡ o → option_map (turned_square n flipped) (option_map (square_by m) o) ≡ option_map (turned_square (number_then m n) (flipped_then m flipped)) o
     target None is = refl
@@ -242,5 +232,4 @@ images_told p q ok = (
 )
   where
     by_side : (flipped : Bool) (n : ℕ) → q ≡ turned_by n flipped p → (q ≡ turned_by n false p) ⊎ (q ≡ turned_by n true p)
-    by_side false n e = inl e
-    by_side true n e = inr e
+    by_side flipped n e = grind arith

@@ -20,6 +20,7 @@ pub fn one_square_changes()
 {}
 
 /// A side with one king has one.
+#[tactic(auto, using(crate::proofs::ManCounts::king_counted))]
 pub fn one_king_is_counted()
     ensures { (men : Placement) (side : Side) (s : ℕ) → s < 64 → IsKingOn men side s → count_of men (king_of side) ≡ 1 }
 {}

@@ -103,6 +103,7 @@ pub fn attacks_pass_over_no_occupant()
 
 /// A king attacks another's square exactly where that one attacks his: kings are next to each other or not. This function does nothing: a
 /// caller calls it to know what it ensures.
+#[tactic(auto, using(crate::proofs::TouchingKings::reached_back))]
 pub fn kings_attack_each_other()
     ensures { (men others : Placement) (side other : Side) (s t : ℕ) → s < 64
         → Reaches (IsFree men) (king_of side) s t → Reaches (IsFree others) (king_of other) t s }

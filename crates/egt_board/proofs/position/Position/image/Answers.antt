@@ -17,22 +17,7 @@ turned-requires-clause-allowed c = λ turns. elim c.requires [
 
 carried : (b1 b2 b3 : Bool) (p q r s : Setup) → IsTurned Files b1 p q → IsTurned Ranks b2 q r → IsTurned Diagonal b3 r s
     → IsCarried (λ t. square_if b3 Diagonal (square_if b2 Ranks (square_if b1 Files t))) p s
-carried b1 b2 b3 p q r s one two three = record {
-  men = λ t t_in.
-      let t1 = within b1 Files t t_in in
-      let t2 = within b2 Ranks (square_if b1 Files t) t1 in
-      three.men (square_if b2 Ranks (square_if b1 Files t)) t2 ∙ two.men (square_if b1 Files t) t1 ∙ one.men t t_in;
-  side = three.side ∙ two.side ∙ one.side;
-  target = three.target ∙ ap (option_map (square_if b3 Diagonal)) (two.target ∙ ap (option_map (square_if b2 Ranks)) one.target) ∙ thrice p.target;
-  on_board = three.on_board;
-}
-  where
-    within : (b : Bool) (m : Mirror) (t : ℕ) → t < 64 → square_if b m t < 64
-    within true m t t_in = square_by-within m t t_in
-    within false m t t_in = t_in
-
-    thrice : (o : Option ℕ) → option_map (square_if b3 Diagonal) (option_map (square_if b2 Ranks) (option_map (square_if b1 Files) o)) ≡ option_map (λ t. square_if b3 Diagonal (square_if b2 Ranks (square_if b1 Files t))) o
-    thrice o = grind arith
+carried b1 b2 b3 p q r s one two three = grind (arith, square_by-within)
 
 pub returns : goal.returns
 returns c =

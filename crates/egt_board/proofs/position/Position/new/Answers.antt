@@ -36,10 +36,7 @@ invariant_of-result c =
 
 -- a target that was judged is the one that was given
 same_target : (c : goal.Else-is_in_check) → c.match-target.target ≡ c.args.target
-same_target c = elim c.match-target.branch [
-  | in-Some-target+else-not-is_target w ↦ w.target-is ∙ sym w.in-Some-target.is
-  | in_default-target w ↦ w.target-is
-]
+same_target c = grind arith
 
 pub returns-clause-admits : goal.returns-clause-admits
 returns-clause-admits c =
