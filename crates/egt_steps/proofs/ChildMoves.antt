@@ -21,32 +21,20 @@ turned_twice : (f : Bool) (man : Man) → turned f (turned f man) ≡ man
 unfolding turned
 turned_twice f man = ap (λ side. man_of side man.kind) (side_twice f man.side)
 
--- an officer is neither pawn nor king
-officer_apart : (kind : Kind) → IsOfficer kind → (kind ≢ P) × (kind ≢ K)
-officer_apart kind officer = grind arith
-
 one_where : ℕ → ℕ → ℕ
 one_where a b = cond (eqb a b) 1 0
 
 same_test : (a b c d : ℕ) → (a ≡ b → c ≡ d) → (c ≡ d → a ≡ b) → one_where a b ≡ one_where c d
 unfolding one_where
-same_test a b c d f g = ap (λ test. cond test 1 0) (elim (eqb_tells a b) [
-  | inl h ↦ h.0 ∙ sym (eq-eqb c d (f h.1))
-  | inr h ↦ elim (eqb_tells c d) [ inl k ↦ absurd (h.1 (g k.1)) | inr k ↦ h.0 ∙ sym k.0 ]
-])
+same_test a b c d f g = grind (arith, eqb_tells, eq-eqb)
 
 -- men of the other sides are the same where the men are
 numbers_exchanged : (s t : Side) (k l : Kind) → one_where (6 * side_number (other_side s) + kind_number k) (6 * side_number (other_side t) + kind_number l) ≡ one_where (6 * side_number s + kind_number k) (6 * side_number t + kind_number l)
-numbers_exchanged White White k l = same_test _ _ _ _ (λ e. omega arith) (λ e. omega arith)
-numbers_exchanged Black Black k l = same_test _ _ _ _ (λ e. omega arith) (λ e. omega arith)
-numbers_exchanged White Black k l = let a = kind_few k in let b = kind_few l in same_test _ _ _ _ (λ e. omega arith) (λ e. omega arith)
-numbers_exchanged Black White k l = let a = kind_few k in let b = kind_few l in same_test _ _ _ _ (λ e. omega arith) (λ e. omega arith)
+numbers_exchanged s t k l = grind (arith, same_test, kind_few)
 
 here_turned : (f : Bool) (man : Man) (o : Option Man) → stands_here (turned f man) (option_map (turned f) o) ≡ stands_here man o
 unfolding turned one_where
-here_turned f man None = refl
-here_turned true man (Some other) = numbers_exchanged man.side other.side man.kind other.kind
-here_turned false man (Some other) = refl
+here_turned f man o = grind (arith, numbers_exchanged)
 
 here_back : (f : Bool) (man : Man) (o : Option Man) → stands_here (turned f man) o ≡ stands_here man (option_map (turned f) o)
 here_back f man o = sym (here_turned f (turned f man) o) ∙ ap (λ x. stands_here x (option_map (turned f) o)) (turned_twice f man)
@@ -56,20 +44,11 @@ here_self man = ap (λ b. cond b 1 0) (eq-eqb (man_number man) (man_number man) 
 
 -- a man of the other side is another
 here_other_side : (side : Side) (k l : Kind) → stands_here (man_of (other_side side) k) (Some (man_of side l)) ≡ 0
-here_other_side side k l = elim (eqb_tells (man_number (man_of (other_side side) k)) (man_number (man_of side l))) [
-  | inl h ↦ absurd (differ side h.1)
-  | inr h ↦ ap (λ b. cond b 1 0) h.0
-]
-  where
-    differ : (side : Side) → 6 * side_number (other_side side) + kind_number k ≡ 6 * side_number side + kind_number l → ⊥
-    differ side e = grind arith
+here_other_side side k l = grind (arith, eqb_tells)
 
 -- an officer is no pawn
 here_officer : (side : Side) (kind : Kind) → IsOfficer kind → stands_here (pawn_of side) (Some (man_of side kind)) ≡ 0
 here_officer side kind officer = grind arith
-
-side_of_other : (f : Bool) (side : Side) → side_if f (other_side side) ≡ other_side (side_if f side)
-side_of_other f side = grind arith
 
 -- one flip and then another
 abbrev flip_by : Bool → Bool → Bool
@@ -96,11 +75,7 @@ module _ (p q : Setup) (m : Move) (c : ℕ) (f : Bool) (is : IsOf c f p) (x : Ex
       nothing o e = grind arith
 
       same : (man : Man) → count_of q.men man ≡ count_of p.men man
-      same man =
-          let counts = x.counts man in
-          let none : stands_here man x.taken ≡ 0 = ap (stands_here man) (nothing x.taken refl) in
-          let stays : stands_here man (Some (arriving x.man m.promo)) ≡ stands_here man (Some x.man) = ap (λ o. stands_here man (Some (arriving x.man o))) plain in
-          omega arith
+      same man = grind (arith, nothing)
 
   abbrev mover : Side
   mover = side_if f p.side
@@ -170,8 +145,7 @@ module _ (p q : Setup) (m : Move) (c : ℕ) (f : Bool) (is : IsOf c f p) (x : Ex
       there man (omega arith)
     where
       not_promoted : (kind : Kind) (promo : Option Kind) → stands_here (man_of (other_side mover) kind) (option_map (man_of mover) promo) ≡ 0
-      not_promoted kind None = refl
-      not_promoted kind (Some other) = here_other_side mover kind other
+      not_promoted kind promo = grind (arith, here_other_side)
 
   -- the pawn that is promoted was there
   has_pawn : (promo : Option Kind) → m.promo ≡ promo → IfSome promo IsOfficer → has_man (material_of c) (option_map (λ _. pawn_of mover) promo) ≡ true
@@ -230,9 +204,4 @@ module _ (p q : Setup) (m : Move) (c : ℕ) (f : Bool) (is : IsOf c f p) (x : Ex
 
   -- either the class or a child
   pub leads : c < 36 → OneKing q.men → IsOf c f q ⊎ ((d : ℕ) × (turned : Bool) × Contains (children_of c) d × IsOf d turned q)
-  leads c_in kings = by_parts x.taken m.promo refl refl
-    where
-      by_parts : (taken : Option Man) (promo : Option Kind) → x.taken ≡ taken → m.promo ≡ promo → IsOf c f q ⊎ ((d : ℕ) × (turned : Bool) × Contains (children_of c) d × IsOf d turned q)
-      by_parts None None e g = inl (stays (λ captures. false≢true (sym (ap is_some e) ∙ x.captures.0 captures)) g)
-      by_parts None (Some kind) e g = inr (leaves c_in kings (inr (ap is_some g)))
-      by_parts (Some man) promo e g = inr (leaves c_in kings (inl (x.captures.1 (ap is_some e))))
+  leads c_in kings = grind (arith, turned, stays, is_some, leaves)

@@ -18,11 +18,7 @@ king_bare F G s t (d ∷ ds) some = elim some [
 ]
 
 pub king_reaches : (F G : ℕ → Type 0) (man : Man) (s t : ℕ) → man.kind ≡ K → Reaches F man s t → Reaches G man s t
-king_reaches F G man s t king r = of_kind man.kind king r
-  where
-    of_kind : (kind : Kind) → kind ≡ K → OneOf (Rides F (farthest kind) s t) (steps_of man.side kind) → OneOf (Rides G (farthest kind) s t) (steps_of man.side kind)
-    of_kind K e reaches = king_bare F G s t (steps_of man.side K) reaches
-    of_kind kind e reaches = grind arith
+king_reaches F G man s t king r = grind (arith, king_bare)
 
 -- ---- one piece on the move in one position
 

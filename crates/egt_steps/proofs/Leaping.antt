@@ -6,10 +6,7 @@ pub and_false : (a b : Bool) → b ≡ false → (a && b) ≡ false
 and_false a b e = grind arith
 
 pub one_off_home : (rank home n : ℕ) → n ≤ (if rank == home then 2 else 1) → (n ≤ 1) ⊎ ((n ≤ 2) × (rank ≡ home))
-one_off_home rank home n few = elim (eqb_tells rank home) [
-  | inl same ↦ inr (subst (λ b. n ≤ (if b then 2 else 1)) same.0 few, same.1)
-  | inr apart ↦ inl (subst (λ b. n ≤ (if b then 2 else 1)) apart.0 few)
-]
+one_off_home rank home n few = grind (arith, eqb_tells)
 
 -- a position has the index of the one to which it settles
 pub settled_index : (c i : ℕ) (q r : Setup) → SettlesTo q r → IsSettled r → IsIndex c r i → IsIndex c q i

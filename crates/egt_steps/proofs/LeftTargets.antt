@@ -15,13 +15,7 @@ past_half F side s t advances h = grind arith
 
 -- and that square alone is a target
 half_alone : (F : ℕ → Type 0) (side : Side) (s t u : ℕ) → Advances F side s t → AreTwoRanksApart s t → rank_of u ≡ target_rank (other_side side) → ahead side u ≡ t → u ≡ (s + t) / 2
-half_alone F side s t u advances two rank here = same side rank here (past_half F side s t advances two)
-  where
-    low : 8 ≤ (s + t) / 2
-    low = elim two [ inl up ↦ omega (arith, up) | inr down ↦ omega (arith, down) ]
-
-    same : (side : Side) → rank_of u ≡ target_rank (other_side side) → ahead side u ≡ t → ahead side ((s + t) / 2) ≡ t → u ≡ (s + t) / 2
-    same side rank here there = grind arith
+half_alone F side s t u advances two rank here = grind (arith, past_half, ahead)
 
 -- nor is he promoted
 pub unpromoted : (F : ℕ → Type 0) (side : Side) (s t : ℕ) → Advances F side s t → AreTwoRanksApart s t → rank_of t ≢ last_rank side
@@ -39,21 +33,14 @@ unpromoted F Black s t advances two last =
     ]
 
 two_told : (s t : ℕ) → AreTwoRanksApart s t → is_two_ranks s t ≡ true
-two_told s t (inl two) = elim (eqb_tells (rank_of t) (rank_of s + 2)) [ inl same ↦ ap (λ b. b || (rank_of s == rank_of t + 2)) same.0 | inr apart ↦ absurd (apart.1 two) ]
-two_told s t (inr two) = elim (eqb_tells (rank_of s) (rank_of t + 2)) [ inl same ↦ ap (λ b. (rank_of t == rank_of s + 2) || b) same.0 ∙ or_true (rank_of t == rank_of s + 2) | inr apart ↦ absurd (apart.1 two) ]
-  where
-    or_true : (b : Bool) → (b || true) ≡ true
-    or_true b = grind arith
+two_told s t h = grind (arith, eqb_tells)
 
 -- a pawn passes a square in an advance by two squares, and in no other
 pub passes : (man : Man) (s t : ℕ) → man.kind ≡ P → AreTwoRanksApart s t → passed man s t ≡ Some ((s + t) / 2)
 passes man s t pawn two = ap (λ b. if b then Some ((s + t) / 2) else None) (ap (λ (k : Kind). is_pawn k && is_two_ranks s t) pawn ∙ two_told s t two)
 
 passed_by : (man : Man) (s t u : ℕ) → passed man s t ≡ Some u → AreTwoRanksApart s t × (u ≡ (s + t) / 2)
-passed_by man s t u is = by_test (is_pawn man.kind && is_two_ranks s t) refl is
-  where
-    by_test : (b : Bool) → (is_pawn man.kind && is_two_ranks s t) ≡ b → (if b then Some ((s + t) / 2) else None) ≡ Some u → AreTwoRanksApart s t × (u ≡ (s + t) / 2)
-    by_test b e is = grind arith
+passed_by man s t u is = grind (arith, is_pawn)
 
 -- the men beside the kings: the first stands on a, and this one, who was the last one on b, has advanced to t
 module _ (men : ShelfMen) (side : Side) (a b t : ℕ) (man : Man) (pawn : men.last.kind ≡ P) (mine : man.side ≡ side) (F : ℕ → Type 0) (advances : Advances F side b t) where
@@ -70,50 +57,18 @@ module _ (men : ShelfMen) (side : Side) (a b t : ℕ) (man : Man) (pawn : men.la
 
   -- a pawn in it is the first man or this one
   pawn_on : (q : Setup) (owner : Side) (s : ℕ) → IsAfter q → Stands q.men s (pawn_of owner) → ((s ≡ a) × (pawn_of owner ≡ men.one)) ⊎ ((s ≡ t) × (pawn_of owner ≡ man))
-  pawn_on q owner s is stands = elim (who q.men men.white men.black men.one a man t is.are s (pawn_of owner) stands) [
-    | inl h ↦ absurd (no_king White h.1)
-    | inr rest ↦ elim rest [ inl h ↦ absurd (no_king Black h.1) | inr more ↦ more ]
-  ]
-    where
-      no_king : (king : Side) → pawn_of owner ≡ king_of king → ⊥
-      no_king king is = let kinds : P ≡ K = ap (λ (x : Man). x.kind) is in cc
+  pawn_on q owner s is stands = grind (arith, who)
 
   before_half : (q : Setup) → IsAfter q → AreTwoRanksApart b t → ahead (other_side q.side) half ≡ t
   before_half q is two = ap (λ (x : Side). ahead (other_side x) half) is.side_is ∙ ap (λ (x : Side). ahead x half) (side_twice side) ∙ past_half F side b t advances two
 
   -- the first man stands ready to take
   ready : (q : Setup) → IsAfter q → LeavesTarget men side a b t → IsReady q (Some half)
-  ready q is leaves = record {
-    square = a;
-    stands = is.are.one_there ∙ ap Some (λ i. record { side = (leaves.theirs ∙ sym is.side_is) i; kind = leaves.pawn i });
-    beside = subst (IsBeside a) (sym (before_half q is leaves.two)) leaves.beside;
-  }
-
-  -- and no one else
-  ready_alone : (q : Setup) (u : ℕ) → IsAfter q → AreTwoRanksApart b t → u ≡ half → IsReady q (Some u) → LeavesTarget men side a b t
-  ready_alone q u is two at there = elim (pawn_on q q.side there.square is there.stands) [
-    | inl h ↦ record {
-      pawn = ap (λ (x : Man). x.kind) (sym h.1);
-      theirs = ap (λ (x : Man). x.side) (sym h.1) ∙ is.side_is;
-      two = two;
-      beside = subst (IsBeside a) (ap (ahead (other_side q.side)) at ∙ before_half q is two) (subst (λ s. IsBeside s (ahead (other_side q.side) u)) h.0 there.beside);
-    }
-    | inr h ↦ absurd (sides_differ side (sym mine ∙ ap (λ (x : Man). x.side) (sym h.1) ∙ is.side_is))
-  ]
+  ready q is leaves = grind (arith, before_half)
 
   -- a target is left by such an advance alone
   pub told : (q r : Setup) → IsAfter q → q.target ≡ passed men.last b t → SettlesTo q r → IsTrue (is_some r.target) ↔ LeavesTarget men side a b t
-  told q r is target (inl already) = (
-    λ some. by_target q.target refl (ap (λ (x : Setup). is_some x.target) (sym already.1) ∙ some),
-    λ leaves. ap (λ (x : Setup). is_some x.target) already.1 ∙ ap is_some (target ∙ passes men.last b t pawn leaves.two),
-  )
-    where
-      by_target : (o : Option ℕ) → q.target ≡ o → IsTrue (is_some o) → LeavesTarget men side a b t
-      by_target o e some = grind arith
-  told q r is target (inr unsettled) = (
-    λ some. absurd (let no : false ≡ true = ap (λ (x : Setup). is_some x.target) (sym unsettled.1) ∙ some in cc),
-    λ leaves. absurd (unsettled.0 (subst (IsReady q) (sym (target ∙ passes men.last b t pawn leaves.two)) (ready q is leaves))),
-  )
+  told q r is target h = grind (arith, is_some, passes, ready)
 
   -- that target is the square that was passed
   target_half : (r : Setup) (u : ℕ) → IsAfter r → IsAdmissible r → LeavesTarget men side a b t → r.target ≡ Some u → u ≡ half
@@ -142,10 +97,7 @@ module _ (men : ShelfMen) (side : Side) (a b t : ℕ) (man : Man) (pawn : men.la
       form_side s h = grind arith
 
       form_after : IsAfter form.0
-      form_after = record {
-        are = subst (λ (x : Placement). AreTwo x men.white men.black men.one a man t) (sym (settles_men q form.0 form.1)) is.are;
-        side_is = form_side form.0 form.1 ∙ is.side_is;
-      }
+      form_after = grind (arith, settles_men, form, form_side)
 
       targets : (o u : Option ℕ) → form.0.target ≡ o → r.target ≡ u → o ≡ u
       targets None None e d = refl

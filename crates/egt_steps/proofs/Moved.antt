@@ -19,11 +19,7 @@ module _ (c : ℕ) (p : Setup) (from to : ℕ) (q : Setup) (moved : IsMoved c p 
   at_to = ap (λ (m : Placement). placement.get m to) moved.men ∙ get-insert_same (placement.remove p.men from) to moved.man to refl
 
   at_other : (s : ℕ) (man : Man) → s ≢ from → Stands p.men s man → Stands q.men s man
-  at_other s man other stands =
-      ap (λ (m : Placement). placement.get m s) moved.men
-      ∙ get-insert_other (placement.remove p.men from) to moved.man s (not_to s man stands)
-      ∙ get-remove_other p.men from s other
-      ∙ stands
+  at_other s man other stands = grind (arith, get-insert_other, not_to, get-remove_other)
 
   -- a man off a square of the list is off it after the move
   off_one : (e s : ℕ) (man other : Man) → Stands p.men e man → Stands p.men s other → e ≢ s → moved_square from to e ≢ moved_square from to s
@@ -43,10 +39,7 @@ module _ (c : ℕ) (p : Setup) (from to : ℕ) (q : Setup) (moved : IsMoved c p 
   off_moved flips (e ∷ list) s man all stands off = (off_one e.1 s _ man all.1 stands off.0, off_moved flips list s man all.3 stands off.1)
 
   below : (s : ℕ) → s < 64 → moved_square from to s < 64
-  below s s_in = elim (cases_eq s from) [
-    | inl same ↦ subst (λ k. k < 64) (sym (went from to s same)) moved.on_board
-    | inr other ↦ subst (λ k. k < 64) (sym (stayed from to s other)) s_in
-  ]
+  below s s_in = grind (arith, cases_eq, went, stayed)
 
   stands_moved : (s : ℕ) (man : Man) → Stands p.men s man → Stands q.men (moved_square from to s) man
   stands_moved s man stands = elim (cases_eq s from) [
@@ -71,18 +64,11 @@ module _ (c : ℕ) (p : Setup) (from to : ℕ) (q : Setup) (moved : IsMoved c p 
   entry_listed entry = grind arith
 
   both_listed : (x y : Entry) → map move_one (option_to_list x ++ option_to_list y) ≡ option_to_list (moved_entry from to x) ++ option_to_list (moved_entry from to y)
-  both_listed None y = entry_listed y
-  both_listed (Some e) y = ap (λ l. move_one e ∷ l) (entry_listed y)
+  both_listed x y = grind (arith, entry_listed)
 
   list_moved : (before after : Stand) → after.white ≡ moved_square from to before.white → after.black ≡ moved_square from to before.black
       → after.next ≡ moved_entry from to before.next → after.last ≡ moved_entry from to before.last → map move_one (list_of before) ≡ list_of after
-  list_moved before after white black next last =
-      ap (λ w. (king_of White, w) ∷ map move_one ((king_of Black, before.black) ∷ (option_to_list before.next ++ option_to_list before.last))) (sym white)
-      ∙ ap (λ b. (king_of White, after.white) ∷ (king_of Black, b) ∷ map move_one (option_to_list before.next ++ option_to_list before.last)) (sym black)
-      ∙ ap (λ l. (king_of White, after.white) ∷ (king_of Black, after.black) ∷ l)
-      (both_listed before.next before.last
-      ∙ ap (λ (x : Entry). option_to_list x ++ option_to_list (moved_entry from to before.last)) (sym next)
-      ∙ ap (λ (y : Entry). option_to_list after.next ++ option_to_list y) (sym last))
+  list_moved before after white black next last = grind (arith, both_listed)
 
   stood_moved : (flips : Bool) (before after : Stand) → map move_one (list_of before) ≡ list_of after → Stood c flips p.men (list_of before) → Stood c flips q.men (list_of after)
   stood_moved flips before after listed stood = record {

@@ -22,16 +22,7 @@ off_start side s t n some away e = grind arith
 
 -- only which squares are free counts, and never the one from which it advances
 advances_free : (F G : ℕ → Type 0) (side : Side) (s t : ℕ) → ((u : ℕ) → u ≢ s → F u → G u) → Advances F side s t → Advances G side s t
-advances_free F G side s t free advances = record {
-  rides = record {
-    count = advances.rides.count;
-    moves = advances.rides.moves;
-    within = advances.rides.within;
-    away = advances.rides.away;
-    clear = λ k u some less away. free u (off_start side s u k some away) (advances.rides.clear k u some less away);
-  };
-  free = free t (off_start side s t advances.rides.count advances.rides.moves advances.rides.away) advances.free;
-}
+advances_free F G side s t free advances = grind (arith, off_start)
 
 -- no king arrives
 arriving_kind : (man : Man) (b : Bool) (promo : Option Kind) → man.kind ≡ P → FitsPromotion b promo → (arriving man promo).kind ≢ K
@@ -62,11 +53,7 @@ module _ (facts : Facts) (counting : Counting) (c : ℕ) (men : ShelfMen) (first
   }
 
   clear_of : (u : ℕ) → IsFree p.men u → IsClear men a u
-  clear_of u free = (
-    λ e. not_free p.men men.white (king_of White) (subst (IsFree p.men) e free) there.white_there,
-    λ e. not_free p.men men.black (king_of Black) (subst (IsFree p.men) e free) there.black_there,
-    λ e. not_free p.men a men.one (subst (IsFree p.men) e free) there.one_there,
-  )
+  clear_of u free = grind (arith, not_free, there)
 
   -- nobody is taken in passing, so that the pawn alone moves
   left_so : (man : Man) (t : ℕ) → (man.kind ≡ P → p.target ≡ Some t → ⊥) → men_left p man t ≡ p.men
@@ -88,9 +75,7 @@ module _ (facts : Facts) (counting : Counting) (c : ℕ) (men : ShelfMen) (first
     unpassed kind target = quiet (inr (record { man = leads.man; stands = leads.stands; pawn = kind }, target))
 
     goes_so : Goes p leads.man m.from m.to → PawnAdvances p leads.man m.from m.to
-    goes_so (inl piece) = absurd (piece.piece is_pawn)
-    goes_so (inr (inl advances)) = advances
-    goes_so (inr (inr takes)) = elim takes.takes [ inl held ↦ absurd (quiet (inl held)) | inr target ↦ absurd (unpassed is_pawn target) ]
+    goes_so h = grind (arith, is_pawn, unpassed)
 
     advances : Advances (IsFree p.men) side b m.to
     advances =

@@ -17,25 +17,15 @@ use Rattle.egt_steps.proofs.Takings.{AreLeft, Telling, are_left, arrives, emptie
 use Rattle.egt_steps.proofs.TwoNonKings.{AreTwo, are_in, who}
 
 -- a pawn attacks squares of the next rank alone, and passes none
-up_one : (s t : ℕ) → rank_of t ≡ rank_of s + 1 → is_two_ranks s t ≡ false
-up_one s t up = neither _ _ (untold (rank_of t) (rank_of s + 2) (λ e. omega (arith, up, e))) (untold (rank_of s) (rank_of t + 2) (λ e. omega (arith, up, e)))
-
-down_one : (s t : ℕ) → rank_of s ≡ rank_of t + 1 → is_two_ranks s t ≡ false
-down_one s t down = neither _ _ (untold (rank_of t) (rank_of s + 2) (λ e. omega (arith, down, e))) (untold (rank_of s) (rank_of t + 2) (λ e. omega (arith, down, e)))
-
 one_rank : (F : ℕ → Type 0) (side : Side) (s t : ℕ) → OneOf (Rides F 1 s t) (pawn_steps side) → is_two_ranks s t ≡ false
 one_rank F side s t h = grind arith
 
 module _ (man : Man) (pawn : man.kind ≡ P) (s t : ℕ) where
   pub takes_unpassed : (F : ℕ → Type 0) → Reaches F man s t → passed man s t ≡ None
-  takes_unpassed F reaches =
-      ap (λ b. if b then Some ((s + t) / 2) else None)
-      (and_false (is_pawn man.kind) (is_two_ranks s t) (one_rank F man.side s t (subst (λ (k : Kind). OneOf (Rides F (farthest k) s t) (steps_of man.side k)) pawn reaches)))
+  takes_unpassed F reaches = grind (arith, and_false, is_pawn, one_rank)
 
   pub takes_bare : (F G : ℕ → Type 0) → Reaches F man s t → Reaches G man s t
-  takes_bare F G reaches =
-      subst (λ (k : Kind). OneOf (Rides G (farthest k) s t) (steps_of man.side k)) (sym pawn)
-      (king_bare F G s t (pawn_steps man.side) (subst (λ (k : Kind). OneOf (Rides F (farthest k) s t) (steps_of man.side k)) pawn reaches))
+  takes_bare F G reaches = grind (arith, king_bare)
 
 -- a pawn is promoted to an officer, and only where he arrives on his last rank
 pub promoted : (b : Bool) (kind : Kind) → FitsPromotion b (Some kind) → (b ≡ true) × IsOfficer kind
@@ -65,8 +55,7 @@ module _ (facts : Facts) (telling : Telling) (c : ℕ) (men : ShelfMen) (first :
 
   -- nobody is taken in passing where a man stands
   left_so : (man other : Man) (t : ℕ) → Stands p.men t other → men_left p man t ≡ p.men
-  left_so man other t stands = ap (λ b. if b then placement.remove p.men (ahead (other_side p.side) t) else p.men)
-      (not_passing man.kind p.target t (λ pawn target. not_free p.men t other (target_is p t has.admissible target).empty stands))
+  left_so man other t stands = grind (arith, ahead, not_passing, not_free, target_is)
 
   -- ---- from the move to the men left
 
@@ -112,9 +101,7 @@ module _ (facts : Facts) (telling : Telling) (c : ℕ) (men : ShelfMen) (first :
         (subst (λ s. Reaches (IsFree p.men) leads.man s a) from_is (subst (λ s. Reaches (IsFree p.men) leads.man m.from s) taken.0 (attacks leads.goes)))
 
     fits : FitsPromotion (promotes men.last a) (Some kind)
-    fits =
-        subst (λ (o : Option Kind). FitsPromotion (promotes men.last a) o) promo_is
-        (subst (λ (x : Man). FitsPromotion (promotes x a) m.promo) his (subst (λ s. FitsPromotion (promotes leads.man s) m.promo) taken.0 leads.promotion))
+    fits = grind (arith, his, taken)
 
     is_capture : IsPromotingCapture men side kind a b
     is_capture = record {

@@ -1,5 +1,5 @@
 -- The quiet moves of three men lead to the men after quiet steps, and to all of them that are positions; and where no move zeroes.
-use Rattle.std.proofs.Common.{◌≡◌, ◌≢◌, ℕ, ◌<◌, ◌⊎◌, Bool, false, Some, refl, sym, ap, ◌∙◌, subst, inl, inr}
+use Rattle.std.proofs.Common.{arith, ◌≡◌, ◌≢◌, ℕ, ◌<◌, ◌⊎◌, Bool, false, Some, refl, sym, ap, ◌∙◌, subst, inl, inr}
 use Rattle.egt_steps.specs.Prelude.{bit_at, king_of, Reaches, Reaches-free, other_side, sides_differ, IsFree, IsHeld}
 use Rattle.egt_steps.specs.Prelude.{one_man, Setup, P, Man, Side, White, Black, IsListed, AllStand, HasStand, IsOff}
 use Rattle.egt_steps.specs.Prelude.{list_of, IsMovedStand, ShelfMen, Stand, Zeroes, Leads, Move}
@@ -32,12 +32,7 @@ module _ (facts : Facts) (keeps : KeepsClass) (follow : Following) (c : ℕ) (cl
   }
 
   man_moves : (t : ℕ) → IsMovedStand s t here (stand_alone men t)
-  man_moves t = record {
-    white = sym (stayed s t men.white (λ e. apart.2.1.0 (sym e)));
-    black = sym (stayed s t men.black (λ e. apart.3.2.0 (sym e)));
-    next = ap (λ u. Some (men.last, u)) (sym (went s t s refl));
-    last = refl;
-  }
+  man_moves t = grind (arith, stayed, apart, went)
 
   king_listed : (x : Side) → IsListed (list_of here) (king_of x) (king_of_men men x)
   king_listed White = inl (refl, refl)

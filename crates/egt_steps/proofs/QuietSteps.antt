@@ -27,12 +27,7 @@ stayed from to s other = elim (eqb_tells s from) [ inl same ↦ absurd (other sa
 
 -- one position after a man went there
 one_moved : (c from to : ℕ) (p q r : Setup) → IsMoved c p from to q → IsMoved c p from to r → q ≡ r
-one_moved c from to p q r one other =
-    let same = one_man p.men from one.man other.man one.stands other.stands in
-    let men : q.men ≡ r.men = one.men ∙ ap (λ (x : Man). map.insert (map.remove p.men from) to x) same ∙ sym other.men in
-    let side : q.side ≡ r.side = one.side ∙ sym other.side in
-    let target : q.target ≡ r.target = one.target ∙ sym other.target in
-    λ i. record { men = men i; side = side i; target = target i }
+one_moved c from to p q r one other = grind (arith, one_man)
 
 -- a side's king is no pawn
 pub king_piece : (side : Side) → (king_of side).kind ≢ P

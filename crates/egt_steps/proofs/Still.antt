@@ -26,16 +26,14 @@ pub untold : (a b : ℕ) → a ≢ b → (a == b) ≡ false
 untold a b apart = elim (eqb_tells a b) [ inl same ↦ absurd (apart same.1) | inr told ↦ told.0 ]
 
 pub neither : (a b : Bool) → a ≡ false → b ≡ false → (a || b) ≡ false
-neither true b e f = e
-neither false b e f = f
+neither a b e f = grind arith
 
 pub no_promotion : (b : Bool) (promo : Option Kind) → b ≡ false → FitsPromotion b promo → promo ≡ None
 no_promotion b promo e fits = grind arith
 
 -- no man but a pawn is promoted
 pub piece_promo : (p q : Setup) (m : Move) (leads : Leads p m q) → leads.man.kind ≢ P → m.promo ≡ None
-piece_promo p q m leads piece =
-    no_promotion (is_pawn leads.man.kind && (rank_of m.to == last_rank leads.man.side)) m.promo (ap (λ a. a && (rank_of m.to == last_rank leads.man.side)) (no_pawn leads.man.kind piece)) leads.promotion
+piece_promo p q m leads piece = grind (arith, no_promotion, is_pawn, no_pawn)
 
 -- a move to a square is a legal target of it
 pub targeted : (p : Setup) (m : Move) (from : ℕ) → m.from ≡ from → IsLegal p m → IsLegalTarget p from m.to
@@ -89,17 +87,13 @@ module _ (keeps : KeepsClass) (c : ℕ) (p q : Setup) (pawn : Bool) (from t : �
   ]
 
   free_to : (o : Option Man) → map.get p.men t ≡ o → IsFree p.men t
-  free_to None is = is
-  free_to (Some man) is = held man is (side_cases man.side p.side) leads.goes
+  free_to o is = grind (arith, held, side_cases)
 
   left : men_left p leads.man t ≡ p.men
-  left = ap (λ b. if b then map.remove p.men (ahead (other_side p.side) t) else p.men)
-      (not_passing leads.man.kind p.target t (λ is_pawn target. quiet.quiet (inr (record { man = leads.man; stands = leads.stands; pawn = is_pawn }, target))))
+  left = grind (arith, ahead, not_passing)
 
   men : q.men ≡ map.insert (map.remove p.men from) t leads.man
-  men =
-      ap (λ (s : Setup). s.men) leads.becomes
-      ∙ ap (λ (placed : Placement). map.insert (map.remove placed from) t leads.man) left
+  men = grind (arith, left)
 
   pub is_moved : IsMoved c p from t q
   is_moved = record {

@@ -101,46 +101,10 @@ stands_left telling d flips left side q ok are no_king side_is none class = reco
     taken_not e = cc
 
     beside : HasBeside q.men (Some (left.man, left.square)) None
-    beside = record {
-      one = (are.man, no_king);
-      other = tt;
-      all = λ s man stands no_other. elim (cases_eq s left.square) [
-        | inl here ↦ inl
-            (let same = one_man q.men left.square left.man man are.man (ap (placement.get q.men) (sym here) ∙ stands) in ap (λ (m : Man). Some (m, left.square)) same ∙ ap (λ t. Some (man, t)) (sym here))
-        | inr off ↦ elim (cases_eq s left.white) [
-          | inl here ↦ absurd (no_other (ap (λ (m : Man). m.kind) (one_man q.men left.white man (king_of White) (ap (placement.get q.men) (sym here) ∙ stands) are.white)))
-          | inr off_white ↦ elim (cases_eq s left.black) [
-            | inl here ↦ absurd (no_other (ap (λ (m : Man). m.kind) (one_man q.men left.black man (king_of Black) (ap (placement.get q.men) (sym here) ∙ stands) are.black)))
-            | inr off_black ↦ absurd (taken_not (sym stands ∙ are.free s off_white off_black off))
-          ]
-        ]
-      ];
-      apart = tt;
-    }
+    beside = grind (arith, cases_eq, one_man, taken_not)
 
     all : (flips : Bool) → AllStand flips q.men (list_of (stand_left flips left))
-    all false = (
-      ok.on_board left.white (king_of White) are.white,
-      are.white,
-      (are.kings_apart, (are.off_white, tt)),
-      (
-        ok.on_board left.black (king_of Black) are.black,
-        are.black,
-        (are.off_black, tt),
-        (ok.on_board left.square left.man are.man, are.man, tt, tt),
-      ),
-    )
-    all true = (
-      ok.on_board left.black (king_of Black) are.black,
-      are.black,
-      ((λ e. are.kings_apart (sym e)), (are.off_black, tt)),
-      (
-        ok.on_board left.white (king_of White) are.white,
-        are.white,
-        (are.off_white, tt),
-        (ok.on_board left.square left.man are.man, are.man ∙ ap Some (sym (turned_back true left.man)), tt, tt),
-      ),
-    )
+    all flips = grind (arith, turned_back)
 
 -- ---- one man on another's square
 
@@ -155,10 +119,7 @@ module _ (men : Placement) (from to : ℕ) (man : Man) where
   stays s other off_to off_from stands = get-insert_other (placement.remove men from) to man s off_to ∙ get-remove_other men from s off_from ∙ stands
 
   pub empties : (s : ℕ) → s ≢ to → (s ≢ from → IsFree men s) → IsFree placed s
-  empties s off_to free = get-insert_other (placement.remove men from) to man s off_to ∙ elim (cases_eq s from) [
-    | inl here ↦ get-remove_same men from s here
-    | inr off_from ↦ get-remove_other men from s off_from ∙ free off_from
-  ]
+  empties s off_to free = grind (arith, get-insert_other, cases_eq, get-remove_same, get-remove_other)
 
 -- ---- a man takes where he attacks, a pawn among others
 
@@ -176,15 +137,10 @@ module _ (p : Setup) (man : Man) (from to : ℕ) (held : IsHeld p.men to (other_
 
   -- no man stands on the target
   not_in_passing : IsAdmissible p → takes_in_passing p man to ≡ false
-  not_in_passing ok = not_passing p man to
-      (λ pawn is. let empty = (subst (λ o. IfSome o (IsTarget p.men p.side)) is ok.target).empty in let none = sym held.stands ∙ empty in cc)
+  not_in_passing ok = grind (arith, not_passing)
 
   taking_goes : Reaches (IsFree p.men) man from to → ¬ IsHeld p.men to p.side → Goes p man from to
-  taking_goes reaches not_own = by_test (is_pawn man.kind) refl
-    where
-      by_test : (b : Bool) → is_pawn man.kind ≡ b → Goes p man from to
-      by_test true e = inr (inr (record { pawn = pawn_told man.kind e; reaches = reaches; takes = inl held }))
-      by_test false e = inl (record { piece = no_pawn_is man.kind e; reaches = reaches; not_own = not_own })
+  taking_goes reaches not_own = grind (arith, is_pawn, pawn_told, no_pawn_is)
 
   -- who takes a man attacks him
   pub taking_reaches : Goes p man from to → Reaches (IsFree p.men) man from to
@@ -192,28 +148,14 @@ module _ (p : Setup) (man : Man) (from to : ℕ) (held : IsHeld p.men to (other_
 
 -- the side that waits is not in check, so that no king is taken
 pub no_king_taken : (p q : Setup) (m : Move) → IsAdmissible p → Leads p m q → (held : IsHeld p.men m.to (other_side p.side)) → (s : Side) → king_of s ≡ held.man → ⊥
-no_king_taken p q m ok leads held s is = ok.quiet (record {
-  square = m.to;
-  stands = held.stands ∙ ap Some (sym is ∙ ap king_of (ap (λ (x : Man). x.side) is ∙ held.theirs));
-  attacked = record { from = m.from; man = leads.man; stands = leads.stands; theirs = leads.mine ∙ sym (side_twice p.side); reaches = taking_reaches p leads.man m.from m.to held leads.goes };
-})
+no_king_taken p q m ok leads held s is = grind (arith, side_twice)
 
 -- a pawn does not stay one on its last rank
 within_ranks : (side : Side) (to : ℕ) → 0 < rank_of to → rank_of to < 7 → rank_of to ≢ last_rank side
 within_ranks side to low high e = grind arith
 
 pub not_promoting : (man : Man) (to : ℕ) → (man.kind ≡ P → (0 < rank_of to) × (rank_of to < 7)) → promotes man to ≡ false
-not_promoting man to fits = by_test (promotes man to) refl
-  where
-    by_test : (b : Bool) → promotes man to ≡ b → b ≡ false
-    by_test false e = refl
-    by_test true e =
-        let both = and_parts (is_pawn man.kind) (rank_of to == last_rank man.side) e in
-        let ranks = fits (pawn_told man.kind both.0) in
-        elim (eqb_tells (rank_of to) (last_rank man.side)) [
-          | inl last ↦ absurd (within_ranks man.side to ranks.0 ranks.1 last.1)
-          | inr apart ↦ absurd (false≢true (sym apart.0 ∙ both.1))
-        ]
+not_promoting man to fits = grind (arith, is_pawn, pawn_told, eqb_tells, within_ranks)
 
 module _ (facts : Facts) (telling : Telling) (c : ℕ) (men : ShelfMen) (one_other : men.one.kind ≢ K) (last_other : men.last.kind ≢ K)
     (side : Side) (passed : Bool) (a b : ℕ) (p : Setup) (has : HasStand c false (stand_on men a b) side passed p) where
@@ -447,9 +389,7 @@ module _ (facts : Facts) (telling : Telling) (c : ℕ) (men : ShelfMen) (one_oth
     Mover = ((king_of side ≡ leads.man) × (king_of_men men side ≡ m.from)) ⊎ ((men.one ≡ leads.man) × (a ≡ m.from)) ⊎ ((men.last ≡ leads.man) × (b ≡ m.from))
 
     some_king : (s : Side) → king_of s ≡ leads.man → king_of_men men s ≡ m.from → Mover
-    some_king s is at =
-        let same : s ≡ side = ap (λ (x : Man). x.side) is ∙ own in
-        inl (subst (λ (x : Side). king_of x ≡ leads.man) same is, subst (λ (x : Side). king_of_men men x ≡ m.from) same at)
+    some_king s is h = grind (arith, own)
 
     mover : Mover
     mover = of_man ((telling.listed c here side passed p m.from leads.man has).0 leads.stands)
@@ -468,9 +408,7 @@ module _ (facts : Facts) (telling : Telling) (c : ℕ) (men : ShelfMen) (one_oth
     attacks = taking_reaches p leads.man m.from m.to held leads.goes
 
     reached : (man : Man) (from to : ℕ) → man ≡ leads.man → from ≡ m.from → to ≡ m.to → Reaches (IsFree p.men) man from to
-    reached man from to is at there =
-        subst (λ (x : Man). Reaches (IsFree p.men) x from to) (sym is)
-        (subst (λ s. Reaches (IsFree p.men) leads.man s to) (sym at) (subst (λ s. Reaches (IsFree p.men) leads.man m.from s) (sym there) attacks))
+    reached man from to is h there = grind (arith, attacks)
 
     theirs : held.man.side ≡ other_side side
     theirs = held.theirs ∙ ap other_side (sym mine)

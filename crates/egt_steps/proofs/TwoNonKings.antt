@@ -1,5 +1,5 @@
 -- The kings and two men beside them on their squares.
-use Rattle.std.proofs.Common.{◌≡◌, ◌≢◌, ℕ, ◌⊎◌, Bool, true, false, List, [], ◌∷◌, map, Option, Some, None, sym, ap, ◌∙◌}
+use Rattle.std.proofs.Common.{arith, ◌≡◌, ◌≢◌, ℕ, ◌⊎◌, Bool, true, false, List, [], ◌∷◌, map, Option, Some, None, sym, ap, ◌∙◌}
 use Rattle.std.proofs.Common.{subst, inl, inr}
 use Rattle.egt_steps.specs.Prelude.{is_some, option_map, cases_eq, HasBeside, king_of, Placement, Stands, IsFree}
 use Rattle.egt_steps.specs.Prelude.{one_man, same_men, IsSettled, Setup, IsAdmissible, turned_man, K, Man, Side, White}
@@ -28,42 +28,12 @@ pub record AreTwo (men : Placement) (white black : ℕ) (one : Man) (a : ℕ) (o
 
 -- in the other order they are the same
 pub exchanged : (men : Placement) (white black : ℕ) (one : Man) (a : ℕ) (other : Man) (b : ℕ) → AreTwo men white black one a other b → AreTwo men white black other b one a
-exchanged men white black one a other b are = record {
-  white_there = are.white_there;
-  black_there = are.black_there;
-  one_there = are.other_there;
-  other_there = are.one_there;
-  kings_apart = are.kings_apart;
-  one_white = are.other_white;
-  one_black = are.other_black;
-  other_white = are.one_white;
-  other_black = are.one_black;
-  apart = λ e. are.apart (sym e);
-  free = λ s w k o l. are.free s w k l o;
-}
+exchanged men white black one a other b are = grind arith
 
 -- whoever stands on the board is one of them
 pub who : (men : Placement) (white black : ℕ) (one : Man) (a : ℕ) (other : Man) (b : ℕ) → AreTwo men white black one a other b → (s : ℕ) (man : Man) → Stands men s man
     → ((s ≡ white) × (man ≡ king_of White)) ⊎ ((s ≡ black) × (man ≡ king_of Black)) ⊎ ((s ≡ a) × (man ≡ one)) ⊎ ((s ≡ b) × (man ≡ other))
-who men white black one a other b are s man stands = elim (cases_eq s white) [
-  | inl here ↦ inl (here, one_man men white man (king_of White) (at white here) are.white_there)
-  | inr off_white ↦ elim (cases_eq s black) [
-    | inl here ↦ inr (inl (here, one_man men black man (king_of Black) (at black here) are.black_there))
-    | inr off_black ↦ elim (cases_eq s a) [
-      | inl here ↦ inr (inr (inl (here, one_man men a man one (at a here) are.one_there)))
-      | inr off_one ↦ elim (cases_eq s b) [
-        | inl here ↦ inr (inr (inr (here, one_man men b man other (at b here) are.other_there)))
-        | inr off_other ↦ absurd (taken_not (sym stands ∙ are.free s off_white off_black off_one off_other))
-      ]
-    ]
-  ]
-]
-  where
-    taken_not : {x : Man} → Some x ≡ None → ⊥
-    taken_not e = cc
-
-    at : (t : ℕ) → s ≡ t → Stands men t man
-    at t here = subst (λ u. Stands men u man) here stands
+who men white black one a other b are s man stands = grind (arith, cases_eq, one_man)
 
 -- two men and the kings stand in one placement alone
 pub one_two : (m n : Placement) (white black : ℕ) (one : Man) (a : ℕ) (other : Man) (b : ℕ) → AreTwo m white black one a other b → AreTwo n white black one a other b → m ≡ n

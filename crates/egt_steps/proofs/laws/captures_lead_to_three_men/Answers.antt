@@ -1,3 +1,4 @@
+use Rattle.std.proofs.Common.{arith}
 use Rattle.egt_steps.proofs.Takings.{Telling, comes, goes}
 use Rattle.egt_steps.proofs.laws.captures_lead_to_three_men.Goals as goal
 
@@ -8,8 +9,4 @@ returns c = record {
 }
   where
     telling : Telling
-    telling = record {
-      listed = c.stands_follow_moves.ensures.listed;
-      free = c.stands_follow_moves.ensures.free;
-      counted = c.men_beside_are_counted.ensures;
-    }
+    telling = grind arith

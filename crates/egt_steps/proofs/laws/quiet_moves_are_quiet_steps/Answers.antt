@@ -1,3 +1,4 @@
+use Rattle.std.proofs.Common.{arith}
 use Rattle.egt_steps.proofs.QuietStands.{comes, goes}
 use Rattle.egt_steps.proofs.QuietSteps.{Following}
 use Rattle.egt_steps.proofs.laws.quiet_moves_are_quiet_steps.Goals as goal
@@ -9,10 +10,4 @@ returns c = record {
 }
   where
     follow : Following
-    follow = record {
-      listed = c.stands_follow_moves.ensures.listed;
-      free = c.stands_follow_moves.ensures.free;
-      moved = c.stands_follow_moves.ensures.moved;
-      back = c.stands_follow_moves.ensures.back;
-      quiet_moved = c.a_quiet_move_moves_one_man.ensures;
-    }
+    follow = grind arith
