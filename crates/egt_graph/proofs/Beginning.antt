@@ -87,18 +87,13 @@ none_passes p e [] = refl
 none_passes p e (x ∷ xs) = or_from _ _ (e x) (none_passes p e xs)
 
 not_lost_yet : (e : Exit) → is_lost_before 0 e ≡ false
-not_lost_yet (Win k) = refl
-not_lost_yet (Loss k) = le-ltb k 0 (omega arith)
-not_lost_yet Draw = refl
+not_lost_yet e = grind (arith, le-ltb)
 
 not_won_yet : (e : Exit) → not (is_won_before 0 e) ≡ true
-not_won_yet (Win k) = ap not (le-ltb k 0 (omega arith))
-not_won_yet e = grind arith
+not_won_yet e = grind (arith, not, le-ltb)
 
 some_wait : {X Y : Type 0} (xs : List X) (ys : List Y) → (not (is_empty xs && is_empty ys) && eqb (length xs + length ys) 0) ≡ false
-some_wait [] [] = refl
-some_wait [] (y ∷ ys) = ne_eqb _ _ (λ e. absurd (omega arith))
-some_wait (x ∷ xs) ys = ne_eqb _ _ (λ e. absurd (omega arith))
+some_wait xs ys = grind (arith, ne_eqb)
 
 pub outside : (g : Graph) (i : ℕ) → g.size ≤ i → is_node g i ≡ false
 outside g i le = and_left (ltb i g.size) (not (g.void i)) (le-ltb i g.size le)
@@ -106,10 +101,7 @@ outside g i le = and_left (ltb i g.size) (not (g.void i)) (le-ltb i g.size le)
 -- a column that holds a value of each place, and of none past the nodes, holds it at every number
 pub at_every : {A : Type 0} (g : Graph) (d : A) (f : ℕ → A) (xs : List A) → length xs ≡ g.size → ((i : ℕ) → i < g.size → get_or xs i d ≡ f i)
     → ((i : ℕ) → is_node g i ≡ false → f i ≡ d) → (i : ℕ) → get_or xs i d ≡ f i
-at_every g d f xs long each none i = elim (cases_lt i g.size) [
-  | inl lt ↦ each i lt
-  | inr le ↦ get_or_past xs i d (omega (arith, long, le)) ∙ sym (none i (outside g i le))
-]
+at_every g d f xs long each none i = grind (arith, get_or_past, outside)
 
 begun_waits : (g : Graph) (done : ℕ → Bool) (i : ℕ) → waits_at g 0 done 0 i ≡ length (outs g i) + length (leaves g i)
 begun_waits g done i = ap₂ (λ a b. a + b) (all_count _ (λ x. refl) (outs g i)) (all_count _ not_won_yet (leaves g i))

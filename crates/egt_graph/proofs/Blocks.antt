@@ -32,9 +32,7 @@ later_of_no_round g r i win loss e = ap (is_entry_of_round r) (decided_open (ent
     loss_later = false_from_ne_true _ (λ t. let e = of_round_loss (r + 1) r t in absurd (omega arith))
 
     cases : (w l : Bool) → is_entry_of_round r (cond w (2 + 2 * (r + 1)) (cond l (3 + 2 * (r + 1)) 1)) ≡ false
-    cases true l = win_later
-    cases false true = loss_later
-    cases false false = draw_of_no_round r
+    cases w l = grind (arith, draw_of_no_round)
 
 -- what the entry of a node of the round says of it
 pub data Found (g : Graph) (r i : ℕ) : Type 0 where

@@ -11,7 +11,6 @@ use Rattle.egt_graph.proofs.Nodes.{outs_at, leaves_at, outs_are_nodes}
 use Rattle.egt_graph.proofs.Holding.{decided_shut, decided_again}
 
 known_all : (b w t : Bool) → (b ≡ true → w ≡ true) → t ≡ true → (b || (w && t)) ≡ w
-known_all true w t h e = sym (h refl)
 known_all b w t h e = grind arith
 
 known_none : (b w t : Bool) → t ≡ false → (b || (w && t)) ≡ b
@@ -36,9 +35,7 @@ entry_mated g (suc r) i h m =
     decided_shut (entry_at g r i) (suc r) _ _ (ne_eqb (entry_at g r i) 1 (λ q. absurd (omega arith))) ∙ e
 
 sum_is_none : (a b : ℕ) → eqb (a + b) 0 ≡ (eqb a 0 && eqb b 0)
-sum_is_none zero zero = refl
-sum_is_none zero (suc b) = ne_eqb _ _ (λ e. absurd (omega arith)) ∙ sym (ne_eqb _ _ (λ e. absurd (omega arith)))
-sum_is_none (suc a) b = ne_eqb _ _ (λ e. absurd (omega arith)) ∙ sym (ap (λ t. t && eqb b 0) (ne_eqb _ _ (λ e. absurd (omega arith))))
+sum_is_none a b = grind (arith, ne_eqb)
 
 -- with the whole round done, a move wins where it would win in one ply more
 pub all_winning : (g : Graph) → IsGame g → (r : ℕ) (done : ℕ → Bool) → ((j : ℕ) → IsNode g j → done j ≡ true)

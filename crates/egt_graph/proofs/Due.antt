@@ -41,15 +41,10 @@ module _ (measure : Measure) (g : Graph) where
 
     -- a node with a successor has a move and is not mated
     moves : (i : ℕ) (r : measure.Result) → IsNext measure g entry i r → has_move g i ≡ true
-    moves i r (inl (j, has, is)) = ap (λ b. not (b && is_empty (g.exits i))) (not_empty (g.out i) j has)
-    moves i r (inr (e, has, is)) = elim (cases_Bool (is_empty (g.out i))) [
-      | inl t ↦ rw (t, not_empty (g.exits i) e has) refl
-      | inr f ↦ rw f refl
-    ]
+    moves i r h = grind (arith, not, not_empty, cases_Bool)
 
     unmated : (i : ℕ) (r : measure.Result) → IsNode g i → IsNext measure g entry i r → g.mated i ≡ true → ⊥
-    unmated i r node (inl (j, has, is)) t = none_there (g.out i) j (law.mate_ends i node t).0 has
-    unmated i r node (inr (e, has, is)) t = none_there (g.exits i) e (law.mate_ends i node t).1 has
+    unmated i r node h t = grind (arith, none_there)
 
     -- what an entry spells is due
     told : ((r s : measure.Result) → measure.spelt r ≡ measure.spelt s → r ≡ s) → (i : ℕ) → IsNode g i → (r : measure.Result) → entry i ≡ measure.spelt r → IsDueAt measure g entry i r
@@ -60,11 +55,6 @@ module _ (measure : Measure) (g : Graph) where
 -- ---- the values
 
 entry_once : (v w : Exit) → entry_of v ≡ entry_of w → v ≡ w
-entry_once (Win n) (Win k) e = ap Win (let same : n ≡ k = omega (arith, e) in same)
-entry_once (Win n) (Loss k) e = absurd (omega (arith, e))
-entry_once (Win n) Draw e = absurd (omega (arith, e))
-entry_once (Loss n) (Win k) e = absurd (omega (arith, e))
-entry_once (Loss n) (Loss k) e = ap Loss (let same : n ≡ k = omega (arith, e) in same)
 entry_once v w e = grind arith
 
 abbrev plies : Exit → ℕ
@@ -178,11 +168,7 @@ module _ (g : Graph) (law : IsGame g) (entry : ℕ → ℕ) (are : AreDue values
   ]
 
   mated_soon : (i n : ℕ) → IsNode g i → g.mated i ≡ true → Soon Loss n i
-  mated_soon i n node t = elim (are.due i node).2 [
-    | inl mate ↦ (0, omega arith, (are.due i node).1 ∙ ap entry_of mate.1)
-    | inr (inl stuck) ↦ absurd (both_ways (g.mated i) stuck.0 t)
-    | inr (inr (best, is_best, is)) ↦ absurd (unmated values g law entry are i best node is_best.next t)
-  ]
+  mated_soon i n node t = grind (arith, both_ways, values)
 
   record NoSooner (n : ℕ) : Type 0 where
     won : (i : ℕ) → IsNode g i → mates_within g n i ≡ true → Soon Win n i
@@ -192,8 +178,7 @@ module _ (g : Graph) (law : IsGame g) (entry : ℕ → ℕ) (are : AreDue values
   later_won i k n le (m, less, is) = (m, omega (arith, le, less), is)
 
   won_exit : (n : ℕ) (e v : Exit) → e ≡ v → is_won_before (suc n) e ≡ true → (k : ℕ) × (k ≤ n) × (v ≡ Win k)
-  won_exit n (Win k) v is t = (k, (let lt = ltb-true k (suc n) t in omega (arith, lt)), sym is)
-  won_exit n e v is t = grind arith
+  won_exit n e v is t = grind (arith, ltb-true)
 
   module _ (n : ℕ) (before : NoSooner n) (i : ℕ) (node : IsNode g i) where
     by_exit : (e : Exit) → Contains (g.exits i) e → is_lost_before (suc n) e ≡ true → Soon Win (suc n) i

@@ -40,9 +40,7 @@ won_is_win : (n : ℕ) (e : Exit) → is_won_before n e ≡ true → not (is_no_
 won_is_win n e h = grind arith
 
 short_win : (r : ℕ) (e : Exit) → HasShortDistance e → not (is_no_win e) ≡ true → is_won_before (suc (r + 32000)) e ≡ true
-short_win r (Win k) s h = lt-ltb k (suc (r + 32000)) (omega arith)
-short_win r (Loss k) s h = h
-short_win r Draw s h = h
+short_win r e s h = grind (arith, lt-ltb)
 
 -- a lost exit makes a win sooner or later
 some_loss : (xs : List Exit) → list_any is_loss xs ≡ true → (k : ℕ) × (list_any (is_lost_before (suc k)) xs ≡ true)
@@ -72,9 +70,7 @@ pub record IsClosed (g : Graph) (r : ℕ) (done : ℕ → Bool) (n : ℕ) (es ws
 
 open_test : (g : Graph) (r : ℕ) (done : ℕ → Bool) (n : ℕ) (es ws ls : List ℕ) (fs : List Bool) → IsClosed g r done n es ws ls fs → (i : ℕ)
     → is_open_at n es ws ls fs i ≡ is_open n (entry_at g n i) (waits_at g r done n i) (later_at g n i) (list_any is_loss (leaves g i))
-open_test g r done n es ws ls fs h i =
-    ap₂ (λ e w. is_open n e w (slice_index ls i) (slice_index_or fs i false)) (h.entry i) (h.waiting i)
-    ∙ ap₂ (λ l f. is_open n (entry_at g n i) (waits_at g r done n i) l f) (h.exits.wins i) (h.exits.losses i)
+open_test g r done n es ws ls fs h i = grind (arith, entry_at)
 
 -- ---- a node that is open has, or will have, a rank above r
 
@@ -111,16 +107,10 @@ mated_later g law r done all i node some same =
     (sym (none_fails (λ e. not (is_no_win e)) (g.exits i)) ∙ ap (λ k. eqb k 0) (twice_not (g.exits i)) ∙ eq-eqb _ 0 z.1))))
 
 pub of_round_win : (n m : ℕ) → is_entry_of_round m (2 + 2 * n) ≡ true → n ≡ m
-of_round_win n m h = elim (or_cases (eqb (2 + 2 * n) (2 + 2 * m)) (eqb (2 + 2 * n) (3 + 2 * m)) h) [
-  | inl a ↦ let e = eqb-true (2 + 2 * n) (2 + 2 * m) a in omega arith
-  | inr b ↦ let e = eqb-true (2 + 2 * n) (3 + 2 * m) b in absurd (omega arith)
-]
+of_round_win n m h = grind (arith, or_cases, eqb-true)
 
 pub of_round_loss : (n m : ℕ) → is_entry_of_round m (3 + 2 * n) ≡ true → n ≡ m
-of_round_loss n m h = elim (or_cases (eqb (3 + 2 * n) (2 + 2 * m)) (eqb (3 + 2 * n) (3 + 2 * m)) h) [
-  | inl a ↦ let e = eqb-true (3 + 2 * n) (2 + 2 * m) a in absurd (omega arith)
-  | inr b ↦ let e = eqb-true (3 + 2 * n) (3 + 2 * m) b in omega arith
-]
+of_round_loss n m h = grind (arith, or_cases, eqb-true)
 
 pub draw_of_no_round : (m : ℕ) → is_entry_of_round m 1 ≡ false
 draw_of_no_round m = or_from _ _ (ne_eqb 1 (2 + 2 * m) (λ e. absurd (omega arith))) (ne_eqb 1 (3 + 2 * m) (λ e. absurd (omega arith)))

@@ -18,9 +18,7 @@ below_next k r = elim (cases_order k r) [
 ]
 
 pub lost_next : (r : ℕ) (e : Exit) → is_lost_before (r + 1) e ≡ (is_lost_before r e || is_loss_of r e)
-lost_next r (Win k) = refl
-lost_next r (Loss k) = below_next k r
-lost_next r Draw = refl
+lost_next r e = grind (arith, below_next)
 
 loss_is_no_win : (r n : ℕ) (e : Exit) → is_loss_of r e ≡ true → not (is_won_before n e) ≡ true
 loss_is_no_win r n e h = grind arith

@@ -42,8 +42,7 @@ block_places_front entries n block end e le =
         get_or-take (end - block * 4096) (drop (block * 4096) entries) k 0 lt ∙ get_or-drop (block * 4096) entries k 0 ∙ ap (λ i. get_or entries i 0) at
 
 All_cond : (P : ℕ → Type 0) (b : Bool) (x : ℕ) (xs : List ℕ) → P x → All P xs → All P (cond b (x ∷ xs) xs)
-All_cond P true x xs p h = All-cons P x xs p h
-All_cond P false x xs p h = h
+All_cond P b x xs p h = grind (arith, All-cons)
 
 pub All_filter_range : (P : ℕ → Type 0) (p : ℕ → Bool) (a n : ℕ) → ((k : ℕ) → a ≤ k → k < a + n → P k) → All P (filter p (range_with_len a n))
 All_filter_range P p a zero h = All-nil P

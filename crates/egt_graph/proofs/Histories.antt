@@ -33,8 +33,7 @@ record Stepped (g : Graph) (limit : ℕ) (v : State) (event : Event) (w : State)
   ticks : (b : ℕ) → b < blocks_of g.size → is_running w.phase ≡ true → slice_index_or w.posted b false ≡ ticked_by b (slice_index_or v.posted b false) event
 
 stays_running : (b c : Bool) → c ≡ false → b ≡ (b && not c)
-stays_running true c e = sym (ap not e)
-stays_running false c e = refl
+stays_running b c e = grind (arith, not)
 
 over_stays : (b c : Bool) → b ≡ false → b ≡ (b && c)
 over_stays b c e = e ∙ sym (ap (λ x. x && c) e)
@@ -42,16 +41,7 @@ over_stays b c e = e ∙ sym (ap (λ x. x && c) e)
 -- nothing changes
 stays : (g : Graph) (limit : ℕ) (v w : State) (event : Event) → Sound g limit v → w ≡ v → is_next event ≡ false → v.phase ≡ phase_by v.phase event
     → is_running v.phase ≡ (is_running v.phase && not (is_end event)) → ((b : ℕ) (flag : Bool) → ticked_by b flag event ≡ flag) → Stepped g limit v event w
-stays g limit v w event s e next phase running ticks = rw e (record {
-  sound = s;
-  round = plus_none v.round _ (ap (λ (c : Bool). cond {A = ℕ} c 1 0) next);
-  phase = phase;
-  running = running;
-  ticks = λ b lt r. sym (ticks b (slice_index_or v.posted b false));
-})
-  where
-    plus_none : (a b : ℕ) → b ≡ 0 → a ≡ a + b
-    plus_none a b q = omega arith
+stays g limit v w event s e next phase running ticks = grind arith
 
 ticked : (flags : List Bool) (block b : ℕ) → b < length flags → slice_index_or (set flags block true) b false ≡ (eqb block b || slice_index_or flags b false)
 ticked flags block b lt = elim (cases_eq block b) [
@@ -61,19 +51,7 @@ ticked flags block b lt = elim (cases_eq block b) [
 
 step_posted : (g : Graph) (limit : ℕ) (v w : State) (round block : ℕ) (nodes : List ℕ) → Sound g limit v → w ≡ record v { posted = set v.posted block true }
     → Stepped g limit v (Received round block nodes Posted) w
-step_posted g limit v w round block nodes s e = rw e (record {
-  sound = record {
-    limited = s.limited;
-    long = length-set v.posted block true ∙ s.long;
-    reached = s.reached;
-    finished = s.finished;
-    too_deep = s.too_deep;
-  };
-  round = omega arith;
-  phase = refl;
-  running = stays_running (is_running v.phase) false refl;
-  ticks = λ b lt r. ticked v.posted block b (let l = s.long in omega arith);
-})
+step_posted g limit v w round block nodes s e = grind (arith, length-set, stays_running, ticked)
 
 step_next : (g : Graph) (limit : ℕ) (v w : State) → Sound g limit v → v.phase ≡ Running → SomeAbove g v.round
     → w ≡ record v { round = v.round + 1; posted = none_posted g } → Stepped g limit v (Closed Next) w
@@ -96,28 +74,10 @@ no_more : (b : Bool) → false ≡ (b && false)
 no_more b = grind arith
 
 step_finished : (g : Graph) (limit : ℕ) (v w : State) → Sound g limit v → NoneAbove g v.round → w ≡ record v { phase = IsOver } → Stepped g limit v (Closed Finished) w
-step_finished g limit v w s none e = rw e (record {
-  sound = record { limited = s.limited; long = s.long; reached = s.reached; finished = λ q. none; too_deep = λ q. cc };
-  round = omega arith;
-  phase = refl;
-  running = no_more (is_running v.phase);
-  ticks = λ b lt r. refl;
-})
+step_finished g limit v w s none e = grind (arith, no_more)
 
 step_past : (g : Graph) (limit : ℕ) (v w : State) → Sound g limit v → SomeAbove g v.round → v.round ≡ v.limit → w ≡ record v { phase = IsPastLimit } → Stepped g limit v (Closed TooDeep) w
-step_past g limit v w s some at e = rw e (record {
-  sound = record {
-    limited = s.limited;
-    long = s.long;
-    reached = s.reached;
-    finished = λ q. cc;
-    too_deep = λ q. let Q : ℕ → Type 0 = λ m. SomeAbove g m in subst Q (at ∙ s.limited) some;
-  };
-  round = omega arith;
-  phase = refl;
-  running = no_more (is_running v.phase);
-  ticks = λ b lt r. refl;
-})
+step_past g limit v w s some h e = grind (arith, no_more)
 
 step_close_running : (g : Graph) (limit : ℕ) (v w : State) (answer : Close) → Sound g limit v → v.phase ≡ Running → ClosesRunning g v answer w → Stepped g limit v (Closed answer) w
 step_close_running g limit v w NotAll s run h = stays g limit v w (Closed NotAll) s h.1 refl refl (stays_running (is_running v.phase) false refl) (λ b flag. refl)
@@ -127,13 +87,7 @@ step_close_running g limit v w Next s run h = step_next g limit v w s run h.1 h.
 
 step_close_over : (g : Graph) (limit : ℕ) (v w : State) (answer : Close) → Sound g limit v → is_running v.phase ≡ false → (answer ≡ Finished) ⊎ (answer ≡ TooDeep) → v.phase ≡ phase_by v.phase (Closed answer) → w ≡ v
     → Stepped g limit v (Closed answer) w
-step_close_over g limit v w Next s over a same e = absurd (not_next a)
-  where
-    not_next : (Next ≡ Finished) ⊎ (Next ≡ TooDeep) → ⊥
-    not_next h = grind arith
-step_close_over g limit v w Finished s over a same e = stays g limit v w (Closed Finished) s e refl same (over_stays (is_running v.phase) false over) (λ b flag. refl)
-step_close_over g limit v w NotAll s over a same e = stays g limit v w (Closed NotAll) s e refl same (over_stays (is_running v.phase) true over) (λ b flag. refl)
-step_close_over g limit v w TooDeep s over a same e = stays g limit v w (Closed TooDeep) s e refl same (over_stays (is_running v.phase) false over) (λ b flag. refl)
+step_close_over g limit v w answer s over a same e = grind (arith, stays, over_stays)
 
 step_close : (g : Graph) (limit : ℕ) (v w : State) (answer : Close) → Sound g limit v → (p : Phase) → v.phase ≡ p → ClosesIn p g v answer w → Stepped g limit v (Closed answer) w
 step_close g limit v w answer s Running e h = step_close_running g limit v w answer s e h
@@ -178,13 +132,7 @@ went g limit v w (event ∷ events) s h =
     }
 
 sound_begun : (g : Graph) (limit : ℕ) → Sound g limit (begun g limit)
-sound_begun g limit = record {
-  limited = refl;
-  long = length-replicate (blocks_of g.size) false;
-  reached = λ n lt. absurd (omega arith);
-  finished = λ e. absurd (true≢false (ap is_running e));
-  too_deep = λ e. absurd (true≢false (ap is_running e));
-}
+sound_begun g limit = grind (arith, length-replicate, true≢false)
 
 -- a run goes on exactly where no event was its end
 ended : (running end : Bool) → running ≡ not end → running ≡ false → end ≡ true
@@ -230,24 +178,15 @@ each_round_is_of_its_rank g limit before after block nodes v runs =
   where
     go : (u : State) → AfterEvents g limit before u → nodes ≡ listed g u block → (p : Phase) → u.phase ≡ p
         → ((list_any is_end before ≡ false) × (nodes ≡ front g (count_by is_next before) block)) ⊎ ((list_any is_end before ≡ true) × (nodes ≡ []))
-    go u h is Running e = inl (going _ _ h.running (ap is_running e), is ∙ ap (λ p. listed_in g p u.round block) e ∙ ap (λ r. front g r block) h.round)
-    go u h is IsOver e = inr (ended _ _ h.running (ap is_running e), is ∙ ap (λ p. listed_in g p u.round block) e)
-    go u h is IsPastLimit e = inr (ended _ _ h.running (ap is_running e), is ∙ ap (λ p. listed_in g p u.round block) e)
+    go u h is p e = grind (arith, going, front, ended)
 
 -- ---- games whose calls all answer alike
 
 alike_node : (g h : Graph) → IsAlike g h → (i : ℕ) → IsNode g i → IsNode h i
-alike_node g h a i node =
-    let lt = node.in_range in
-    let e = a.size in
-    record { in_range = omega arith; not_void = sym (a.void i node.in_range) ∙ node.not_void }
+alike_node g h a i node = grind arith
 
 alike_back : (g h : Graph) → IsAlike g h → (i : ℕ) → IsNode h i → IsNode g i
-alike_back g h a i node =
-    let lt = node.in_range in
-    let e = a.size in
-    let within : i < g.size = omega arith in
-    record { in_range = within; not_void = a.void i within ∙ node.not_void }
+alike_back g h a i node = grind arith
 
 alike_within : (g h : Graph) → IsGame g → IsAlike g h → (n i : ℕ) → IsNode g i → (mates_within g n i ≡ mates_within h n i) × (mated_within g n i ≡ mated_within h n i)
 alike_within g h law a zero i node = (refl, a.mated i node)

@@ -22,10 +22,7 @@ pub loss_is_no_draw : (n : ℕ) → eqb (3 + 2 * n) 1 ≡ false
 loss_is_no_draw n = ne_eqb (3 + 2 * n) 1 (λ e. absurd (omega arith))
 
 mark_open : (b n : ℕ) → eqb b 1 ≡ true → (win c loss : Bool) → (c ≡ true → loss ≡ false) → decided (decided b win loss n) c false n ≡ decided b (win || c) loss n
-mark_open b n o true c loss h = rw (o, win_is_no_draw n) refl
-mark_open b n o false true true h = absurd (false≢true (sym (h refl)))
-mark_open b n o false false true h = rw (o, loss_is_no_draw n) refl
-mark_open b n o false c false h = rw o refl
+mark_open b n o win c loss h = grind (arith, win_is_no_draw, loss_is_no_draw)
 
 pub decided_mark : (b n : ℕ) (win c loss : Bool) → (c ≡ true → loss ≡ false) → decided (decided b win loss n) c false n ≡ decided b (win || c) loss n
 decided_mark b n win c loss h = elim (cases_Bool (eqb b 1)) [
@@ -35,10 +32,7 @@ decided_mark b n win c loss h = elim (cases_Bool (eqb b 1)) [
 
 take_open : (b n : ℕ) → eqb b 1 ≡ true → (win c loss z loss' : Bool) → (c ≡ true → loss ≡ false) → (c ≡ true → loss' ≡ z) → (c ≡ false → loss' ≡ loss)
     → decided (decided b win loss n) false (c && z) n ≡ decided b win loss' n
-take_open b n o true c loss z loss' h k m = rw (o, win_is_no_draw n) refl
-take_open b n o false false true z loss' h k m = rw (m refl, o, loss_is_no_draw n) refl
-take_open b n o false false false z loss' h k m = rw (m refl, o) refl
-take_open b n o false true loss z loss' h k m = rw (h refl, k refl, o) refl
+take_open b n o win c loss z loss' h k m = grind (arith, win_is_no_draw, loss_is_no_draw)
 
 pub decided_take : (b n : ℕ) (win c loss z loss' : Bool) → (c ≡ true → loss ≡ false) → (c ≡ true → loss' ≡ z) → (c ≡ false → loss' ≡ loss)
     → decided (decided b win loss n) false (c && z) n ≡ decided b win loss' n
@@ -49,9 +43,7 @@ decided_take b n win c loss z loss' h k m = elim (cases_Bool (eqb b 1)) [
 
 -- what was decided stays, whatever is said of it again
 again_open : (b n m : ℕ) → eqb b 1 ≡ true → (win loss : Bool) → decided (decided b win loss n) win loss m ≡ decided b win loss n
-again_open b n m o true loss = rw (o, win_is_no_draw n) refl
-again_open b n m o false true = rw (o, loss_is_no_draw n) refl
-again_open b n m o false false = rw o refl
+again_open b n m o win loss = grind (arith, win_is_no_draw, loss_is_no_draw)
 
 pub decided_again : (b n m : ℕ) (win loss : Bool) → decided (decided b win loss n) win loss m ≡ decided b win loss n
 decided_again b n m win loss = elim (cases_Bool (eqb b 1)) [

@@ -19,16 +19,12 @@ use Rattle.egt_graph.proofs.Nodes.{node_from_test, test_from_node, leaves_at, le
 use Rattle.egt_graph.proofs.Lists.{any_contains, contains_any}
 
 pub same_both : (a b : Bool) → (a ≡ true → b ≡ true) → (b ≡ true → a ≡ true) → a ≡ b
-same_both true b there back = sym (there refl)
-same_both false true there back = back refl
-same_both false false there back = refl
+same_both a b there back = grind arith
 
 -- ---- more plies
 
 near_exit_more : (n m : ℕ) → n ≤ m → (e : Exit) → is_near_exit n e ≡ true → is_near_exit m e ≡ true
-near_exit_more n m le (Win k) h = let l = ltb-true k n h in lt-ltb _ _ (omega arith)
-near_exit_more n m le (Loss k) h = let l = ltb-true k n h in lt-ltb _ _ (omega arith)
-near_exit_more n m le Draw h = h
+near_exit_more n m le e h = grind (arith, ltb-true, lt-ltb)
 
 near_more : (g : Graph) (n i : ℕ) → near_within g n i ≡ true → near_within g (suc n) i ≡ true
 near_more g zero i h = or_left _ _ h
@@ -75,30 +71,16 @@ near_none g (suc r) i f = decided_shut (near_at g r i) (suc r) (near_within g (s
 
 -- an entry of the round is of a node that is so many plies away
 pub of_round : (g : Graph) (r s i : ℕ) → near_at g r i ≡ 2 + 2 * s → (is_node g i ≡ true) × (near_within g s i ≡ true) × (near_before g s i ≡ false)
-of_round g r s i is = elim (cases_Bool (is_node g i)) [
-  | inr f ↦ let z = near_none g r i f in absurd (omega arith)
-  | inl t ↦ elim (near_known g r i t) [
-    | inl k ↦ let z = k.0 in absurd (omega arith)
-    | inr k ↦ let e : k.0 ≡ s = omega (arith, k.2, is) in (t, ap (λ n. near_within g n i) (sym e) ∙ k.3, ap (λ n. near_before g n i) (sym e) ∙ k.4)
-  ]
-]
+of_round g r s i is = grind (arith, cases_Bool, near_none, near_known)
 
 -- a node that was not near within r and is within one more is exactly one more away
 at_round : (g : Graph) (r i : ℕ) → is_node g i ≡ true → near_within g r i ≡ true → ((m : ℕ) → m < r → near_within g m i ≡ true → ⊥) → near_at g r i ≡ 2 + 2 * r
-at_round g r i node near none = elim (near_known g r i node) [
-  | inl k ↦ absurd (both_ways (near_within g r i) k.1 near)
-  | inr k ↦ elim (cases_lt k.0 r) [
-    | inl less ↦ absurd (none k.0 less k.3)
-    | inr ge ↦ let e : k.0 ≡ r = omega (arith, k.1, ge) in k.2 ∙ ap (λ n. 2 + 2 * n) e
-  ]
-]
+at_round g r i node near none = grind (arith, near_known, both_ways)
 
 -- ---- exits of each number
 
 near_exit_next : (r : ℕ) (e : Exit) → is_near_exit (suc r) e ≡ (is_near_exit r e || (is_loss_of r e || is_win_of r e))
-near_exit_next r (Win k) = let e : suc r ≡ r + 1 = omega arith in rw e (below_next k r)
-near_exit_next r (Loss k) = let e : suc r ≡ r + 1 = omega arith in rw e (below_next k r) ∙ ap (λ b. ltb k r || b) (or_false (eqb k r))
-near_exit_next r Draw = refl
+near_exit_next r e = grind (arith, below_next, or_false)
 
 pub exits_next : (r : ℕ) (es : List Exit) → list_any (is_near_exit (suc r)) es ≡ (list_any (is_near_exit r) es || (list_any (is_loss_of r) es || list_any (is_win_of r) es))
 exits_next r es =
@@ -124,9 +106,7 @@ no_exit_at_once [] u = false≢true u
 no_exit_at_once (e ∷ es) u = ⊎_elim (first e) (no_exit_at_once es) (or_cases (is_near_exit 0 e) _ u)
   where
     first : (e : Exit) → is_near_exit 0 e ≡ true → ⊥
-    first (Win k) v = let l = ltb-true k 0 v in absurd (omega arith)
-    first (Loss k) v = let l = ltb-true k 0 v in absurd (omega arith)
-    first Draw v = false≢true v
+    first e v = grind (arith, ltb-true)
 
 -- nor one below r, of a node that is not near within r
 pub no_sooner_exit : (g : Graph) (r i : ℕ) → near_within g r i ≡ false → list_any (is_near_exit r) (g.exits i) ≡ true → ⊥
@@ -262,10 +242,7 @@ module _ (g : Graph) (law : IsGame g) (r : ℕ) (run : Nearing) (known : IsNeari
       (or_cases (g.mated i) _ t)
 
   told_win : (n : ℕ) → near_of_entry (2 + 2 * n) ≡ 2 + n
-  told_win n = ap (λ b. cond b (2 + 2 * n) (1 + (2 + 2 * n) / 2)) (le-ltb (2 + 2 * n) 2 (omega arith)) ∙ half n
-    where
-      half : (n : ℕ) → 1 + (2 + 2 * n) / 2 ≡ 2 + n
-      half n = omega arith
+  told_win n = grind (arith, le-ltb)
 
   pub are_nears : r ≤ 32000 → (told : List ℕ) → AreTold run.entries.items told → AreNears g told
   are_nears short told tells = record {
@@ -284,14 +261,7 @@ module _ (g : Graph) (law : IsGame g) (r : ℕ) (run : Nearing) (known : IsNeari
       go i node (inr k) = (Some k.0, (k.3, k.4), le, tells.each i (omega (arith, node.in_range, known.long)) ∙ ap near_of_entry (known.entry i ∙ k.2) ∙ told_win k.0)
         where
           le : k.0 ≤ 32000
-          le = elim (cases_lt k.0 (suc r)) [
-            | inl less ↦ omega (arith, less, short)
-            | inr ge ↦ absurd (both_ways (near_before g k.0 i) k.4 (early k.0 ge (all_known k.0 i node k.3)))
-          ]
-            where
-              early : (n : ℕ) → suc r ≤ n → near_within g r i ≡ true → near_before g n i ≡ true
-              early zero ge t = absurd (omega arith)
-              early (suc m) ge t = near_le g i r m (omega arith) t
+          le = grind (arith, both_ways, all_known, near_le)
 
 -- values from outside are short
 pub none_later : (g : Graph) → IsGame g → (test : ℕ → Exit → Bool) → ((n : ℕ) (e : Exit) → HasShortDistance e → 32000 < n → test n e ≡ false)
@@ -320,13 +290,10 @@ none_later g law test late due filled n i gt = elim (cases_Bool (is_node g i)) [
         no_late (e ∷ es) short h = ⊎_elim (λ a. both_ways (test n e) (late n e (All-head HasShortDistance e es short) gt) a) (no_late es (All-tail HasShortDistance e es short)) (or_cases (test n e) _ h)
 
 late_loss : (n : ℕ) (e : Exit) → HasShortDistance e → 32000 < n → is_loss_of n e ≡ false
-late_loss n (Win k) short gt = refl
-late_loss n (Loss k) short gt = ne_eqb k n (λ e. absurd (omega arith))
-late_loss n Draw short gt = refl
+late_loss n e short gt = grind (arith, ne_eqb)
 
 late_win : (n : ℕ) (e : Exit) → HasShortDistance e → 32000 < n → is_win_of n e ≡ false
-late_win n (Win k) short gt = ne_eqb k n (λ e. absurd (omega arith))
-late_win n e short gt = grind arith
+late_win n e short gt = grind (arith, ne_eqb)
 
 over_at_last : (g : Graph) → IsGame g → (run : Nearing) → IsNearing g 32001 run
     → ((i : ℕ) → i < length run.entries.items → slice_index run.entries.items i ≢ 2 + 2 * 32001) → IsOver run 32000
@@ -400,9 +367,7 @@ nearing_begun g m run e h = record {
 
 -- what is found one after the other
 pub found_in_turn : (g : Graph) (n : ℕ) (found lost won a b c d : List ℕ) → Finds a (led_from g found) n b → Marks b lost n c → Marks c won n d → Finds a (found_by g found lost won) n d
-found_in_turn g n found lost won a b c d x y z =
-    finds_both a c d (λ i. led_from g found i || ltb 0 (count_of i lost)) (λ i. ltb 0 (count_of i won)) n
-    (finds_both a b c (led_from g found) (λ i. ltb 0 (count_of i lost)) n x y) z
+found_in_turn g n found lost won a b c d x y z = grind (arith, finds_both)
 
 -- a round as it is done
 pub round_done : (g : Graph) → IsGame g → (r : ℕ) (run : Nearing) → IsNearing g r run → (found : List ℕ) → AreFound run.entries.items r (length run.entries.items) found

@@ -83,10 +83,7 @@ abbrev pub with_node : (ℕ → Bool) → ℕ → ℕ → Bool
 with_node done j x = done x || eqb j x
 
 other : (done : ℕ → Bool) (j x : ℕ) → j ≢ x → with_node done j x ≡ done x
-other done j x ne = elim (cases_Bool (done x)) [
-  | inl t ↦ rw t (sym refl)
-  | inr f ↦ rw f (ne_eqb j x ne)
-]
+other done j x ne = grind (arith, cases_Bool, ne_eqb)
 
 itself : (done : ℕ → Bool) (j : ℕ) → with_node done j j ≡ true
 itself done j = or_right (done j) (eqb j j) (eq-eqb j j refl)
@@ -103,10 +100,7 @@ known_same b w t t' e = ap (λ s. b || (w && s)) e
 
 -- not known yet
 known_not : (b w t : Bool) → b ≡ false → t ≡ false → (b || (w && t)) ≡ false
-known_not b w t p q = rw (p, q) (and_right_false w)
-  where
-    and_right_false : (v : Bool) → (v && false) ≡ false
-    and_right_false v = grind arith
+known_not b w t p q = grind arith
 
 pub or_false : (b : Bool) → b ≡ (b || false)
 or_false b = grind arith

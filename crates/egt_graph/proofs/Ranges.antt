@@ -28,17 +28,14 @@ filter_range_quiet p n m h =
     ∙ ap (λ xs. filter p (range_with_len 0 n) ++ xs) (rw e (filter_range_none p n m h)) ∙ append-nil (filter p (range_with_len 0 n))
 
 pub length-filter_range : (p : ℕ → Bool) (a n : ℕ) → length (filter p (range_with_len a n)) ≤ n
-length-filter_range p a n =
-    omega (arith, length-filter p (range_with_len a n), count_by-le-length p (range_with_len a n), length-range_with_len a n)
+length-filter_range p a n = grind (arith, length-filter, count_by-le-length, length-range_with_len)
 
 pub length_frontier_below : (entries : List ℕ) (n m : ℕ) → length (frontier_below entries n m) ≤ m
 length_frontier_below entries n m = length-filter_range (λ k. is_entry_of_round n (slice_index entries k)) 0 m
 
 -- one more number from 0 on, which passes or not
 pub filter_below_yes : (p : ℕ → Bool) (n : ℕ) → p n ≡ true → filter p (range_with_len 0 (n + 1)) ≡ filter p (range_with_len 0 n) ++ n ∷ []
-filter_below_yes p n h =
-    let e : 0 + n ≡ n = omega arith in
-    filter_range_more p 0 n ∙ rw (e, h) refl
+filter_below_yes p n h = grind (arith, filter_range_more)
 
 pub filter_below_no : (p : ℕ → Bool) (n : ℕ) → p n ≡ false → filter p (range_with_len 0 (n + 1)) ≡ filter p (range_with_len 0 n)
 filter_below_no p n h =

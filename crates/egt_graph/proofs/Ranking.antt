@@ -79,13 +79,7 @@ final_ranks g r limit le none es long n e are = record {
 -- what holds within a number of plies, and not before it, does so at one number alone
 one_first : (within before : ℕ → Bool) → ((n m : ℕ) → n < m → within n ≡ true → before m ≡ true) → (n m : ℕ)
     → (within n ≡ true) × (before n ≡ false) → (within m ≡ true) × (before m ≡ false) → n ≡ m
-one_first within before later n m a b = elim (cases_order n m) [
-  | inl e ↦ e
-  | inr o ↦ elim o [
-    | inl lt ↦ absurd (both_ways _ b.1 (later n m lt a.0))
-    | inr gt ↦ absurd (both_ways _ a.1 (later m n gt b.0))
-  ]
-]
+one_first within before later n m a b = grind (arith, both_ways)
 
 pub one_value : (g : Graph) → IsGame g → (i : ℕ) → IsNode g i → (v w : Exit) → HasRank g i v → HasRank g i w → v ≡ w
 one_value g law i node (Win n) (Win m) a b = ap Win (one_first (λ k. mates_within g k i) (λ k. mates_before g k i) (mates_before_lt g i) n m a b)

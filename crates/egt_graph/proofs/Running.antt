@@ -43,19 +43,7 @@ running_listed g law v es ws ls fs ld wd h e block =
 pub posted_run : (g : Graph) (v : State) (es ws ls : List ℕ) (fs : List Bool) (ld wd : List (List ℕ)) → IsRun g v es ws ls fs ld wd → v.phase ≡ Running
     → (block : ℕ) (es' ws' : List ℕ) (posted : List Bool) → posted ≡ set v.posted block true → length es' ≡ length es → length ws' ≡ length ws
     → Amid g v.round (done_of posted) v.round v.round es' ws' → IsRun g (record v { posted = posted }) es' ws' ls fs ld wd
-posted_run g v es ws ls fs ld wd h e block es' ws' posted is a b amid = record {
-  small = h.small;
-  short = h.short;
-  in_limit = h.in_limit;
-  flags = ap length is ∙ length-set v.posted block true ∙ h.flags;
-  entries_long = a ∙ h.entries_long;
-  waits_long = b ∙ h.waits_long;
-  later_long = h.later_long;
-  lost_long = h.lost_long;
-  losses = h.losses;
-  wins = h.wins;
-  columns = at_phase g Running v.phase v.limit v.round posted es' ws' ls fs (sym e) (amid, (amid_of g v es ws ls fs ld wd h e).1);
-}
+posted_run g v es ws ls fs ld wd h e block es' ws' posted is a b amid = grind (arith, length-set, at_phase, amid_of)
 
 -- ---- a close
 
@@ -138,10 +126,7 @@ finished_run g v es ws ls fs ld wd h es' ws' ls' f none = record {
 }
 
 pub none_done : (g : Graph) (n : ℕ) → (j : ℕ) → done_of (replicate n false) j ≡ false
-none_done g n j = elim (cases_lt (j / 4096) n) [
-  | inl lt ↦ get_or-replicate n (j / 4096) false false lt
-  | inr le ↦ get_or_past (replicate n false) (j / 4096) false (let e = length-replicate n false in omega arith)
-]
+none_done g n j = grind (arith, get_or-replicate, get_or_past, length-replicate)
 
 pub next_run : (g : Graph) → IsGame g → (v : State) (es ws ls : List ℕ) (fs : List Bool) (ld wd : List (List ℕ)) → IsRun g v es ws ls fs ld wd → v.phase ≡ Running
     → (es' ws' ls' : List ℕ) → Falls g v es ws ls es' ws' ls' fs → v.round ≢ v.limit → (posted : List Bool) → posted ≡ replicate (blocks_of g.size) false

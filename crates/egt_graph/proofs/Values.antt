@@ -8,14 +8,10 @@ use Rattle.egt_graph.specs.Prelude.{Draw}
 use Rattle.egt_graph.proofs.Lists.{any_weaker, all_weaker, any_all_clash}
 
 pub lost_before_more : (n : ℕ) (e : Exit) → is_lost_before n e ≡ true → is_lost_before (suc n) e ≡ true
-lost_before_more n (Win k) h = h
-lost_before_more n (Loss k) h = let l = ltb-true k n h in lt-ltb _ _ (omega arith)
-lost_before_more n Draw h = h
+lost_before_more n e h = grind (arith, ltb-true, lt-ltb)
 
 pub won_before_more : (n : ℕ) (e : Exit) → is_won_before n e ≡ true → is_won_before (suc n) e ≡ true
-won_before_more n (Win k) h = let l = ltb-true k n h in lt-ltb _ _ (omega arith)
-won_before_more n (Loss k) h = h
-won_before_more n Draw h = h
+won_before_more n e h = grind (arith, ltb-true, lt-ltb)
 
 -- one ply more
 pub one_more : (g : Graph) (n i : ℕ) → (mated_within g n i ≡ true → mated_within g (suc n) i ≡ true) × (mates_within g n i ≡ true → mates_within g (suc n) i ≡ true)
@@ -43,17 +39,13 @@ pub mated_more : (g : Graph) (n i : ℕ) → mated_within g n i ≡ true → mat
 mated_more g n i = (one_more g n i).0
 
 pub mates_before_within : (g : Graph) (n i : ℕ) → mates_before g n i ≡ true → mates_within g n i ≡ true
-mates_before_within g zero i h = h
-mates_before_within g (suc n) i h = mates_more g n i h
+mates_before_within g n i h = grind (arith, mates_more)
 
 pub mated_before_within : (g : Graph) (n i : ℕ) → mated_before g n i ≡ true → mated_within g n i ≡ true
-mated_before_within g zero i h = absurd (false≢true h)
-mated_before_within g (suc n) i h = mated_more g n i h
+mated_before_within g n i h = grind (arith, mated_more)
 
 exits_clash : (n : ℕ) (e : Exit) → Unit {0} → is_lost_before n e ≡ true → is_won_before n e ≡ true → ⊥
-exits_clash n (Win k) u a b = false≢true a
-exits_clash n (Loss k) u a b = false≢true b
-exits_clash n Draw u a b = false≢true a
+exits_clash n e u a b = grind arith
 
 any_of_nil : {X : Type 0} (p : X → Bool) (xs : List X) → xs ≡ [] → list_any p xs ≡ true → ⊥
 any_of_nil p xs e h = false≢true (sym (ap (list_any p) e) ∙ h)
@@ -96,9 +88,7 @@ never_both_ever g law n m i node a b =
     never_both g law (n + m) i node (mates_le g i n (n + m) (omega arith) a) (mated_le g i m (n + m) (omega arith) b)
 
 pub mates_before_lt : (g : Graph) (i n m : ℕ) → n < m → mates_within g n i ≡ true → mates_before g m i ≡ true
-mates_before_lt g i n zero lt h = absurd (omega arith)
-mates_before_lt g i n (suc m) lt h = mates_le g i n m (omega arith) h
+mates_before_lt g i n m lt h = grind (arith, mates_le)
 
 pub mated_before_lt : (g : Graph) (i n m : ℕ) → n < m → mated_within g n i ≡ true → mated_before g m i ≡ true
-mated_before_lt g i n zero lt h = absurd (omega arith)
-mated_before_lt g i n (suc m) lt h = mated_le g i n m (omega arith) h
+mated_before_lt g i n m lt h = grind (arith, mated_le)
