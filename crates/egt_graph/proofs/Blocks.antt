@@ -25,12 +25,6 @@ use Rattle.egt_graph.proofs.Steps.{counted_at, counted_past, counted_le, counted
 later_of_no_round : (g : Graph) (r i : ℕ) (win loss : Bool) → entry_at g r i ≡ 1 → is_entry_of_round r (decided (entry_at g r i) win loss (r + 1)) ≡ false
 later_of_no_round g r i win loss e = ap (is_entry_of_round r) (decided_open (entry_at g r i) (r + 1) win loss (eq-eqb (entry_at g r i) 1 e)) ∙ cases win loss
   where
-    win_later : is_entry_of_round r (2 + 2 * (r + 1)) ≡ false
-    win_later = false_from_ne_true _ (λ t. let e = of_round_win (r + 1) r t in absurd (omega arith))
-
-    loss_later : is_entry_of_round r (3 + 2 * (r + 1)) ≡ false
-    loss_later = false_from_ne_true _ (λ t. let e = of_round_loss (r + 1) r t in absurd (omega arith))
-
     cases : (w l : Bool) → is_entry_of_round r (cond w (2 + 2 * (r + 1)) (cond l (3 + 2 * (r + 1)) 1)) ≡ false
     cases w l = grind (arith, draw_of_no_round)
 
