@@ -86,7 +86,7 @@ fn quiet_lanes(men: &ShelfMen, side: Side) -> SquareSet
 }
 
 /// The first of the codes with that side to move.
-fn first_code(first: u32, side: Side) -> u32
+pub fn first_code(first: u32, side: Side) -> u32
     requires { first + 1 < 4294967296 }
     ensures { result ≡ first + side_number side }
 {
@@ -96,10 +96,15 @@ fn first_code(first: u32, side: Side) -> u32
     }
 }
 
-/// The squares of the man where the column has scores at the codes from this one on, with that side to move, and where
-/// they are due to the greatest after quiet steps.
+/// The squares of the man where the column has scores at the codes from this one on, with that side to move, those where
+/// they are due to the greatest after quiet steps, and these.
 #[inline(always)]
-fn due_lanes(three: &ThreeMen, column: Column, first: u32, side: Side) -> (SquareSet, SquareSet)
+pub fn due_lanes(
+    three: &ThreeMen,
+    column: Column,
+    first: u32,
+    side: Side,
+) -> (SquareSet, SquareSet, Row)
     requires three { AreThreeMen three.now }
     requires there { HasColumn column three.now.table.now }
     requires row { IsLoneRow three.now.table.now.class first three.now.men.white three.now.men.black three.now.men.last }
@@ -114,10 +119,14 @@ fn due_lanes(three: &ThreeMen, column: Column, first: u32, side: Side) -> (Squar
     let own = source.lone_row(column, men.last, men.white, men.black, first, side);
     let mut scores = Row::splat(0);
     if !quiet_row(&source, column, men, side, &mut scores) {
-        return (lanes_of(own), SquareSet::EMPTY);
+        return (lanes_of(own), SquareSet::EMPTY, Row::splat(0));
     }
     let other = unlike(own, due_in(three.part, scores), Row::splat(1));
-    (lanes_of(own), lanes_of(scores).without(lanes_of(other)))
+    (
+        lanes_of(own),
+        lanes_of(scores).without(lanes_of(other)),
+        scores,
+    )
 }
 
 /// The squares of the man where the zeroing scores, judged with the mate scores, are due; all where they are not judged.
@@ -136,14 +145,14 @@ fn clock_lanes(three: &ThreeMen, first: u32, side: Side) -> SquareSet
 
 /// Whether the part's entries of the codes from this one on, with that side to move, are due to the greatest scores
 /// after quiet steps, or keep the rules judged alone: where a move may zero, and where none scores.
-pub(crate) fn lone_row_is_right(three: &ThreeMen, first: u32, side: Side) -> bool
+pub fn lone_row_is_right(three: &ThreeMen, first: u32, side: Side) -> bool
     requires three { AreThreeMen three.now }
     requires row { IsLoneRow three.now.table.now.class first three.now.men.white three.now.men.black three.now.men.last }
     ensures { result ≡ true → IsJudgedRow three.now first side }
 {
     entries_due_to_quiet_steps_are_right();
     let _size = size(three.table.class());
-    let (some, due) = due_lanes(three, column_of(three.part), first, side);
+    let (some, due, _scores) = due_lanes(three, column_of(three.part), first, side);
     let quiet = quiet_lanes(&three.men, side).common(clock_lanes(three, first, side));
     let rest = some.without(due.common(quiet));
     keep_alone(three, first_code(first, side), rest)

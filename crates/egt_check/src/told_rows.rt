@@ -39,7 +39,7 @@ fn near_entries(row: Row) -> Entries
 
 /// The entries of the column that have the scores.
 #[inline(always)]
-pub(crate) fn told_row(column: Column, row: Row) -> Entries
+pub fn told_row(column: Column, row: Row) -> Entries
     ensures { (s : ℕ) → s < 64 → slice_index result s ≡ told column (slice_index row s) }
 {
     match column {

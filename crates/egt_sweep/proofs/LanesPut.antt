@@ -22,11 +22,8 @@ same_there x y b n bit b_in differs is none = elim (cases_eq x y) [
 
 -- ---- bytes stay
 
-module _ (old new : TableValue) (At : ℕ → Type 0) (put : IsPutIn parts.Values At old new) (bytes : HasBytes (table_in parts.Values old)) (some : (i : ℕ) → At i → column_score old columns.Mate i ≢ 0)
+module _ (old new : TableValue) (At : ℕ → Type 0) (put : IsPutIn parts.Values At old new) (bytes : HasBytes (table_in parts.Values old)) (index_put : (i : ℕ) → i < size_of old.class → IsVoid old.class i → ¬ At i)
     (told : (i : ℕ) → At i → AreAlike (slice_index new.mate i) (slice_index new.zeroing i)) where
-  index_put : (i : ℕ) → i < size_of old.class → IsVoid old.class i → ¬ At i
-  index_put i i_in void at = some i at (ap (λ n. byte_score (n % 256)) (bytes.void Mate i i_in void))
-
   void_there : (metric : Metric) (i : ℕ) → i < size_of old.class → IsVoid old.class i → entry_at new metric i ≡ 0
   void_there Mate i i_in void = elim (put.same columns.Mate i) [ inl same ↦ same ∙ bytes.void Mate i i_in void | inr at ↦ absurd (index_put i i_in void at) ]
   void_there Zeroing i i_in void = elim (put.same columns.Zeroing i) [ inl same ↦ same ∙ bytes.void Zeroing i i_in void | inr at ↦ absurd (index_put i i_in void at) ]
@@ -40,7 +37,7 @@ module _ (old new : TableValue) (At : ℕ → Type 0) (put : IsPutIn parts.Value
     ]
   ]
 
-  values_bytes : HasBytes (table_in parts.Values new)
+  pub values_bytes : HasBytes (table_in parts.Values new)
   values_bytes = record {
     void = λ metric i i_in void. void_there metric i (subst (λ c. i < size_of c) put.class i_in) (subst (λ c. IsVoid c i) put.class void);
     alike = λ i i_in index. alike_there i (subst (λ c. i < size_of c) put.class i_in) (subst (λ c. ¬ IsVoid c i) put.class index);
@@ -54,18 +51,18 @@ near_known read entry is some low = record {
   low = omega (arith, is, low);
 }
 
-known_alike : (read : ℕ) → IsKnown read → AreAlike read read
+pub known_alike : (read : ℕ) → IsKnown read → AreAlike read read
 known_alike read known = record { mate_known = known; zeroing_known = known; parity = refl; drawn = (λ is. is, λ is. is) }
 
-module _ (old new : TableValue) (At : ℕ → Type 0) (put : IsPutIn parts.Reach At old new) (bytes : HasBytes (table_in parts.Reach old)) (some : (i : ℕ) → At i → column_score old columns.Reach i ≢ 0)
-    (told : (i : ℕ) → At i → (reach_at new i ≢ 0) × (reach_at new i < 128)) where
-  none_there : (i : ℕ) → i < size_of old.class → IsVoid old.class i → reach_at old i ≡ 0
-  none_there i i_in void = let read = near_at old i in let none = bytes.void Mate i i_in void in omega (arith, read, none)
+pub none_there : (t : TableValue) → HasBytes (table_in parts.Reach t) → (i : ℕ) → i < size_of t.class → IsVoid t.class i → reach_at t i ≡ 0
+none_there t bytes i i_in void = let read = near_at t i in let none = bytes.void Mate i i_in void in omega (arith, read, none)
 
+module _ (old new : TableValue) (At : ℕ → Type 0) (put : IsPutIn parts.Reach At old new) (bytes : HasBytes (table_in parts.Reach old)) (index_put : (i : ℕ) → i < size_of old.class → IsVoid old.class i → ¬ At i)
+    (told : (i : ℕ) → At i → (reach_at new i ≢ 0) × (reach_at new i < 128)) where
   near_void : (i : ℕ) → i < size_of old.class → IsVoid old.class i → entry_at (table_in parts.Reach new) Mate i ≡ 0
   near_void i i_in void = elim (put.same columns.Reach i) [
-    | inl same ↦ let read = near_at new i in let before = none_there i i_in void in omega (arith, read, same, before)
-    | inr at ↦ absurd (some i at (ap (λ n. reach_score (n % 256)) (none_there i i_in void)))
+    | inl same ↦ let read = near_at new i in let before = none_there old bytes i i_in void in omega (arith, read, same, before)
+    | inr at ↦ absurd (index_put i i_in void at)
   ]
 
   near_voids : (metric : Metric) (i : ℕ) → i < size_of old.class → IsVoid old.class i → entry_at (table_in parts.Reach new) metric i ≡ 0
@@ -78,7 +75,7 @@ module _ (old new : TableValue) (At : ℕ → Type 0) (put : IsPutIn parts.Reach
     | inl same ↦ subst IsKnown (sym (near_at new i ∙ ap (λ n. 2 * n - 1) same ∙ sym (near_at old i))) (bytes.alike i i_in index).mate_known
   ])
 
-  reach_bytes : HasBytes (table_in parts.Reach new)
+  pub reach_bytes : HasBytes (table_in parts.Reach new)
   reach_bytes = record {
     void = λ metric i i_in void. near_voids metric i (subst (λ c. i < size_of c) put.class i_in) (subst (λ c. IsVoid c i) put.class void);
     alike = λ i i_in index. near_alike i (subst (λ c. i < size_of c) put.class i_in) (subst (λ c. ¬ IsVoid c i) put.class index);
@@ -86,7 +83,7 @@ module _ (old new : TableValue) (At : ℕ → Type 0) (put : IsPutIn parts.Reach
 
 -- ---- lanes that are put
 
-mended_of : (part : Part) (At : ℕ → Type 0) (old new : TableValue) → IsPutIn part At old new → HasBytes (table_in part new) → IsMendedAt part At old new
+pub mended_of : (part : Part) (At : ℕ → Type 0) (old new : TableValue) → IsPutIn part At old new → HasBytes (table_in part new) → IsMendedAt part At old new
 mended_of part At old new put bytes = record { class = put.class; there = put.there; same = put.same; mate = put.mate; zeroing = put.zeroing; reach = put.reach; bytes = bytes }
 
 module _ (old new : TableValue) (shelf : Shelf) (lanes : SquareSet) (scores clocks : List ℕ) where
@@ -99,10 +96,10 @@ module _ (old new : TableValue) (shelf : Shelf) (lanes : SquareSet) (scores cloc
       → IsMendedAt part (IsLaneOf old.class shelf lanes) old new
   lanes_mended part false bytes put kept some told = subst (λ (u : TableValue). IsMendedAt part (IsLaneOf old.class shelf lanes) old u) (sym (kept refl)) (stays part (IsLaneOf old.class shelf lanes) old bytes)
   lanes_mended parts.Values true bytes put kept some told = mended_of parts.Values (IsLaneOf old.class shelf lanes) old new put (values_bytes old new (IsLaneOf old.class shelf lanes) put bytes
-      (λ i lane none. some refl lane.0 lane.1 lane.2 (ap (column_score old columns.Mate) (sym lane.3) ∙ none))
+      (λ i i_in void lane. some refl lane.0 lane.1 lane.2 (ap (column_score old columns.Mate) (sym lane.3) ∙ ap (λ n. byte_score (n % 256)) (bytes.void Mate i i_in void)))
       (λ i lane. subst (λ n. AreAlike (slice_index new.mate n) (slice_index new.zeroing n)) (sym lane.3) (told refl lane.0 lane.1 lane.2).2))
   lanes_mended parts.Reach true bytes put kept some told = mended_of parts.Reach (IsLaneOf old.class shelf lanes) old new put (reach_bytes old new (IsLaneOf old.class shelf lanes) put bytes
-      (λ i lane none. some refl lane.0 lane.1 lane.2 (ap (column_score old columns.Reach) (sym lane.3) ∙ none))
+      (λ i i_in void lane. some refl lane.0 lane.1 lane.2 (ap (column_score old columns.Reach) (sym lane.3) ∙ ap (λ n. reach_score (n % 256)) (none_there old bytes i i_in void)))
       (λ i lane. subst (λ n. (reach_at new n ≢ 0) × (reach_at new n < 128)) (sym lane.3) (let at = told refl lane.0 lane.1 lane.2 in (at.1, at.2))))
 
 pub put_told : (part : Part) (t : TableValue) (code score clock : ℕ) → IsToldAt part t code score clock → IsPutAt part t code score clock

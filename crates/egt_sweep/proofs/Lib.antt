@@ -1,5 +1,6 @@
 pub mod PutEntries
 pub mod LanesPut
+pub mod LonePut
 pub mod ShelfLanes
 pub mod ToldOnce
 pub mod KeptThrough

@@ -25,6 +25,7 @@ pub use Rattle.egt_check.proofs.LaneRight.{right_lane}
 pub use Rattle.egt_check.proofs.NearReading.{near_at}
 pub use Rattle.egt_check.proofs.PromotionTables.{children_there, four_there, tables_of_there}
 pub use Rattle.egt_check.proofs.RowJudged.{lane_is, left_at}
+pub use Rattle.egt_check.specs.Alone.{AreThreeMen, IsToldTable, MayJudge}
 pub use Rattle.egt_check.specs.Blank.{AreBlank}
 pub use Rattle.egt_check.specs.Found.{IsPutIn, IsToldAt, TellColumn, TellsEntry, table_told, told}
 pub use Rattle.egt_check.specs.Given.{AreAlike, IsKnown}
@@ -61,6 +62,7 @@ pub use Rattle.egt_sweep.specs.Filled.{IsDrawn, IsDrawnAt, IsReached, IsWithReac
 pub use Rattle.egt_sweep.specs.Forgotten.{AreFewer, AreForgotten}
 pub use Rattle.egt_sweep.specs.Items.{AreBlockScores, AreItemScores, AreSeen, IsItem, IsRightItem, IsSameItem}
 pub use Rattle.egt_sweep.specs.Items.{IsSeenItem, men_of, passed_shelves_of, shelves_of}
+pub use Rattle.egt_sweep.specs.Lone.{IsDueRow, IsLoneFilling, IsLonePiece}
 pub use Rattle.egt_sweep.specs.Mended.{AllEnded, AreEnded, AreRightRows, IsCodeIn, IsCodeOf, IsLaneOf, IsMended}
 pub use Rattle.egt_sweep.specs.Mended.{IsMendedAt, IsOfKings, IsPutAt, IsRightRow, IsRowSeen, IsShelf, no_squares}
 pub use Rattle.egt_sweep.specs.Mended.{score_in, shelf_at}
@@ -75,6 +77,7 @@ pub use Rattle.egt_sweep.specs.declared.items.Item.{Item}
 pub use Rattle.egt_sweep.specs.declared.kept.Kept.{Kept}
 pub use Rattle.egt_sweep.specs.declared.kept.Near.{Near}
 pub use Rattle.egt_sweep.specs.declared.kept.Scores.{Scores}
+pub use Rattle.egt_sweep.specs.declared.lone_mending.LoneFilling.{LoneFilling}
 pub use Rattle.egt_sweep.specs.declared.mending.Mended.{Mended}
 pub use Rattle.egt_check.specs.declared.shelf.Shelf.{Shelf}
 pub use Rattle.egt_sweep.specs.declared.rounds.Visited.{Visited}
@@ -89,6 +92,7 @@ pub use Rattle.egt_index.specs.Code.{Spells, men_at}
 pub use Rattle.egt_index.specs.Digits.{AreDigits}
 pub use Rattle.egt_index.specs.Home.{IsTurnWith, symmetries}
 pub use Rattle.egt_index.specs.Index.{IsIndex, IsVoid}
+pub use Rattle.egt_index.specs.LoneCodes.{IsLoneMan, IsLoneRow}
 unfoldable pub use Rattle.egt_index.specs.Numbers.{code_of, number_of}
 pub use Rattle.egt_index.specs.Scales.{kind_digits, kind_less}
 pub use Rattle.egt_index.specs.ShelfCodes.{AreMenOf, number_in, stand_with}

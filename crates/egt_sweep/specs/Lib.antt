@@ -7,6 +7,7 @@ pub mod Covered
 pub mod Stamps
 pub mod Begun
 pub mod Filled
+pub mod Lone
 pub mod Rounds
 pub mod UnderWay
 pub mod Forgotten

@@ -1,14 +1,14 @@
 //! Entries that are to be found, before any look: all positions are drawn in the part's columns, or dead.
 ghost use Rattle.std.specs.Prelude.{◌≡◌, ◌<◌, ℕ, None, length, IfErr, IfOk, IfSome};
-ghost use Rattle.egt_sweep.specs.FillPrelude.{size_of, IsTable, table_in, AreDrawnOrNone, HasNoVoidScore, IsDrawnIndex};
-ghost use Rattle.egt_sweep.specs.FillPrelude.{HasBytes, IsWithReach};
+ghost use Rattle.egt_sweep.specs.FillPrelude.{IsVoid, size_of, IsTable, table_in, AreDrawnOrNone, HasNoVoidScore, IsDrawnIndex};
+ghost use Rattle.egt_sweep.specs.FillPrelude.{HasBytes, IsDrawn, IsWithReach};
 ghost use Rattle.egt_check.specs.declared.part.Part.TheVariants as parts;
 
 use egt_check::found::Found;
 use egt_check::score_rows::ScoreRows;
 use egt_class::Class;
 use egt_graph::{Nears, Ranks};
-use egt_index::size;
+use egt_index::{position, size};
 use egt_table::Table;
 use std::alloc::{AllocError, Global};
 
@@ -18,6 +18,30 @@ fn column_of_none(alloc: Global, class: Class) -> Result<Vec<u16>, AllocError>
 {
     let _number = class.number();
     let entries = vec![in alloc; 0; size(class) as usize]?;
+    Ok(entries)
+}
+
+/// The entry of a draw, or of a dead position, at an index, and of none at a void code.
+fn drawn_entry(class: Class, code: u32) -> u16
+    ensures void { IsVoid class code → result ≡ 0 }
+    ensures index { ¬ IsVoid class code → result ≡ 1 }
+{
+    match position(class, code) {
+        Some(_) => 1,
+        None => 0,
+    }
+}
+
+/// A column of the class in which all positions are drawn, or dead.
+pub(crate) fn drawn_column(alloc: Global, class: Class) -> Result<Vec<u16>, AllocError>
+    ensures long { IfOk result (λ entries. length entries.items ≡ size_of class) }
+    ensures drawn { IfOk result (λ entries. IsDrawn class entries.items) }
+{
+    let _number = class.number();
+    let mut entries = column_of_none(alloc, class)?;
+    for code in 0..size(class) {
+        entries[code as usize] = drawn_entry(class, code);
+    }
     Ok(entries)
 }
 

@@ -178,7 +178,7 @@ fn solved(alloc: Global, class: Class, library: &Library, limit: u16) -> Result<
     }
 }
 
-/// The table that was filled by blocks, a true one, unless one of its mates takes more plies than the limit.
+/// The table that was filled, a true one, unless one of its mates takes more plies than the limit.
 fn kept(table: Table, class: Class, library: &Library, limit: u16) -> Result<Table, BuildFault>
     requires limit { limit ≤ 32000 }
     requires children { HasChildren (table_at library.now) class }
@@ -196,8 +196,8 @@ fn kept(table: Table, class: Class, library: &Library, limit: u16) -> Result<Tab
     within_limit(table, limit)
 }
 
-/// As `build`, where a class of two men beside the kings is filled within so many rounds of looks; where these are too
-/// few, it is solved as classes of fewer men are.
+/// As `build`, where a class of two men or a piece beside the kings is filled within so many rounds of looks; where these
+/// are too few, it is solved as the others are.
 ///
 /// # Errors
 ///
@@ -226,8 +226,8 @@ pub fn build_within(
 }
 
 /// The table of a class whose children have their tables in the library, each with the column of the nearest mates, with no mate distance above `limit`,
-/// which is at most 32,000. A class of two men beside the kings is filled
-/// by blocks, another by retrograde analysis (Thompson 1986). No check is run, and none is needed: every entry is true, and the library takes the table unless it has one of the class.
+/// which is at most 32,000. A class of two men beside the kings is filled by blocks, one of a piece by rows, another by retrograde analysis
+/// (Thompson 1986). No check is run, and none is needed: every entry is true, and the library takes the table unless it has one of the class.
 ///
 /// # Errors
 ///

@@ -1,4 +1,4 @@
-//! Tables filled by blocks, where no game is solved.
+//! Tables filled by blocks or by rows, where no game is solved.
 ghost use Rattle.std.specs.Prelude.{◌≡◌, IfOk, IfErr, IfSome, IsSome};
 ghost use Rattle.egt_sweep.specs.Prelude.{table_at, HasChildren, HasReachChildren, IsTrueTable};
 ghost use Rattle.egt_sweep.specs.declared.build_fault.BuildFault.TheVariants as faults;

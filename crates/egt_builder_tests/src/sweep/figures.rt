@@ -1,5 +1,6 @@
 //! Tables that are built, beside public figures and beside tables of sweeps forward.
 use super::{built, longest_win};
+use egt_check::Library;
 use egt_class::Class;
 use egt_index::size;
 use egt_plain::shelf::{file_of, named, whole_library_of};
@@ -113,16 +114,20 @@ fn a_pawn_against_a_pawn(rt: HostRuntime) -> Result<(), Fail> {
     Ok(())
 }
 
-// One round of looks is too few for two knights, who are then solved by moves backward.
+/// Whether the file of the class is the same where no round of looks is given, and it is solved by moves backward.
+fn is_solved(alloc: Global, library: &Library, name: &str) -> Result<bool, Fail> {
+    let class = named(name)?;
+    let filled = build(alloc, class, library, 32_000)?;
+    let solved = build_within(alloc, class, library, 32_000, 0)?;
+    Ok(file_of(alloc, &filled)?.as_slice() == file_of(alloc, &solved)?.as_slice())
+}
+
 #[test]
-fn blocks_and_moves_backward_tell_the_same(rt: HostRuntime) -> Result<(), Fail> {
+fn looks_and_moves_backward_tell_the_same(rt: HostRuntime) -> Result<(), Fail> {
     let library = built(rt.alloc(), &["KK", "KNK"])?;
-    let class = named("KNNK")?;
-    let by_blocks = build(rt.alloc(), class, &library, 32_000)?;
-    let solved = build_within(rt.alloc(), class, &library, 32_000, 1)?;
-    assert!(rt;
-        file_of(rt.alloc(), &by_blocks)?.as_slice() == file_of(rt.alloc(), &solved)?.as_slice()
-    );
+    for name in ["KBK", "KRK", "KQK", "KNNK"] {
+        assert!(rt; is_solved(rt.alloc(), &library, name)?, "{name}");
+    }
     Ok(())
 }
 
