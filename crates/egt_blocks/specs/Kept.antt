@@ -1,5 +1,5 @@
 -- Blocks that are kept: what the men are worth with the kings on two squares.
-use Rattle.std.specs.Prelude.{◌≡◌, ℕ, ◌+◌, ◌-◌, ◌*◌, ◌/◌, ◌%◌, ◌<◌, min, List, [], length, Option, Some, None, false, IfSome, slice_index_or}
+use Rattle.std.specs.Prelude.{◌≡◌, ℕ, ◌+◌, ◌*◌, ◌/◌, ◌%◌, ◌<◌, min, List, [], length, Option, Some, None, false, IfSome, slice_index_or}
 use Rattle.egt_board.specs.declared.man.Side.{Side}
 use Rattle.egt_index.specs.declared.shelf_codes.ShelfMen.{ShelfMen}
 use Rattle.egt_lanes.specs.Blocks.{at}
@@ -27,17 +27,17 @@ second_place Mate = 0
 second_place Zeroing = 1
 second_place Reach = 0
 
--- the place of a column's block of these kings, among so many places: 640 for each rank of the white king, whose file is one of the first five
+-- the place of a column's block of these kings, among so many places; the white king's file is one of the first five
 abbrev pub wide_place : Column → (white black places : ℕ) → ℕ
-wide_place column white black places = (2 * (64 * (5 * min (white / 8) (places / 640 - 1) + min (white % 8) 4) + black) + second_place column) % places
+wide_place column white black places = (2 * (64 * (5 * (white / 8) + min (white % 8) 4) + black) + second_place column) % places
 
 -- the key, if it is one, stands at its place
 abbrev pub IsPlaced : (places : ℕ) → Option BlockKey → ℕ → Type 0
 IsPlaced places key i = IfSome key (λ k. (k.white < 64) × (k.black < 64) × (i ≡ wide_place k.column k.white k.black places))
 
--- so does each block of these, of which there are as many as keys; where there are places for all pairs of kings, each key stands at its own
+-- so does each block of these, of which there are as many as keys, and each key stands at its place
 pub record AreKept (c : ℕ) (worth : Column → ℕ → ℕ) (men : ShelfMen) (side : Side) (keys : List (Option BlockKey)) (blocks : List (List (List ℕ))) : Type 0 where
   pub some : 0 < length keys
   pub as_many : length blocks ≡ length keys
   pub each : (i : ℕ) → i < length keys → IsKept c worth men side (slice_index_or keys i None) (slice_index_or blocks i [])
-  pub placed : 12 < length keys → (i : ℕ) → i < length keys → IsPlaced (length keys) (slice_index_or keys i None) i
+  pub placed : (i : ℕ) → i < length keys → IsPlaced (length keys) (slice_index_or keys i None) i

@@ -6,7 +6,6 @@ ghost use Rattle.egt_blocks.specs.Prelude.{Side, AreMenOf, IsSomeTurnedCode, She
 ghost use Rattle.egt_blocks.specs.Prelude.{AreKept, IsOfMen, IsPlaced, key_of, wide_place, IsRead, ScoresNoVoids};
 
 use crate::blocks::{Reading, read_block};
-use crate::men::king_of_men;
 use crate::scored::ShelfScores;
 use egt_board::{Side, Square, SquareSet};
 use egt_index::ShelfMen;
@@ -22,12 +21,13 @@ pub struct BlockKey {
     pub black: Square,
 }
 
-/// How many places there are for the blocks that neighbours read.
-pub const NEAR_PLACES: usize = 12;
+/// How many places there are for the blocks that neighbours read: squares beside one square are within 19 numbers that
+/// follow one another, and each has a place in either column that is judged at the same time.
+pub const NEAR_PLACES: usize = 38;
 
 /// No block's key: nothing is kept in any place before it is read.
 pub fn no_keys() -> [Option<BlockKey>; NEAR_PLACES]
-    ensures { (c : ℕ) (worth : Column → ℕ → ℕ) (men : ShelfMen) (side : Side) (blocks : List (List (List ℕ))) → length blocks ≡ 12 → AreKept c worth men side result blocks }
+    ensures { (c : ℕ) (worth : Column → ℕ → ℕ) (men : ShelfMen) (side : Side) (blocks : List (List (List ℕ))) → length blocks ≡ 38 → AreKept c worth men side result blocks }
 {
     [None; NEAR_PLACES]
 }
@@ -42,23 +42,11 @@ fn is_of(key: Option<BlockKey>, column: Column, men: &ShelfMen) -> bool
     }
 }
 
-/// The place among the nearest by the square of the king who moves: squares of two files and three ranks side by side have
-/// different places, and so have the columns that are judged at the same time.
-fn near_place(column: Column, king: Square) -> usize
-    ensures { result < 12 }
-{
-    let first = match column {
-        Column::Zeroing => 6,
-        Column::Mate | Column::Reach => 0,
-    };
-    first + usize::from(king.number() % 2 * 3 + king.number() / 8 % 3)
-}
-
 /// How many places there are for a white king on the first five files of a rank: two for each square of either.
 pub const RANK_PLACES: usize = 640;
 
-/// The place among as many as there are pairs of kings, the white one on the first five files of so many ranks; one who
-/// stands farther away has the places of the nearest of these squares.
+/// The place among so many of the block of a pair of kings, the white one on the first five files; one who stands farther
+/// away has the places of the nearest of these squares. Pairs whose numbers are far apart may have the same.
 pub fn wide_place(column: Column, white: Square, black: Square, places: usize) -> usize
     requires { 0 < places }
     ensures is { result ≡ wide_place column white black places }
@@ -69,24 +57,10 @@ pub fn wide_place(column: Column, white: Square, black: Square, places: usize) -
         Column::Zeroing => 1,
         Column::Mate | Column::Reach => 0,
     };
-    let last_rank = (places / RANK_PLACES).saturating_sub(1);
-    let rank = usize::from(white.number() / 8).min(last_rank);
+    let rank = usize::from(white.number() / 8);
     let file = usize::from(white.number() % 8).min(4);
     let kings = 64 * (5 * rank + file) + usize::from(black.number());
     (2 * kings + second) % places
-}
-
-/// The place of a block among so many, by its column and its kings.
-fn place_of(column: Column, men: &ShelfMen, side: Side, places: usize) -> usize
-    requires { 0 < places }
-    ensures within { result < places }
-    ensures wide { 12 < places → IsPlaced places (key_of column men.now) result }
-{
-    if places <= NEAR_PLACES {
-        near_place(column, king_of_men(men, side.other())) % places
-    } else {
-        wide_place(column, men.white, men.black, places)
-    }
 }
 
 /// The scores of the positions with these men where that side is to move. False where the source does not tell.
@@ -126,7 +100,7 @@ fn keep<S: ShelfScores>(
     requires voids { ScoresNoVoids (S.number source.now) (S.worth source.now column) }
     requires men { AreMenOf (S.number source.now) men.now }
     requires place { place < length keys.old }
-    requires wide { 12 < length keys.old → IsPlaced (length keys.old) (key_of column men.now) place }
+    requires placed { IsPlaced (length keys.old) (key_of column men.now) place }
     requires kept { AreKept (S.number source.now) (S.worth source.now) men.now side keys.old blocks.old }
     ensures kept { AreKept (S.number source.now) (S.worth source.now) men.now side keys.new blocks.new }
     ensures read { result ≡ true → (a b : ℕ) → a < 64 → b < 64 → IsRead (S.number source.now) (S.worth source.now column) false (stand_on men.now a b) side (at (slice_index_or blocks.new place []) a b) }
@@ -164,7 +138,7 @@ pub fn raise_kept<S: ShelfScores>(
     ensures kept { AreKept (S.number source.now) (S.worth source.now) men.now side keys.new blocks.new }
     ensures raised { result ≡ true → (a b : ℕ) → a < 64 → b < 64 → IsRaised (at out.old a b) (λ code. IsSomeTurnedCode (S.number source.now) code false (stand_on men.now a b) side) (S.worth source.now column) (at out.new a b) }
 {
-    let place = place_of(column, men, side, keys.len());
+    let place = wide_place(column, men.white, men.black, keys.len());
     if !keep(source, column, men, side, place, keys, blocks) {
         return false;
     }

@@ -49,7 +49,7 @@ module _ (c white black : ℕ) (side s : Side) (old new : List (Option BlockKey)
   ]
 
   pub forgotten : AreForgotten c white black side s old new
-  forgotten = record { fewer = fewer; apart = λ wide placed i i_in. left_apart i (slice_index_or new i None) refl (placed i i_in) }
+  forgotten = record { fewer = fewer; apart = λ placed i i_in. left_apart i (slice_index_or new i None) refl (placed i i_in) }
 
 -- of positions with the same side to move
 pub same_forgotten : (c white black : ℕ) (side : Side) (old new : List (Option BlockKey)) → AreFewer old new → AreGone c false white black (length old) new → AreForgotten c white black side side old new
@@ -82,7 +82,7 @@ kept_after : (part : Part) (c white black : ℕ) (side s : Side) (old new : Tabl
     → AreForgotten c white black side s keys after → length after ≡ length keys → 12 < length keys → AreKept c (column_score old) men s keys blocks → AreKept c (column_score new) men s after blocks
 kept_after part c white black side s old new men keys after blocks class mended gone long wide kept =
     subst (λ d. AreKept d (column_score new) men s after blocks) class
-    (all_kept part white black side old new mended men s after blocks (λ i i_in. subst (λ d. IfSome (slice_index_or after i None) (λ k. ¬ TurnsTo d k.white k.black s white black side)) (sym class) (gone.apart wide (kept.placed wide) i (omega (arith, i_in, long))))
+    (all_kept part white black side old new mended men s after blocks (λ i i_in. subst (λ d. IfSome (slice_index_or after i None) (λ k. ¬ TurnsTo d k.white k.black s white black side)) (sym class) (gone.apart kept.placed i (omega (arith, i_in, long))))
     (subst (λ d. AreKept d (column_score old) men s after blocks) (sym class) fewer_kept))
   where
     -- a place whose key is gone holds whatever it holds
@@ -94,7 +94,7 @@ kept_after part c white black side s old new men keys after blocks class mended 
 
     key_placed : (i : ℕ) → i < length keys → IsPlaced (length keys) (slice_index_or after i None) i
     key_placed i i_in = elim (gone.fewer i) [
-      | inl same ↦ subst (λ (key : Option BlockKey). IsPlaced (length keys) key i) (sym same) (kept.placed wide i i_in)
+      | inl same ↦ subst (λ (key : Option BlockKey). IsPlaced (length keys) key i) (sym same) (kept.placed i i_in)
       | inr none ↦ subst (λ (key : Option BlockKey). IsPlaced (length keys) key i) (sym none) tt
     ]
 
@@ -103,7 +103,7 @@ kept_after part c white black side s old new men keys after blocks class mended 
       some = omega (arith, wide, long);
       as_many = kept.as_many ∙ sym long;
       each = λ i i_in. key_kept i (omega (arith, i_in, long));
-      placed = λ _ i i_in. subst (λ n. IsPlaced n (slice_index_or after i None) i) (sym long) (key_placed i (omega (arith, i_in, long)));
+      placed = λ i i_in. subst (λ n. IsPlaced n (slice_index_or after i None) i) (sym long) (key_placed i (omega (arith, i_in, long)));
     }
 
 pub near_after : (f : Filling) (white black : ℕ) (side s : Side) (old new : TableValue) (near : Near) (after : List (Option BlockKey)) → old.class ≡ f.class → IsMended f.part white black side old new

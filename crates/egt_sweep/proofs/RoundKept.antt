@@ -60,7 +60,7 @@ none_kept f t side near wide as_many none = record {
     some = omega (arith, wide);
     as_many = as_many;
     each = λ i below. subst (λ key. IsKept f.class (column_score t) f.men side key (slice_index_or near.blocks.items i [])) (sym (none i below)) tt;
-    placed = λ _ i below. subst (λ key. IsPlaced (length near.keys.items) key i) (sym (none i below)) tt;
+    placed = λ i below. subst (λ key. IsPlaced (length near.keys.items) key i) (sym (none i below)) tt;
   };
   wide = wide;
 }

@@ -12,5 +12,5 @@ AreFewer old new = (i : ℕ) → (slice_index_or new i None ≡ slice_index_or o
 -- gone are those of the kings, side s to move, whom a turn takes to these squares and that side, where each key stood at its place
 pub record AreForgotten (c white black : ℕ) (side s : Side) (old new : List (Option BlockKey)) : Type 0 where
   pub fewer : AreFewer old new
-  pub apart : 12 < length old → ((i : ℕ) → i < length old → IsPlaced (length old) (slice_index_or old i None) i) →
+  pub apart : ((i : ℕ) → i < length old → IsPlaced (length old) (slice_index_or old i None) i) →
       (i : ℕ) → i < length old → IfSome (slice_index_or new i None) (λ k. ¬ TurnsTo c k.white k.black s white black side)

@@ -26,4 +26,4 @@ returns-clause-kept g c =
     kept_anew number worth c.args.men.now c.args.side keys after blocks raised place c.requires.kept (length-set none place key ∙ length-set keys place None) (length-set blocks place c.read_all.new.out)
     (λ i other. get_or-set_other none place i key None other ∙ get_or-set_other keys place i None None other) (λ i other. get_or-set_other blocks place i c.read_all.new.out [] other)
     (subst (λ (k : Option BlockKey). IsKept number worth c.args.men.now c.args.side k (slice_index_or raised place [])) (sym at) (subst (IsKept number worth c.args.men.now c.args.side key) (sym block) (c.read_all.ensures c.if-not-read_all.false)))
-    (λ wide. subst (λ (k : Option BlockKey). IsPlaced (length keys) k place) (sym at) (c.requires.wide wide))
+    (subst (λ (k : Option BlockKey). IsPlaced (length keys) k place) (sym at) c.requires.placed)
