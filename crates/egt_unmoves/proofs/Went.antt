@@ -125,16 +125,6 @@ module _ (q : Setup) (man : Man) (to from : ℕ) (may : MayComeFrom q man to fro
   no_promotion : IsAdmissible q → FitsPromotion (promotes man to) None
   no_promotion ok = by_kind man.kind (ok.pawns to man may.stands)
     where
-      by_rank : (side : Side) → (0 < rank_of to) × (rank_of to < 7) → FitsPromotion (rank_of to == last_rank side) None
-      by_rank White inside = elim (eqb_tells (rank_of to) 7) [
-        | inl h ↦ let high = inside.1 in let e = h.1 in absurd (omega arith)
-        | inr h ↦ subst (λ b. FitsPromotion b None) (sym h.0) tt
-      ]
-      by_rank Black inside = elim (eqb_tells (rank_of to) 0) [
-        | inl h ↦ let low = inside.0 in let e = h.1 in absurd (omega arith)
-        | inr h ↦ subst (λ b. FitsPromotion b None) (sym h.0) tt
-      ]
-
       by_kind : (kind : Kind) → (kind ≡ P → (0 < rank_of to) × (rank_of to < 7)) → FitsPromotion (is_pawn kind && (rank_of to == last_rank man.side)) None
       by_kind kind inside = grind arith
 
