@@ -1,4 +1,5 @@
-//! What is fast against plain forms that walk the board. All codes of classes of two and three men are asked, and of the others every so many.
+//! What is fast against plain forms that walk the board. All codes of classes of two and three men are asked, and of
+//! the others every so many.
 mod codes;
 mod damaged;
 mod games;
@@ -23,8 +24,8 @@ use samples::{Held, agree};
 use solved::solved_agrees;
 use std::io;
 
-/// The steps between the codes of a class of four men. They are odd, so that either side moves, with a target and without, and primes, so
-/// that no digit keeps to few values.
+/// The steps between the codes of a class of four men. They are odd, so that either side moves, with a target and
+/// without, and primes, so that no digit keeps to few values.
 const ENTRIES: u32 = 31;
 
 const WALKS: u32 = 997;
@@ -34,7 +35,8 @@ fn step_of(class: Class, step: u32) -> u32 {
     if class.number() < 6 { 1 } else { step }
 }
 
-/// At how many codes everything agrees: entries, moves, moves backwards and games. Else what differs, and the first code where.
+/// At how many codes everything agrees: entries, moves, moves backwards and games. Else what differs, and the first
+/// code where.
 fn compare(
     rt: &HostRuntime,
     class: Class,
@@ -92,7 +94,8 @@ fn print_solved(rt: &HostRuntime, class: Class, library: &Library) -> io::Result
     }
 }
 
-/// Has the checker judge tables of the class with entries changed, and prints a line; whether it names what the plain rules do.
+/// Has the checker judge tables of the class with entries changed, and prints a line; whether it names what the plain
+/// rules do.
 fn print_damaged(rt: &HostRuntime, class: Class, library: &Library) -> io::Result<bool> {
     let damaged = damaged_agrees(rt.alloc(), class, library);
     let class = name(class);

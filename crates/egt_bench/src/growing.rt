@@ -1,4 +1,5 @@
-//! The calls in which a growth of memory may be refused, each with what it is made on. What a call answers is told by a number.
+//! The calls in which a growth of memory may be refused, each with what it is made on. What a call answers is told by a
+//! number.
 use egt_check::{Library, check};
 use egt_class::Class;
 use egt_fen::{Fen, write};

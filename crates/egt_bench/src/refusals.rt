@@ -1,4 +1,5 @@
-//! A call made where a growth of memory may be refused, and made again: `scripts/refusals` refuses the growths one by one.
+//! A call made where a growth of memory may be refused, and made again: `scripts/refusals` refuses the growths one by
+//! one.
 use crate::growing::{
     Answer, Answered, Build, Expand, Growing, Line, Migrate, Nearest, NewLibrary, NewRounds, Read,
     Solve, Write,
@@ -24,7 +25,8 @@ KQK draw hold b2c2\nKQK white mates in 0 plies zeroing 0 line -\nKQK draw hold -
 /// A position of KQK that White wins.
 const LONG: &[u8] = b"8/8/8/3k4/8/8/8/KQ6 w - - 0 1";
 
-/// How far a run goes: to before the call, to behind it, or to behind the second call, when it prints what both answered.
+/// How far a run goes: to before the call, to behind it, or to behind the second call, when it prints what both
+/// answered.
 #[derive(Clone, Copy, PartialEq, Eq)]
 pub enum Stage {
     Before,
@@ -200,8 +202,8 @@ fn run_over_reach(
     }
 }
 
-/// Makes the call of that name as far as the stage says: behind `build` stands the class that is built beside those that it rests on, behind
-/// the others the class whose table or game they want.
+/// Makes the call of that name as far as the stage says: behind `build` stands the class that is built beside those
+/// that it rests on, behind the others the class whose table or game they want.
 pub fn refuse(rt: &HostRuntime, call: &str, class: &str, stage: Stage) -> io::Result<()> {
     let Some(class) = by_name(class) else {
         return println!(rt; "no class");

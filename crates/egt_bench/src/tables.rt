@@ -1,5 +1,5 @@
-//! One class a run: how long its table is built and checked, beside those that it rests on, which are read from the files of a
-//! folder, and how much memory was in use at most.
+//! One class a run: how long its table is built and checked, beside those that it rests on, which are read from the
+//! files of a folder, and how much memory was in use at most.
 use egt_check::{Library, check};
 use egt_class::{Class, by_name, name};
 use egt_commands::loading::load_below;

@@ -1,4 +1,5 @@
-//! The scores of the positions after the last man beside the kings, a pawn, advances or is promoted where he takes the first.
+//! The scores of the positions after the last man beside the kings, a pawn, advances or is promoted where he takes the
+//! first.
 ghost use Rattle.std.specs.Prelude.{◌≡◌, ◌↔◌, ◌<◌, ◌==◌, ℕ, true, false, if◌then◌else◌, IfSome};
 ghost use Rattle.egt_blocks.specs.Prelude.{Advances, last_rank, rank_of, Has, turned_man, IsLoneMan, AreMenOf};
 ghost use Rattle.egt_blocks.specs.Prelude.{AdvancesBy, at, IsRaised, FitsPromotion, IsOfficer, arriving, AreLeapCodes};
@@ -97,7 +98,8 @@ fn read_after<S: ShelfScores>(
 /// Raises each row to the scores where the last man, a pawn of that side, advances to one of these squares.
 fn raise_advances(men: &ShelfMen, arrivals: SquareSet, side: Side, scores: &Block, out: &mut Block)
     ensures { (a b : ℕ) → a < 64 → b < 64 →
-        IsRaised (at out.old a b) (λ t. Advances (IsClear men.now a) side b t × Has arrivals t) (λ t. at scores.now a t) (at out.new a b) }
+        IsRaised (at out.old a b) (λ t. Advances (IsClear men.now a) side b t × Has arrivals t)
+        (λ t. at scores.now a t) (at out.new a b) }
 {
     let open = past_kings(men);
     for a in 0..64u8 {
@@ -107,8 +109,8 @@ fn raise_advances(men: &ShelfMen, arrivals: SquareSet, side: Side, scores: &Bloc
     }
 }
 
-/// The scores of the positions after the last man, a pawn of the same side, advanced to the last rank and was promoted to
-/// this man. False where the source does not tell.
+/// The scores of the positions after the last man, a pawn of the same side, advanced to the last rank and was promoted
+/// to this man. False where the source does not tell.
 pub fn promotion_block<S: ShelfScores>(
     source: &S,
     column: Column,
@@ -120,7 +122,8 @@ pub fn promotion_block<S: ShelfScores>(
 ) -> bool
     requires there { S.has source.now column }
     requires voids { ScoresNoVoids (S.number source.now) (S.worth source.now column) }
-    requires men { AreMenOf (S.number source.now) (men_after before flips men.now (arriving men.now.last (Some man.kind))) }
+    requires men { AreMenOf (S.number source.now)
+        (men_after before flips men.now (arriving men.now.last (Some man.kind))) }
     requires officer { IsOfficer man.kind }
     ensures { result ≡ true → (a b : ℕ) → a < 64 → b < 64 →
         IsRaised 0 (AreAdvancedCodes (S.number source.now) before flips men.now man.side (Some man.kind) a b) (S.worth source.now column) (at out.new a b) }
@@ -168,7 +171,8 @@ fn squares_where(beside: bool, square: Square) -> SquareSet
 /// Raises each row to the scores where the last man, a pawn of that side, advances by one square to one of these.
 fn raise_steps(men: &ShelfMen, arrivals: SquareSet, side: Side, scores: &Block, out: &mut Block)
     ensures { (a b : ℕ) → a < 64 → b < 64 →
-        IsRaised (at out.old a b) (λ t. AdvancesBy 1 (IsClear men.now a) side b t × Has arrivals t) (λ t. at scores.now a t) (at out.new a b) }
+        IsRaised (at out.old a b) (λ t. AdvancesBy 1 (IsClear men.now a) side b t × Has arrivals t)
+        (λ t. at scores.now a t) (at out.new a b) }
 {
     let open = past_kings(men);
     for a in 0..64u8 {
@@ -178,10 +182,12 @@ fn raise_steps(men: &ShelfMen, arrivals: SquareSet, side: Side, scores: &Block, 
     }
 }
 
-/// Raises each row to the scores where the last man, a pawn of that side, advances by two squares to beside the first man, or to elsewhere.
+/// Raises each row to the scores where the last man, a pawn of that side, advances by two squares to beside the first
+/// man, or to elsewhere.
 fn raise_leaps(men: &ShelfMen, beside: bool, side: Side, scores: &Block, out: &mut Block)
     ensures { (a b : ℕ) → a < 64 → b < 64 →
-        IsRaised (at out.old a b) (λ t. AdvancesBy 2 (IsClear men.now a) side b t × IsBesideWhere beside a t) (λ t. at scores.now a t) (at out.new a b) }
+        IsRaised (at out.old a b) (λ t. AdvancesBy 2 (IsClear men.now a) side b t × IsBesideWhere beside a t)
+        (λ t. at scores.now a t) (at out.new a b) }
 {
     let open = past_kings(men);
     for a in 0..64u8 {
@@ -193,8 +199,8 @@ fn raise_leaps(men: &ShelfMen, beside: bool, side: Side, scores: &Block, out: &m
     }
 }
 
-/// The scores of the positions after the last man, a pawn of that side, advanced and left no target: `still` are those of the men on their squares, the
-/// other side to move. The contract alone reads the source.
+/// The scores of the positions after the last man, a pawn of that side, advanced and left no target: `still` are those
+/// of the men on their squares, the other side to move. The contract alone reads the source.
 pub fn step_block<S: ShelfScores>(
     source: &S,
     column: Column,
@@ -205,7 +211,9 @@ pub fn step_block<S: ShelfScores>(
     out: &mut Block,
 )
     requires { AreStill (S.number source.now) (S.worth source.now column) first men.now side still.now }
-    ensures { (a b : ℕ) → a < 64 → b < 64 → IsRaised 0 (AreStepCodes (S.number source.now) first men.now side a b) (S.worth source.now column) (at out.new a b) }
+    ensures { (a b : ℕ) → a < 64 → b < 64 →
+        IsRaised 0 (AreStepCodes (S.number source.now) first men.now side a b) (S.worth source.now column)
+        (at out.new a b) }
 {
     *out = nothing();
     if !is_pawn_of(men.last, side) {
@@ -230,7 +238,8 @@ fn leap_squares(side: Side) -> SquareSet
     }
 }
 
-/// The scores of the positions after the last man, a pawn of that side, advanced and left a target. False where the source does not tell.
+/// The scores of the positions after the last man, a pawn of that side, advanced and left a target. False where the
+/// source does not tell.
 pub fn leap_block<S: ShelfScores>(
     source: &S,
     column: Column,
@@ -242,7 +251,9 @@ pub fn leap_block<S: ShelfScores>(
     requires there { S.has source.now column }
     requires voids { ScoresNoVoids (S.number source.now) (S.worth source.now column) }
     requires men { AreMenOf (S.number source.now) (men_after first false men.now men.now.last) }
-    ensures { result ≡ true → (a b : ℕ) → a < 64 → b < 64 → IsRaised 0 (AreLeapCodes (S.number source.now) first men.now side a b) (S.worth source.now column) (at out.new a b) }
+    ensures { result ≡ true → (a b : ℕ) → a < 64 → b < 64 →
+        IsRaised 0 (AreLeapCodes (S.number source.now) first men.now side a b) (S.worth source.now column)
+        (at out.new a b) }
 {
     *out = nothing();
     if !is_pawn_of(men.last, side) || !is_pawn_of(men.one, side.other()) {

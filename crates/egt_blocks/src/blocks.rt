@@ -1,6 +1,6 @@
-//! The scores of the positions of a class with two men beside the kings, whose kings stand on two squares: a row for each square of the
-//! first man, a lane for each of the last. Each code has some turn of these men; codes that are not least score nothing.
-//! So the codes after a turn are not read where the kings tell that all of them are void.
+//! The scores of the positions of a class with two men beside the kings, whose kings stand on two squares: a row for
+//! each square of the first man, a lane for each of the last. Each code has some turn of these men; codes that are not
+//! least score nothing. So the codes after a turn are not read where the kings tell that all of them are void.
 ghost use Rattle.std.specs.Prelude.{◌≡◌, ◌%◌, ◌<◌, ◌+◌, ℕ, Bool, false, true, if◌then◌else◌, max, not, IfSome};
 ghost use Rattle.std.specs.Prelude.{slice_index};
 ghost use Rattle.egt_blocks.specs.Prelude.{Has, Side, has_equal_sides, material_of, symmetries, IsVoid, AreMenOf};
@@ -34,7 +34,8 @@ pub struct Reading {
     pub side: Side,
 }
 
-/// The first shelf of the men, with a target where one was passed: there is one for each digit of the first man, in their order. `None` where there are none.
+/// The first shelf of the men, with a target where one was passed: there is one for each digit of the first man, in
+/// their order. `None` where there are none.
 fn shelves_of(class: Class, men: &ShelfMen, passed: bool) -> Option<u32>
     requires men { AreMenOf class men.now }
     ensures shelves { IfSome result (AreShelvesOf passed class men.now) }
@@ -97,7 +98,8 @@ fn row_after<S: ShelfScores>(
 /// Whether the kings tell that the codes after the turn are void, wherever the men beside them stand.
 fn are_void_after(class: Class, men: &ShelfMen, turn: u8) -> bool
     requires { turn < 16 }
-    ensures { result ≡ true → (passed : Bool) (code a b : ℕ) (side : Side) → a < 64 → b < 64 → IsTurnedCodeWith passed class turn code (stand_on men.now a b) side → IsVoid class code }
+    ensures { result ≡ true → (passed : Bool) (code a b : ℕ) (side : Side) → a < 64 → b < 64 →
+        IsTurnedCodeWith passed class turn code (stand_on men.now a b) side → IsVoid class code }
 {
     let _numbers = (men.white.number(), men.black.number());
     is_void_after(class, men.white, men.black, turn)
@@ -117,7 +119,8 @@ fn turned_block<S: ShelfScores>(
     requires men { AreMenOf (S.number source.now) men.now }
     requires turn { turn < 16 }
     requires keeps { turn % 8 < symmetries (has_pawns (material_of (S.number source.now))) }
-    ensures { result ≡ true → (a b : ℕ) → a < 64 → b < 64 → Has rows a → IsRaisedAfter reading.now.passed (S.number source.now)
+    ensures { result ≡ true → (a b : ℕ) → a < 64 → b < 64 → Has rows a →
+        IsRaisedAfter reading.now.passed (S.number source.now)
         (S.worth source.now reading.now.column) turn (stand_on men.now a b) reading.now.side 0 (at out.new a b) }
 {
     let class = source.class();
@@ -150,7 +153,8 @@ fn home_block<S: ShelfScores>(
     requires there { S.has source.now reading.now.column }
     requires voids { ScoresNoVoids (S.number source.now) (S.worth source.now reading.now.column) }
     requires men { AreMenOf (S.number source.now) men.now }
-    ensures { result ≡ true → (a b : ℕ) → a < 64 → b < 64 → Has rows a → IsRaisedHome reading.now.passed (S.number source.now)
+    ensures { result ≡ true → (a b : ℕ) → a < 64 → b < 64 → Has rows a →
+        IsRaisedHome reading.now.passed (S.number source.now)
         (S.worth source.now reading.now.column) reading.now.flips (stand_on men.now a b) reading.now.side 0 (at out.new a b) }
 {
     let (first, second) = home(has_pawns(source.class()), reading.flips, men.white);
@@ -187,7 +191,8 @@ fn rows_read(equal: bool, rows: SquareSet) -> SquareSet
 
 /// Raises the scores to those in the other order of the men, where these are equal.
 fn raise_order(equal: bool, out: &mut Block)
-    ensures { (a b : ℕ) → a < 64 → b < 64 → at out.new a b ≡ (if equal then max (at out.old a b) (at out.old b a) else at out.old a b) }
+    ensures { (a b : ℕ) → a < 64 → b < 64 →
+        at out.new a b ≡ (if equal then max (at out.old a b) (at out.old b a) else at out.old a b) }
 {
     if equal {
         let copy = *out;
@@ -242,7 +247,8 @@ pub fn read_block<S: ShelfScores>(
     requires there { S.has source.now reading.now.column }
     requires voids { ScoresNoVoids (S.number source.now) (S.worth source.now reading.now.column) }
     requires men { AreMenOf (S.number source.now) men.now }
-    ensures { result ≡ true → (a b : ℕ) → a < 64 → b < 64 → Has rows a → IsReadWith reading.now.passed (S.number source.now)
+    ensures { result ≡ true → (a b : ℕ) → a < 64 → b < 64 → Has rows a →
+        IsReadWith reading.now.passed (S.number source.now)
         (S.worth source.now reading.now.column) reading.now.flips (stand_on men.now a b) reading.now.side (at out.new a b) }
 {
     let equal = are_equal(men);

@@ -1,6 +1,6 @@
 //! Blocks that were read before. Kings who stand near each other step to the same squares, so pairs of kings that are
-//! judged one after the other read most blocks once. Whoever has a place for each pair of kings reads a block again only
-//! where it was forgotten.
+//! judged one after the other read most blocks once. Whoever has a place for each pair of kings reads a block again
+//! only where it was forgotten.
 ghost use Rattle.std.specs.Prelude.{◌≡◌, ◌<◌, ℕ, List, [], length, false, true, slice_index_or};
 ghost use Rattle.egt_blocks.specs.Prelude.{Side, AreMenOf, IsSomeTurnedCode, ShelfMen, at, IsRaised, Column, stand_on};
 ghost use Rattle.egt_blocks.specs.Prelude.{AreKept, IsOfMen, IsPlaced, key_of, wide_place, IsRead, ScoresNoVoids};
@@ -27,7 +27,8 @@ pub const NEAR_PLACES: usize = 38;
 
 /// No block's key: nothing is kept in any place before it is read.
 pub fn no_keys() -> [Option<BlockKey>; NEAR_PLACES]
-    ensures { (c : ℕ) (worth : Column → ℕ → ℕ) (men : ShelfMen) (side : Side) (blocks : List (List (List ℕ))) → length blocks ≡ 38 → AreKept c worth men side result blocks }
+    ensures { (c : ℕ) (worth : Column → ℕ → ℕ) (men : ShelfMen) (side : Side) (blocks : List (List (List ℕ))) →
+        length blocks ≡ 38 → AreKept c worth men side result blocks }
 {
     [None; NEAR_PLACES]
 }
@@ -45,8 +46,8 @@ fn is_of(key: Option<BlockKey>, column: Column, men: &ShelfMen) -> bool
 /// How many places there are for a white king on the first five files of a rank: two for each square of either.
 pub const RANK_PLACES: usize = 640;
 
-/// The place among so many of the block of a pair of kings, the white one on the first five files; one who stands farther
-/// away has the places of the nearest of these squares. Pairs whose numbers are far apart may have the same.
+/// The place among so many of the block of a pair of kings, the white one on the first five files; one who stands
+/// farther away has the places of the nearest of these squares. Pairs whose numbers are far apart may have the same.
 pub fn wide_place(column: Column, white: Square, black: Square, places: usize) -> usize
     requires { 0 < places }
     ensures is { result ≡ wide_place column white black places }
@@ -75,7 +76,8 @@ fn read_all<S: ShelfScores>(
     requires there { S.has source.now column }
     requires voids { ScoresNoVoids (S.number source.now) (S.worth source.now column) }
     requires men { AreMenOf (S.number source.now) men.now }
-    ensures { result ≡ true → (a b : ℕ) → a < 64 → b < 64 → IsRead (S.number source.now) (S.worth source.now column) false (stand_on men.now a b) side (at out.new a b) }
+    ensures { result ≡ true → (a b : ℕ) → a < 64 → b < 64 →
+        IsRead (S.number source.now) (S.worth source.now column) false (stand_on men.now a b) side (at out.new a b) }
 {
     let reading = Reading {
         column,
@@ -103,7 +105,9 @@ fn keep<S: ShelfScores>(
     requires placed { IsPlaced (length keys.old) (key_of column men.now) place }
     requires kept { AreKept (S.number source.now) (S.worth source.now) men.now side keys.old blocks.old }
     ensures kept { AreKept (S.number source.now) (S.worth source.now) men.now side keys.new blocks.new }
-    ensures read { result ≡ true → (a b : ℕ) → a < 64 → b < 64 → IsRead (S.number source.now) (S.worth source.now column) false (stand_on men.now a b) side (at (slice_index_or blocks.new place []) a b) }
+    ensures read { result ≡ true → (a b : ℕ) → a < 64 → b < 64 →
+        IsRead (S.number source.now) (S.worth source.now column) false (stand_on men.now a b) side
+        (at (slice_index_or blocks.new place []) a b) }
 {
     if is_of(keys[place], column, men) {
         return true;
@@ -120,8 +124,8 @@ fn keep<S: ShelfScores>(
     true
 }
 
-/// Raises the block to the scores of the positions with these men where that side is to move. False where the source does
-/// not tell.
+/// Raises the block to the scores of the positions with these men where that side is to move. False where the source
+/// does not tell.
 pub fn raise_kept<S: ShelfScores>(
     source: &S,
     column: Column,
@@ -136,7 +140,9 @@ pub fn raise_kept<S: ShelfScores>(
     requires men { AreMenOf (S.number source.now) men.now }
     requires kept { AreKept (S.number source.now) (S.worth source.now) men.now side keys.old blocks.old }
     ensures kept { AreKept (S.number source.now) (S.worth source.now) men.now side keys.new blocks.new }
-    ensures raised { result ≡ true → (a b : ℕ) → a < 64 → b < 64 → IsRaised (at out.old a b) (λ code. IsSomeTurnedCode (S.number source.now) code false (stand_on men.now a b) side) (S.worth source.now column) (at out.new a b) }
+    ensures raised { result ≡ true → (a b : ℕ) → a < 64 → b < 64 → IsRaised (at out.old a b)
+        (λ code. IsSomeTurnedCode (S.number source.now) code false (stand_on men.now a b) side)
+        (S.worth source.now column) (at out.new a b) }
 {
     let place = wide_place(column, men.white, men.black, keys.len());
     if !keep(source, column, men, side, place, keys, blocks) {

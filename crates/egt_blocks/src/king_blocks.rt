@@ -24,7 +24,8 @@ pub fn beside_king(men: &ShelfMen, side: Side) -> SquareSet
     reach_past(king, king_of_men(men, side), SquareSet::EMPTY)
 }
 
-/// The scores of the positions after each step of that side's king, the other side to move. False where the source does not tell.
+/// The scores of the positions after each step of that side's king, the other side to move. False where the source does
+/// not tell.
 pub fn king_block<S: ShelfScores>(
     source: &S,
     column: Column,

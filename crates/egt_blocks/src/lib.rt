@@ -1,6 +1,7 @@
-//! The greatest scores of all moves of a side in a class with two men beside the kings, the kings standing on two squares: kings' steps, pieces' moves,
-//! pawns' advances and leaps, captures, promotions and captures in passing. What codes are worth is any function, told by rows: the checker's is that of a
-//! table's entries, the builder's that of the entries found so far.
+//! The greatest scores of all moves of a side in a class with two men beside the kings, the kings standing on two
+//! squares: kings' steps, pieces' moves, pawns' advances and leaps, captures, promotions and captures in passing. What
+//! codes are worth is any function, told by rows: the checker's is that of a table's entries, the builder's that of the
+//! entries found so far.
 #![tactic(auto)]
 
 pub mod advance_blocks;

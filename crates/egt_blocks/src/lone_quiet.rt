@@ -17,7 +17,7 @@ use egt_lanes::shift::last_man_raised;
 use egt_table::Column;
 use std::simd::prelude::*;
 
-/// Those after each step of that side's king, the other side to move. False where the source does not tell.
+/// The scores after each step of that side's king, the other side to move. False where the source does not tell.
 fn king_row<S: LoneScores>(
     source: &S,
     column: Column,
@@ -27,7 +27,9 @@ fn king_row<S: LoneScores>(
 ) -> bool
     requires there { S.has source.now column }
     requires man { IsLoneMan (S.number source.now) men.now.last }
-    ensures { result ≡ true → (s : ℕ) → s < 64 → IsRaised 0 (AreKingCodesAlone (S.number source.now) men.now side (IsBesideKing men.now side) s) (S.worth source.now column) (slice_index out.new s) }
+    ensures { result ≡ true → (s : ℕ) → s < 64 →
+        IsRaised 0 (AreKingCodesAlone (S.number source.now) men.now side (IsBesideKing men.now side) s)
+        (S.worth source.now column) (slice_index out.new s) }
 {
     *out = Row::splat(0);
     let mut scores = Row::splat(0);
@@ -47,7 +49,7 @@ fn king_row<S: LoneScores>(
     true
 }
 
-/// Those after each quiet step of that side, the other side to move. False where the source does not tell.
+/// The scores after each quiet step of that side, the other side to move. False where the source does not tell.
 pub fn quiet_row<S: LoneScores>(
     source: &S,
     column: Column,
@@ -58,7 +60,9 @@ pub fn quiet_row<S: LoneScores>(
     requires there { S.has source.now column }
     requires man { IsLoneMan (S.number source.now) men.now.last }
     requires last { men.now.last.kind ≢ K }
-    ensures { result ≡ true → (s : ℕ) → s < 64 → IsRaised 0 (AreCodesAlone (S.number source.now) men.now side s) (S.worth source.now column) (slice_index out.new s) }
+    ensures { result ≡ true → (s : ℕ) → s < 64 →
+        IsRaised 0 (AreCodesAlone (S.number source.now) men.now side s) (S.worth source.now column)
+        (slice_index out.new s) }
 {
     if !king_row(source, column, men, side, out) {
         return false;

@@ -35,7 +35,9 @@ fn raise_lone<S: LoneScores>(
     requires there { S.has source.now column }
     requires man { IsLoneMan (S.number source.now) men.now.man }
     requires turn { turn < 16 }
-    ensures { result ≡ true → (s : ℕ) → s < 64 → IsRaisedAfter false (S.number source.now) (S.worth source.now column) turn (lone_stand men.now.white men.now.black men.now.man s) side (slice_index out.old s) (slice_index out.new s) }
+    ensures { result ≡ true → (s : ℕ) → s < 64 →
+        IsRaisedAfter false (S.number source.now) (S.worth source.now column) turn
+        (lone_stand men.now.white men.now.black men.now.man s) side (slice_index out.old s) (slice_index out.new s) }
 {
     let white = turned_square(turn, men.white);
     let black = turned_square(turn, men.black);
@@ -47,8 +49,8 @@ fn raise_lone<S: LoneScores>(
     true
 }
 
-/// The scores of the positions with these men, in colours exchanged where `flips`, by the square of the one beside the kings. False where the source does
-/// not tell.
+/// The scores of the positions with these men, in colours exchanged where `flips`, by the square of the one beside the
+/// kings. False where the source does not tell.
 pub fn read_lone<S: LoneScores>(
     source: &S,
     column: Column,
@@ -59,7 +61,9 @@ pub fn read_lone<S: LoneScores>(
 ) -> bool
     requires there { S.has source.now column }
     requires man { IsLoneMan (S.number source.now) men.now.man }
-    ensures { result ≡ true → (s : ℕ) → s < 64 → IsRead (S.number source.now) (S.worth source.now column) flips (lone_stand men.now.white men.now.black men.now.man s) side (slice_index out.new s) }
+    ensures { result ≡ true → (s : ℕ) → s < 64 →
+        IsRead (S.number source.now) (S.worth source.now column) flips
+        (lone_stand men.now.white men.now.black men.now.man s) side (slice_index out.new s) }
 {
     let _number = source.class().number();
     *out = Row::splat(0);

@@ -48,8 +48,8 @@ fn take_passed(side: Side, arrived: &Block, out: &mut Block)
     }
 }
 
-/// The scores of the positions after the last man, a pawn of that side, took the first in passing, who is a pawn of the other side and has just advanced by
-/// two squares. False where the source does not tell.
+/// The scores of the positions after the last man, a pawn of that side, took the first in passing, who is a pawn of the
+/// other side and has just advanced by two squares. False where the source does not tell.
 pub fn passing_block<S: LoneScores>(
     source: &S,
     column: Column,
@@ -60,7 +60,9 @@ pub fn passing_block<S: LoneScores>(
 ) -> bool
     requires there { S.has source.now column }
     requires lone { IsLoneMan (S.number source.now) (turned_man flips men.now.last) }
-    ensures { result ≡ true → (a b : ℕ) → a < 64 → b < 64 → IsRaised 0 (ArePassingCodes (S.number source.now) flips men.now side a b) (S.worth source.now column) (at out.new a b) }
+    ensures { result ≡ true → (a b : ℕ) → a < 64 → b < 64 →
+        IsRaised 0 (ArePassingCodes (S.number source.now) flips men.now side a b) (S.worth source.now column)
+        (at out.new a b) }
 {
     codes_tell_turned_men();
     let _number = source.class().number();

@@ -1,4 +1,5 @@
-//! The scores of the positions after each quiet step of a side, of its king or of a piece, in classes with two men beside the kings.
+//! The scores of the positions after each quiet step of a side, of its king or of a piece, in classes with two men
+//! beside the kings.
 ghost use Rattle.std.specs.Prelude.{◌≡◌, ◌≢◌, ◌↔◌, ◌<◌, ℕ, false, true};
 ghost use Rattle.egt_blocks.specs.Prelude.{bit_at, Reaches, other_side, Has, K, AreMenOf, at, IsPiece, IsRaised};
 ghost use Rattle.egt_blocks.specs.Prelude.{AreKept, AreQuietCodes, IsClear, IsFirstStep, IsLastStep, ScoresNoVoids};
@@ -27,7 +28,8 @@ fn clear_of(men: &ShelfMen, other: Square) -> SquareSet
 /// Raises the scores to those where a first man who is a piece of that side goes quietly.
 fn raise_first(men: &ShelfMen, side: Side, scores: &Block, out: &mut Block)
     requires { men.now.one.kind ≢ K }
-    ensures { (a b : ℕ) → a < 64 → b < 64 → IsRaised (at out.old a b) (IsFirstStep men.now side a b) (λ t. at scores.now t b) (at out.new a b) }
+    ensures { (a b : ℕ) → a < 64 → b < 64 →
+        IsRaised (at out.old a b) (IsFirstStep men.now side a b) (λ t. at scores.now t b) (at out.new a b) }
 {
     if is_own_piece(men.one, side) {
         raise_rows(out, scores, men.one, kings_of(men));
@@ -37,7 +39,9 @@ fn raise_first(men: &ShelfMen, side: Side, scores: &Block, out: &mut Block)
 /// Raises each row to the scores where the last man goes quietly.
 fn raise_lanes(men: &ShelfMen, scores: &Block, out: &mut Block)
     requires { IsPiece men.now.last.kind }
-    ensures { (a b : ℕ) → a < 64 → b < 64 → IsRaised (at out.old a b) (λ t. Reaches (IsClear men.now a) men.now.last b t) (λ t. at scores.now a t) (at out.new a b) }
+    ensures { (a b : ℕ) → a < 64 → b < 64 →
+        IsRaised (at out.old a b) (λ t. Reaches (IsClear men.now a) men.now.last b t) (λ t. at scores.now a t)
+        (at out.new a b) }
 {
     for a in 0..64u8 {
         let row = a as usize;
@@ -49,14 +53,16 @@ fn raise_lanes(men: &ShelfMen, scores: &Block, out: &mut Block)
 /// Raises the scores to those where a last man who is a piece of that side goes quietly.
 fn raise_last(men: &ShelfMen, side: Side, scores: &Block, out: &mut Block)
     requires { men.now.last.kind ≢ K }
-    ensures { (a b : ℕ) → a < 64 → b < 64 → IsRaised (at out.old a b) (IsLastStep men.now side a b) (λ t. at scores.now a t) (at out.new a b) }
+    ensures { (a b : ℕ) → a < 64 → b < 64 →
+        IsRaised (at out.old a b) (IsLastStep men.now side a b) (λ t. at scores.now a t) (at out.new a b) }
 {
     if is_own_piece(men.last, side) {
         raise_lanes(men, scores, out);
     }
 }
 
-/// The scores of the positions after each quiet step of that side, the other side to move. False where the source does not tell.
+/// The scores of the positions after each quiet step of that side, the other side to move. False where the source does
+/// not tell.
 pub fn quiet_block<S: ShelfScores>(
     source: &S,
     column: Column,

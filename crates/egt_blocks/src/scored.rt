@@ -22,13 +22,15 @@ pub trait ShelfScores {
         ensures is { result ≡ number self.now }
         ensures known { number self.now < 36 };
 
-    /// What the codes that tell these men are worth in the column, by the last man's square, and with a target where one was passed. The men are those of
-    /// the shelf.
+    /// What the codes that tell these men are worth in the column, by the last man's square, and with a target where
+    /// one was passed. The men are those of the shelf.
     fn shelf_row(&self, column: Column, men: &ShelfMen, shelf: u32, side: Side, passed: bool) -> Row
         requires there { has self.now column }
         requires shelf { IsShelfOf passed (number self.now) shelf men.now }
         requires within { IsWithin (number self.now) shelf }
-        ensures { (s : ℕ) → s < 64 → IsRaised 0 (λ code. TellsMen passed (number self.now) code (stand_with men.now s) side) (worth self.now column) (slice_index result s) };
+        ensures { (s : ℕ) → s < 64 → IsRaised 0
+            (λ code. TellsMen passed (number self.now) code (stand_with men.now s) side) (worth self.now column)
+            (slice_index result s) };
 }
 
 /// The scores of a class with one man beside the kings.
@@ -44,8 +46,8 @@ pub trait LoneScores {
         ensures is { result ≡ number self.now }
         ensures known { number self.now < 36 };
 
-    /// What the codes that tell these men are worth in the column, by the square of the one beside the kings. The first of the codes is that of his first
-    /// digit with White to move.
+    /// What the codes that tell these men are worth in the column, by the square of the one beside the kings. The first
+    /// of the codes is that of his first digit with White to move.
     fn lone_row(
         &self,
         column: Column,
@@ -57,5 +59,7 @@ pub trait LoneScores {
     ) -> Row
         requires there { has self.now column }
         requires lone { IsLoneRow (number self.now) first white black man }
-        ensures { (s : ℕ) → s < 64 → IsRaised 0 (λ code. TellsMen false (number self.now) code (lone_stand white black man s) side) (worth self.now column) (slice_index result s) };
+        ensures { (s : ℕ) → s < 64 → IsRaised 0
+            (λ code. TellsMen false (number self.now) code (lone_stand white black man s) side)
+            (worth self.now column) (slice_index result s) };
 }

@@ -20,7 +20,8 @@ use egt_lanes::{Block, Row};
 use egt_table::Column;
 use std::simd::prelude::*;
 
-/// The scores of the positions with the first man alone beside the kings, the other side to move, by his square. False where the source does not tell.
+/// The scores of the positions with the first man alone beside the kings, the other side to move, by his square. False
+/// where the source does not tell.
 pub fn read_left<S: LoneScores>(
     source: &S,
     column: Column,
@@ -31,7 +32,9 @@ pub fn read_left<S: LoneScores>(
 ) -> bool
     requires there { S.has source.now column }
     requires lone { IsLoneMan (S.number source.now) (turned_man flips men.now.one) }
-    ensures { result ≡ true → (s : ℕ) → s < 64 → IsRead (S.number source.now) (S.worth source.now column) flips (stand_left flips (left_of men.now men.now.one s)) (other_side side) (slice_index out.new s) }
+    ensures { result ≡ true → (s : ℕ) → s < 64 →
+        IsRead (S.number source.now) (S.worth source.now column) flips
+        (stand_left flips (left_of men.now men.now.one s)) (other_side side) (slice_index out.new s) }
 {
     let there = LoneMen {
         white: if flips { men.black } else { men.white },
@@ -41,8 +44,8 @@ pub fn read_left<S: LoneScores>(
     read_lone(source, column, &there, flips, side.other(), out)
 }
 
-/// The scores where that side's king takes the last man: a row for each square on which it does, a lane for each of the first man's. False where the source
-/// does not tell.
+/// The scores where that side's king takes the last man: a row for each square on which it does, a lane for each of the
+/// first man's. False where the source does not tell.
 fn read_king_takes<S: LoneScores>(
     source: &S,
     column: Column,
@@ -72,7 +75,8 @@ fn read_king_takes<S: LoneScores>(
 /// Raises the scores to those where the first man takes: from the square of the row, on that of the lane.
 pub fn raise_takes(men: &ShelfMen, scores: &Row, out: &mut Block)
     ensures { (a b : ℕ) → a < 64 → b < 64 →
-        IsRaised (at out.old a b) (λ t. (t ≡ b) × Reaches (IsPastKings men.now) men.now.one a t) (λ t. slice_index scores.now t) (at out.new a b) }
+        IsRaised (at out.old a b) (λ t. (t ≡ b) × Reaches (IsPastKings men.now) men.now.one a t)
+        (λ t. slice_index scores.now t) (at out.new a b) }
 {
     let kings = kings_of(men);
     for a in 0..64u8 {
@@ -82,7 +86,8 @@ pub fn raise_takes(men: &ShelfMen, scores: &Row, out: &mut Block)
     }
 }
 
-/// The scores of the positions after that side took the last man, by the king or by the first man. False where the source does not tell.
+/// The scores of the positions after that side took the last man, by the king or by the first man. False where the
+/// source does not tell.
 pub fn taken_block<S: LoneScores>(
     source: &S,
     column: Column,
@@ -93,7 +98,9 @@ pub fn taken_block<S: LoneScores>(
 ) -> bool
     requires there { S.has source.now column }
     requires lone { IsLoneMan (S.number source.now) (turned_man flips men.now.one) }
-    ensures { result ≡ true → (a b : ℕ) → a < 64 → b < 64 → IsRaised 0 (AreLeftCodes (S.number source.now) flips men.now side a b) (S.worth source.now column) (at out.new a b) }
+    ensures { result ≡ true → (a b : ℕ) → a < 64 → b < 64 →
+        IsRaised 0 (AreLeftCodes (S.number source.now) flips men.now side a b) (S.worth source.now column)
+        (at out.new a b) }
 {
     *out = nothing();
     if !is_of(men.last, side.other()) {

@@ -34,9 +34,12 @@ pub fn images_are_turns()
 
 /// Each turn makes one setup of a position, with each man, the side and the target where the turn takes them.
 pub fn turns_make_one()
-    ensures made { (n : ℕ) (flipped : Bool) (p q : Setup) → IsAdmissible p → IsTurnedBy n flipped p q ↔ (q ≡ turned_by n flipped p) }
-    ensures one { (n : ℕ) (flipped : Bool) (p q r : Setup) → IsTurnedBy n flipped p q → IsTurnedBy n flipped p r → q ≡ r }
-    ensures set { (n : ℕ) (flipped : Bool) (p q : Setup) → IsAdmissible p → IsTurnedBy n flipped p q ↔ IsSetBy n flipped p q }
+    ensures made { (n : ℕ) (flipped : Bool) (p q : Setup) → IsAdmissible p →
+        IsTurnedBy n flipped p q ↔ (q ≡ turned_by n flipped p) }
+    ensures one { (n : ℕ) (flipped : Bool) (p q r : Setup) → IsTurnedBy n flipped p q → IsTurnedBy n flipped p r →
+        q ≡ r }
+    ensures set { (n : ℕ) (flipped : Bool) (p q : Setup) → IsAdmissible p →
+        IsTurnedBy n flipped p q ↔ IsSetBy n flipped p q }
 {}
 
 /// A turn takes up to four mirrors, each from position to position.
@@ -59,5 +62,6 @@ pub fn positions_settle_once()
 pub fn images_settle_alike()
     ensures turns { (n : ℕ) (flipped : Bool) (p p' q q' : Setup) → IsAdmissible p → KeepsPlay n p.men →
         IsTurnedBy n flipped p p' → SettlesTo p q → SettlesTo p' q' → IsTurnedBy n flipped q q' }
-    ensures images { (p p' q q' : Setup) → IsAdmissible p → AreImages p p' → SettlesTo p q → SettlesTo p' q' → AreImages q q' }
+    ensures images { (p p' q q' : Setup) → IsAdmissible p → AreImages p p' → SettlesTo p q → SettlesTo p' q' →
+        AreImages q q' }
 {}

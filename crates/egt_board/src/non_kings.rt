@@ -26,8 +26,8 @@ fn entry(slot: &Slot) -> Option<(Man, Square)>
     }
 }
 
-/// The first of these slots without a king, and the last where both others have one. All is asked first, so that no jump hangs on
-/// where the kings stand.
+/// The first of these slots without a king, and the last where both others have one. All is asked first, so that no
+/// jump hangs on where the kings stand.
 #[inline(always)]
 fn without_king<'a>(one: &'a Slot, two: &'a Slot, three: &'a Slot) -> &'a Slot
     ensures { result.now ≡ without_king one.now two.now three.now }

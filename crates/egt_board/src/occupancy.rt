@@ -5,7 +5,8 @@ ghost use Rattle.egt_board.specs.Prelude.{IsOccupancy, IsOccupied, Setup, IsAdmi
 use crate::position::Position;
 use crate::square_set::SquareSet;
 
-/// The squares of the men of the side to move, and of those of the side that waits: found once for a position, they serve each man.
+/// The squares of the men of the side to move, and of those of the side that waits: found once for a position, they
+/// serve each man.
 #[derive(Clone, Copy)]
 pub struct Occupancy {
     pub own: SquareSet,

@@ -41,8 +41,8 @@ fn stops(slot: &Slot, side: Side, to: Square, occupied: SquareSet) -> SquareSet
 }
 
 impl Board {
-    /// The squares that men of that side attack once the man on `lifted`, if there is one, is taken off: none of theirs. All men stand on
-    /// the squares of `all`.
+    /// The squares that men of that side attack once the man on `lifted`, if there is one, is taken off: none of
+    /// theirs. All men stand on the squares of `all`.
     pub fn danger_without(&self, side: Side, lifted: Square, all: SquareSet) -> SquareSet
         requires lifted { (man : Man) → Stands self.now lifted man → man.side ≢ side }
         requires all { IsOccupied self.now all }
@@ -56,11 +56,12 @@ impl Board {
         first.union(second).union(third.union(fourth))
     }
 
-    /// The squares to which a man of the other side may come so that no man of that side attacks `to`, where these squares are
-    /// occupied.
+    /// The squares to which a man of the other side may come so that no man of that side attacks `to`, where these
+    /// squares are occupied.
     fn shelter_among(&self, to: Square, side: Side, occupied: SquareSet) -> SquareSet
         ensures { (men : Placement) → IsSeenAs self.now side occupied.bits men →
-            (t : ℕ) (newcomer : Man) → t < 64 → newcomer.side ≢ side → Has result t ↔ IsKeptFrom men t newcomer to side }
+            (t : ℕ) (newcomer : Man) → t < 64 → newcomer.side ≢ side →
+            Has result t ↔ IsKeptFrom men t newcomer to side }
     {
         let first = stops(&self.first, side, to, occupied);
         let second = stops(&self.second, side, to, occupied);
@@ -71,7 +72,8 @@ impl Board {
 
     /// The squares to which a man of the other side may come so that no man of that side attacks `to`.
     pub fn shelter(&self, to: Square, side: Side) -> SquareSet
-        ensures { (t : ℕ) (newcomer : Man) → t < 64 → newcomer.side ≢ side → Has result t ↔ IsKeptFrom self.now t newcomer to side }
+        ensures { (t : ℕ) (newcomer : Man) → t < 64 → newcomer.side ≢ side →
+            Has result t ↔ IsKeptFrom self.now t newcomer to side }
     {
         let occupied = self.occupied();
         self.shelter_among(to, side, occupied)
@@ -88,7 +90,8 @@ impl Board {
     ) -> SquareSet
         requires lifted { (man : Man) → Stands self.now lifted man → man.side ≢ side }
         requires all { IsOccupied self.now all }
-        ensures { (t : ℕ) (newcomer : Man) → t < 64 → newcomer.side ≢ side → Has result t ↔ IsKeptFrom (map.remove self.now lifted) t newcomer to side }
+        ensures { (t : ℕ) (newcomer : Man) → t < 64 → newcomer.side ≢ side →
+            Has result t ↔ IsKeptFrom (map.remove self.now lifted) t newcomer to side }
     {
         self.shelter_among(to, side, all.less(lifted))
     }
@@ -101,8 +104,8 @@ pub fn attacks_pass_over_no_occupant()
         → IsAttacked (map.insert men t occupant) t side ↔ IsAttacked men t side }
 {}
 
-/// A king attacks another's square exactly where that one attacks his: kings are next to each other or not. This function does nothing: a
-/// caller calls it to know what it ensures.
+/// A king attacks another's square exactly where that one attacks his: kings are next to each other or not. This
+/// function does nothing: a caller calls it to know what it ensures.
 #[tactic(auto, using(crate::proofs::TouchingKings::reached_back))]
 pub fn kings_attack_each_other()
     ensures { (men others : Placement) (side other : Side) (s t : ℕ) → s < 64

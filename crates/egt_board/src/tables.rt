@@ -19,8 +19,8 @@ macro_rules! on_all_ranks {
     };
 }
 
-/// What a man attacks, at 64 times its row and its square. The rows are of queens, rooks, bishops, knights, white pawns,
-/// black pawns and kings.
+/// What a man attacks, at 64 times its row and its square. The rows are of queens, rooks, bishops, knights, white
+/// pawns, black pawns and kings.
 pub(crate) static LONE: [u64; 448] = on_all_ranks![
     [
         0x81412111090503fe03050911214181_u128,

@@ -19,8 +19,8 @@ pub extern "C" fn egtb_class(text: &[u8]) -> u8
     255
 }
 
-/// Writes the numbers of the classes that captures and promotions lead to from the class of that number, ascending, and answers how many
-/// they are: none where no class has the number.
+/// Writes the numbers of the classes that captures and promotions lead to from the class of that number, ascending, and
+/// answers how many they are: none where no class has the number.
 #[unsafe(no_mangle)]
 pub extern "C" fn egtb_children(class_number: u8, into: &mut [u8; 9]) -> u8
     ensures children { class_number < 36 → take result into.new ≡ children_of class_number }

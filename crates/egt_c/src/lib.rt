@@ -1,6 +1,6 @@
-//! The calls that C makes: `egtb.h` beside this folder declares them. Each is a thin form of a call of a crate below, over numbers, slices
-//! and structs of them, with its clauses. None aborts, and one that answers a fault leaves the library, and what it was to write, as
-//! they were.
+//! The calls that C makes: `egtb.h` beside this folder declares them. Each is a thin form of a call of a crate below,
+//! over numbers, slices and structs of them, with its clauses. None aborts, and one that answers a fault leaves the
+//! library, and what it was to write, as they were.
 #![tactic(auto)]
 
 pub mod class_calls;

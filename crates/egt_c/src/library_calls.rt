@@ -109,7 +109,8 @@ pub extern "C" fn egtb_add(
     class_number: u8,
     bytes: &[u8],
 ) -> EgtbFault
-    ensures adds { IfSome (held library.old) (λ before. IfSome (held library.new) (λ after. Adds class_number bytes.now result before after)) }
+    ensures adds { IfSome (held library.old)
+        (λ before. IfSome (held library.new) (λ after. Adds class_number bytes.now result before after)) }
     ensures open { IfSome (held library.old) (λ before. IfNone (held library.new) ⊥) }
     ensures closed { IfNone (held library.old) ((result ≡ closed) × (held library.new ≡ None)) }
 {
@@ -135,10 +136,12 @@ fn level_in(library: &Library, class_number: u8) -> u8
     }
 }
 
-/// 0 where the class is not loaded, 1 where it is, and 2 where its table has the column of the nearest mates. A closed library has none.
+/// 0 where the class is not loaded, 1 where it is, and 2 where its table has the column of the nearest mates. A closed
+/// library has none.
 #[unsafe(no_mangle)]
 pub extern "C" fn egtb_loaded(library: &mut EgtbLibrary, class_number: u8) -> u8
-    ensures level { class_number < 36 → IfSome (held library.old) (λ places. result ≡ level (loaded_in places class_number)) }
+    ensures level { class_number < 36 →
+        IfSome (held library.old) (λ places. result ≡ level (loaded_in places class_number)) }
     ensures no_class { 36 ≤ class_number → result ≡ 0 }
     ensures closed { IfNone (held library.old) (result ≡ 0) }
     ensures kept { held library.new ≡ held library.old }

@@ -13,8 +13,8 @@ impl Library {
     ghost use Rattle.egt_entries.specs.Tables.{table_at, beside};
     ghost use Rattle.egt_entries.specs.Library.{IsAccepted, IsTurnedAway};
 
-    /// Takes the table where `check` accepts it and its class has none. A table that is refused comes back, and the library is
-    /// as before.
+    /// Takes the table where `check` accepts it and its class has none. A table that is refused comes back, and the
+    /// library is as before.
     ///
     /// # Errors
     ///

@@ -1,5 +1,5 @@
-//! Entries with the kings on two squares and one side to move that are all of no position: these need no moves to be judged by. Where the kings stand beside
-//! one another, or their image has a lesser code, all are.
+//! Entries with the kings on two squares and one side to move that are all of no position: these need no moves to be
+//! judged by. Where the kings stand beside one another, or their image has a lesser code, all are.
 ghost use Rattle.std.specs.Prelude.{◌≡◌, ◌+◌, ◌<◌, true};
 ghost use Rattle.egt_check.specs.Prelude.{AreMenOf, HasColumn, AreBlank};
 
@@ -13,7 +13,8 @@ use egt_index::ShelfMen;
 use egt_index::laws::numbers_stand_for_codes;
 use egt_table::Column;
 
-/// Whether the entries of the shelves from this one on, which are to be those of the men by the first one's digit, have no scores.
+/// Whether the entries of the shelves from this one on, which are to be those of the men by the first one's digit, have
+/// no scores.
 fn shelves_are_blank(
     table: &Own,
     column: Column,
@@ -42,8 +43,8 @@ fn shelves_are_blank(
     true
 }
 
-/// Whether the entries of the shelves from this one on, and of those `half` further on, which have the same men and a target,
-/// have no scores; `half` is 0 in a class without targets.
+/// Whether the entries of the shelves from this one on, and of those `half` further on, which have the same men and a
+/// target, have no scores; `half` is 0 in a class without targets.
 pub fn side_is_blank(
     table: &Own,
     column: Column,
@@ -55,7 +56,8 @@ pub fn side_is_blank(
     requires there { HasColumn column table.now }
     requires men { AreMenOf table.now.class men.now }
     requires room { first + half + 64 < 4294967296 }
-    ensures { result ≡ true → AreBlank table.now column men.now first side × AreBlank table.now column men.now (first + half) side }
+    ensures { result ≡ true → AreBlank table.now column men.now first side ×
+        AreBlank table.now column men.now (first + half) side }
 {
     if !shelves_are_blank(table, column, men, first, side, false) {
         return false;

@@ -22,8 +22,8 @@ use egt_index::nearer::is_void_after;
 use egt_lanes::Block;
 use egt_table::Table;
 
-/// The greatest scores of all moves but captures in passing, by those of the exits, in the part's column, and of `Values` in
-/// the zeroing column too. False where a table does not tell.
+/// The greatest scores of all moves but captures in passing, by those of the exits, in the part's column, and of
+/// `Values` in the zeroing column too. False where a table does not tell.
 pub fn part_scores(
     moves: &Moves,
     leaving: &Block,
@@ -34,8 +34,10 @@ pub fn part_scores(
 ) -> bool
     requires men { AreFourMen (column_of moves.now.part) moves.now.four.now moves.now.men.now }
     requires leaving { HoldsExits (column_of moves.now.part) moves.now.four.now.children moves.now.men.now moves.now.side leaving.now }
-    requires kept { AreKept moves.now.four.now.own.class (column_score moves.now.four.now.own) moves.now.men.now (other_side moves.now.side) keys.old blocks.old }
-    ensures kept { result ≡ true → AreKept moves.now.four.now.own.class (column_score moves.now.four.now.own) moves.now.men.now (other_side moves.now.side) keys.new blocks.new }
+    requires kept { AreKept moves.now.four.now.own.class (column_score moves.now.four.now.own) moves.now.men.now
+        (other_side moves.now.side) keys.old blocks.old }
+    ensures kept { result ≡ true → AreKept moves.now.four.now.own.class
+        (column_score moves.now.four.now.own) moves.now.men.now (other_side moves.now.side) keys.new blocks.new }
     ensures scores { result ≡ true → (a b : ℕ) → a < 64 → b < 64 →
         AreAllScoresOf moves.now.part false moves.now.four.now moves.now.men.now moves.now.side a b (at scores.new a b) (at zeroing.new a b) }
 {
@@ -47,10 +49,13 @@ pub fn part_scores(
     }
 }
 
-/// Raises those to the scores of captures in passing, which are these: then they are of all moves where there is a target.
+/// Raises those to the scores of captures in passing, which are these: then they are of all moves where there is a
+/// target.
 pub fn raise_part_passed(moves: &Moves, passing: &Block, scores: &mut Block, zeroing: &mut Block)
     requires { HoldsPassing (column_of moves.now.part) moves.now.four.now.children moves.now.men.now moves.now.side passing.now }
-    ensures { (a b : ℕ) → a < 64 → b < 64 → AreAllScoresOf moves.now.part false moves.now.four.now moves.now.men.now moves.now.side a b (at scores.old a b) (at zeroing.old a b) →
+    ensures { (a b : ℕ) → a < 64 → b < 64 →
+        AreAllScoresOf moves.now.part false moves.now.four.now moves.now.men.now moves.now.side a b
+        (at scores.old a b) (at zeroing.old a b) →
         AreAllScoresOf moves.now.part true moves.now.four.now moves.now.men.now moves.now.side a b (at scores.new a b) (at zeroing.new a b) }
 {
     let (four, men, side) = (moves.four, moves.men, moves.side);
@@ -60,8 +65,8 @@ pub fn raise_part_passed(moves: &Moves, passing: &Block, scores: &mut Block, zer
     }
 }
 
-/// Whether the part's entries of the shelves from this one on, which are to be those of its men by the first one's digit,
-/// are due to the greatest scores.
+/// Whether the part's entries of the shelves from this one on, which are to be those of its men by the first one's
+/// digit, are due to the greatest scores.
 fn shelves_are_right(
     table: &Table,
     part: Part,
@@ -72,7 +77,8 @@ fn shelves_are_right(
     requires there { HasColumn (column_of part) table.now }
     requires men { AreMenOf table.now.class shelves.now.men }
     requires room { shelves.now.number + 64 < 4294967296 }
-    ensures { result ≡ true → (x y : ℕ) → x < kind_digits shelves.now.men.one.kind → y < kind_digits shelves.now.men.last.kind →
+    ensures { result ≡ true → (x y : ℕ) → x < kind_digits shelves.now.men.one.kind →
+        y < kind_digits shelves.now.men.last.kind →
         IsRightLane part shelves.now.passed table.now shelves.now.men shelves.now.side (x + kind_less shelves.now.men.one.kind) (y + kind_less shelves.now.men.last.kind)
         (code_of table.now.class (number_in table.now.class (shelves.now.number + x) shelves.now.side y))
         (at scores.now (x + kind_less shelves.now.men.one.kind) (y + kind_less shelves.now.men.last.kind)) (at zeroing.now (x + kind_less shelves.now.men.one.kind) (y + kind_less shelves.now.men.last.kind)) }
@@ -111,10 +117,14 @@ pub(crate) fn block_is_right(
 ) -> bool
     requires men { AreFourMen (column_of moves.now.part) moves.now.four.now moves.now.men.now }
     requires room { first + half + 64 < 4294967296 }
-    requires kept { AreKept moves.now.four.now.own.class (column_score moves.now.four.now.own) moves.now.men.now (other_side moves.now.side) keys.old blocks.old }
-    ensures kept { result ≡ true → AreKept moves.now.four.now.own.class (column_score moves.now.four.now.own) moves.now.men.now (other_side moves.now.side) keys.new blocks.new }
-    ensures judged { result ≡ true → (tables : Tables) → AreTablesOf (tables_in moves.now.part tables) (four_in moves.now.part moves.now.four.now) moves.now.men.now →
-        AreJudged moves.now.part tables moves.now.four.now.own moves.now.men.now first moves.now.side × AreJudged moves.now.part tables moves.now.four.now.own moves.now.men.now (first + half) moves.now.side }
+    requires kept { AreKept moves.now.four.now.own.class (column_score moves.now.four.now.own) moves.now.men.now
+        (other_side moves.now.side) keys.old blocks.old }
+    ensures kept { result ≡ true → AreKept moves.now.four.now.own.class
+        (column_score moves.now.four.now.own) moves.now.men.now (other_side moves.now.side) keys.new blocks.new }
+    ensures judged { result ≡ true → (tables : Tables) →
+        AreTablesOf (tables_in moves.now.part tables) (four_in moves.now.part moves.now.four.now) moves.now.men.now →
+        AreJudged moves.now.part tables moves.now.four.now.own moves.now.men.now first moves.now.side ×
+        AreJudged moves.now.part tables moves.now.four.now.own moves.now.men.now (first + half) moves.now.side }
 {
     entries_due_to_all_moves_are_right();
     a_code_is_an_index_or_void();

@@ -73,8 +73,8 @@ fn earlier(known: Option<(u32, Rule)>, index: u32, rule: Option<Rule>) -> Option
     }
 }
 
-/// Judges the entries of the indexes from `first` on and below `end`, where the mate entries before them keep the rules and
-/// the first bad zeroing entry there is known: of the zeroing column up to the first bad one if there is one.
+/// Judges the entries of the indexes from `first` on and below `end`, where the mate entries before them keep the rules
+/// and the first bad zeroing entry there is known: of the zeroing column up to the first bad one if there is one.
 ///
 /// # Errors
 ///
@@ -129,8 +129,9 @@ fn judge_table(
     Ok(bad)
 }
 
-/// Judges every entry of the mate column and of the zeroing column of a table whose class's children have their tables: the mate column to its first
-/// bad entry, and the zeroing column beside it. Whether the table's bytes were found to tell their entries.
+/// Judges every entry of the mate column and of the zeroing column of a table whose class's children have their tables:
+/// the mate column to its first bad entry, and the zeroing column beside it. Whether the table's bytes were found to
+/// tell their entries.
 fn judge_values(table: &Table, library: &Library) -> Result<bool, Reject>
     requires children { HasChildren (table_at library.now) table.now.class }
     requires down { ReachesDown (table_at library.now) table.now }
@@ -154,8 +155,8 @@ fn judge_values(table: &Table, library: &Library) -> Result<bool, Reject>
     }
 }
 
-/// The first bad entry of the column of the nearest mates of the indexes from `first` on and below `end`, where those before
-/// them keep the rules, and the first rule that it breaks, if there is one.
+/// The first bad entry of the column of the nearest mates of the indexes from `first` on and below `end`, where those
+/// before them keep the rules, and the first rule that it breaks, if there is one.
 fn first_bad_reach_in(table: &Table, library: &Library, first: u32, end: u32) -> Option<(u32, Rule)>
     requires there { IsSome table.now.reach }
     requires children { HasChildren (table_at library.now) table.now.class }
@@ -195,14 +196,16 @@ fn first_bad_reach(table: &Table, library: &Library, runs: &Runs) -> Option<(u32
     None
 }
 
-/// Judges every entry of the column of the nearest mates, where all others keep the rules: those of each run that blocks do
-/// not tell to be right one by one. Whether the table's bytes were found to tell its entries.
+/// Judges every entry of the column of the nearest mates, where all others keep the rules: those of each run that
+/// blocks do not tell to be right one by one. Whether the table's bytes were found to tell its entries.
 fn judge_reaches(table: &Table, library: &Library) -> Result<bool, Reject>
     requires there { IsSome table.now.reach }
     requires children { HasChildren (table_at library.now) table.now.class }
     requires reach_children { HasReachChildren (table_at library.now) table.now.class }
-    requires values { (metric : Metric) → KeepsBelow (beside (table_at library.now) table.now) table.now metric (size_of table.now.class) }
-    ensures exact { IsOk result ↔ KeepsReachBelow (beside (table_at library.now) table.now) table.now (size_of table.now.class) }
+    requires values { (metric : Metric) →
+        KeepsBelow (beside (table_at library.now) table.now) table.now metric (size_of table.now.class) }
+    ensures exact { IsOk result ↔ KeepsReachBelow (beside (table_at library.now) table.now) table.now
+        (size_of table.now.class) }
     ensures reason { IfErr result (IsRefused (table_at library.now) table.now) }
     ensures told { IfOk result (λ tells. tells ≡ true → TellsPart Reach table.now) }
 {
@@ -234,14 +237,14 @@ fn check_children(table: &Table, library: &Library) -> Result<(), Reject>
     }
 }
 
-/// Whether every entry of the table keeps every rule beside the entries of the successors, which stand in the table itself or
-/// in those of its children. It takes no memory.
+/// Whether every entry of the table keeps every rule beside the entries of the successors, which stand in the table
+/// itself or in those of its children. It takes no memory.
 ///
 /// # Errors
 ///
-/// `Missing` with the least child that the library has no table of; else, where the table has the column of the nearest mates, `NoReach` with the least
-/// child whose table lacks it; else `Rejected` with the first column that has a bad entry, mate before zeroing before reach, the least index of one
-/// there, and the first rule that it breaks.
+/// `Missing` with the least child that the library has no table of; else, where the table has the column of the nearest
+/// mates, `NoReach` with the least child whose table lacks it; else `Rejected` with the first column that has a bad
+/// entry, mate before zeroing before reach, the least index of one there, and the first rule that it breaks.
 pub fn check(table: &Table, library: &Library) -> Result<(), Reject>
     ensures exact { IsOk result ↔ IsAccepted (table_at library.now) table.now }
     ensures reason { IfErr result (IsRefused (table_at library.now) table.now) }

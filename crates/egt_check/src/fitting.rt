@@ -37,7 +37,8 @@ pub(crate) fn are_told(
     clocks: Row,
 ) -> bool
     requires { IsMaskOf lanes mask }
-    ensures { result ≡ true → (s : ℕ) → s < 64 → Has lanes s → (slice_index own s ≢ 0) × AreTold part (slice_index scores s) (slice_index clocks s) }
+    ensures { result ≡ true → (s : ℕ) → s < 64 → Has lanes s →
+        (slice_index own s ≢ 0) × AreTold part (slice_index scores s) (slice_index clocks s) }
 {
     let indexes = lanes_of(own);
     match part {

@@ -30,7 +30,7 @@ pub struct Found {
     table: Table,
     /// The scores in the mate column or, without clocks, in the column of the nearest mates.
     scores: ScoreRows,
-    /// Those in the zeroing column, which is found with the mate column.
+    /// The scores in the zeroing column, which is found with the mate column.
     clocks: Option<ScoreRows>,
 }
 
@@ -59,7 +59,9 @@ fn tell_side(
     requires shelf { IsShelf table.old.class shelf men.now }
     requires within { IsWithin table.old.class shelf }
     ensures kept { IsToldFrom column scores.now.scores table.old table.new }
-    ensures told { (k : ℕ) → k < places table.old.class → IsToldEntry column scores.now.scores table.new (code_of table.old.class (number_in table.old.class shelf side k)) }
+    ensures told { (k : ℕ) → k < places table.old.class →
+        IsToldEntry column scores.now.scores table.new
+        (code_of table.old.class (number_in table.old.class shelf side k)) }
 {
     numbers_stand_for_codes();
     let class = table.class();
@@ -82,7 +84,9 @@ fn tell_plain(table: &mut Table, column: Column, scores: &ScoreRows, men: &Shelf
     requires within { IsWithin table.old.class shelf }
     requires targets { has_target (material_of table.old.class) ≡ false }
     ensures kept { IsToldFrom column scores.now.scores table.old table.new }
-    ensures told { (side : Side) (k : ℕ) → k < places table.old.class → IsToldEntry column scores.now.scores table.new (code_of table.old.class (number_in table.old.class shelf side k)) }
+    ensures told { (side : Side) (k : ℕ) → k < places table.old.class →
+        IsToldEntry column scores.now.scores table.new
+        (code_of table.old.class (number_in table.old.class shelf side k)) }
 {
     let white = told_row(column, scores.row(men, shelf, Side::White));
     let black = told_row(column, scores.row(men, shelf, Side::Black));
@@ -100,7 +104,9 @@ fn tell_shelf(table: &mut Table, column: Column, scores: &ScoreRows, shelf: u32)
     requires two { HasTwoBeside table.old.class }
     requires within { IsWithin table.old.class shelf }
     ensures kept { IsToldFrom column scores.now.scores table.old table.new }
-    ensures told { (side : Side) (k : ℕ) → k < places table.old.class → IsToldEntry column scores.now.scores table.new (code_of table.old.class (number_in table.old.class shelf side k)) }
+    ensures told { (side : Side) (k : ℕ) → k < places table.old.class →
+        IsToldEntry column scores.now.scores table.new
+        (code_of table.old.class (number_in table.old.class shelf side k)) }
 {
     let class = table.class();
     let Some(men) = shelf_men(class, shelf) else {
@@ -175,7 +181,9 @@ impl Found {
         requires there { HasColumn column self.now }
         requires shelf { IsShelfOf passed self.now.class shelf men.now }
         requires within { IsWithin self.now.class shelf }
-        ensures { (s : ℕ) → s < 64 → IsRaised 0 (λ code. TellsMen passed self.now.class code (stand_with men.now s) side) (column_score self.now column) (slice_index result s) }
+        ensures { (s : ℕ) → s < 64 → IsRaised 0
+            (λ code. TellsMen passed self.now.class code (stand_with men.now s) side) (column_score self.now column)
+            (slice_index result s) }
     {
         codes_tell_turned_men();
         let _class = self.table.class();

@@ -89,7 +89,8 @@ fn judge_zeroing(mate: u16, zeroing: u16, due: u16) -> Option<Rule>
     }
 }
 
-/// The first rules that the mate entry and the zeroing entry of a position break beside those that are due, if they break one.
+/// The first rules that the mate entry and the zeroing entry of a position break beside those that are due, if they
+/// break one.
 fn judge_entries(entries: &ByMetric, due: &ByMetric) -> (Option<Rule>, Option<Rule>)
     ensures mate { Finds Mate entries.now.mate entries.now.mate due.now.mate result.0 }
     ensures zeroing { Finds Zeroing entries.now.mate entries.now.zeroing due.now.zeroing result.1 }

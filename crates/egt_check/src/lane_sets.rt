@@ -10,7 +10,8 @@ use std::simd::prelude::*;
 /// Of each square what `within` has there where the rows differ, else 0.
 #[inline(always)]
 pub fn unlike(a: Row, b: Row, within: Row) -> Row
-    ensures { (s : ℕ) → s < 64 → slice_index result s ≡ (if slice_index a s == slice_index b s then 0 else slice_index within s) }
+    ensures { (s : ℕ) → s < 64 → slice_index result s ≡
+        (if slice_index a s == slice_index b s then 0 else slice_index within s) }
 {
     a.simd_ne(b).select(within, Row::splat(0))
 }
@@ -26,7 +27,8 @@ pub fn without_score(row: Row, score: u8) -> Row
 /// The first row where the mask is not 0, else the second.
 #[inline(always)]
 pub fn chosen(mask: Row, there: Row, rest: Row) -> Row
-    ensures { (s : ℕ) → s < 64 → slice_index result s ≡ (if slice_index mask s == 0 then slice_index rest s else slice_index there s) }
+    ensures { (s : ℕ) → s < 64 → slice_index result s ≡
+        (if slice_index mask s == 0 then slice_index rest s else slice_index there s) }
 {
     mask.simd_ne(Row::splat(0)).select(there, rest)
 }

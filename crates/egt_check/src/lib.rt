@@ -1,5 +1,5 @@
-//! The checker of tables: whether each entry is right beside those of the successors, and so true; and the library of tables
-//! that passed.
+//! The checker of tables: whether each entry is right beside those of the successors, and so true; and the library of
+//! tables that passed.
 #![tactic(auto)]
 
 pub mod admitting;

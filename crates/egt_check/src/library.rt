@@ -8,8 +8,8 @@ use egt_table::{NoMemory, Table};
 use std::alloc::Global;
 use std::marker::Model;
 
-/// At most one table of each class. Each passed `check` beside the others, so that its entries are true, and its children
-/// are there.
+/// At most one table of each class. Each passed `check` beside the others, so that its entries are true, and its
+/// children are there.
 #[derive(Drop)]
 pub struct Library {
     pub(crate) places: Vec<Option<Shelved>>,
@@ -55,7 +55,7 @@ impl Library {
         Some(self.shelved(class)?.table())
     }
 
-    /// The same with what is known of its bytes.
+    /// The table of the class, with what is known of its bytes.
     fn shelved(&self, class: Class) -> Option<&Shelved>
         ensures is { option_map (λ t. t.now) result ≡ table_at self.now class }
         ensures shelved { IfSome result (λ t. IsShelved (table_at self.now) class t.now) }

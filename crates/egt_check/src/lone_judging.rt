@@ -55,8 +55,10 @@ fn keeps_alone(three: &ThreeMen, code: u32) -> bool
 /// Whether they do at the codes of these squares of the man, every other one from his first digit's on.
 fn keep_alone(three: &ThreeMen, first: u32, squares: SquareSet) -> bool
     requires three { AreThreeMen three.now }
-    requires codes { (digit : ℕ) → digit < kind_digits three.now.men.last.kind → first + 2 * digit < size_of three.now.table.now.class }
-    ensures { result ≡ true → (digit : ℕ) → digit < kind_digits three.now.men.last.kind → Has squares (digit + kind_less three.now.men.last.kind) → KeepsCode three.now (first + 2 * digit) }
+    requires codes { (digit : ℕ) → digit < kind_digits three.now.men.last.kind →
+        first + 2 * digit < size_of three.now.table.now.class }
+    ensures { result ≡ true → (digit : ℕ) → digit < kind_digits three.now.men.last.kind →
+        Has squares (digit + kind_less three.now.men.last.kind) → KeepsCode three.now (first + 2 * digit) }
 {
     let _size = size(three.table.class());
     let mut rest = squares;
@@ -96,8 +98,8 @@ pub fn first_code(first: u32, side: Side) -> u32
     }
 }
 
-/// The squares of the man where the column has scores at the codes from this one on, with that side to move, those where
-/// they are due to the greatest after quiet steps, and these.
+/// The squares of the man where the column has scores at the codes from this one on, with that side to move, those
+/// where they are due to the greatest after quiet steps, and these.
 #[inline(always)]
 pub fn due_lanes(
     three: &ThreeMen,
@@ -108,9 +110,11 @@ pub fn due_lanes(
     requires three { AreThreeMen three.now }
     requires there { HasColumn column three.now.table.now }
     requires row { IsLoneRow three.now.table.now.class first three.now.men.white three.now.men.black three.now.men.last }
-    ensures none { (digit : ℕ) → digit < kind_digits three.now.men.last.kind → bit_at result.0.bits (digit + kind_less three.now.men.last.kind) ≡ 0 →
+    ensures none { (digit : ℕ) → digit < kind_digits three.now.men.last.kind →
+        bit_at result.0.bits (digit + kind_less three.now.men.last.kind) ≡ 0 →
         column_score three.now.table.now column (first + side_number side + 2 * digit) ≡ 0 }
-    ensures due { (digit : ℕ) → digit < kind_digits three.now.men.last.kind → Has result.1 (digit + kind_less three.now.men.last.kind) →
+    ensures due { (digit : ℕ) → digit < kind_digits three.now.men.last.kind →
+        Has result.1 (digit + kind_less three.now.men.last.kind) →
         IsDueAlone three.now column side (digit + kind_less three.now.men.last.kind) (first + side_number side + 2 * digit) }
 {
     codes_tell_turned_men();
@@ -129,12 +133,14 @@ pub fn due_lanes(
     )
 }
 
-/// The squares of the man where the zeroing scores, judged with the mate scores, are due; all where they are not judged.
+/// The squares of the man where the zeroing scores, judged with the mate scores, are due; all where they are not
+/// judged.
 #[inline(always)]
 fn clock_lanes(three: &ThreeMen, first: u32, side: Side) -> SquareSet
     requires three { AreThreeMen three.now }
     requires row { IsLoneRow three.now.table.now.class first three.now.men.white three.now.men.black three.now.men.last }
-    ensures { three.now.part ≡ parts.Values → (digit : ℕ) → digit < kind_digits three.now.men.last.kind → Has result (digit + kind_less three.now.men.last.kind) →
+    ensures { three.now.part ≡ parts.Values → (digit : ℕ) → digit < kind_digits three.now.men.last.kind →
+        Has result (digit + kind_less three.now.men.last.kind) →
         IsDueAlone three.now columns.Zeroing side (digit + kind_less three.now.men.last.kind) (first + side_number side + 2 * digit) }
 {
     match three.part {

@@ -1,6 +1,7 @@
 //! The judgement of a whole table of a class with one man beside the kings, by the squares of the kings.
 ghost use Rattle.std.specs.Prelude.{◌≡◌, ◌≢◌, ◌*◌, ◌<◌, ℕ, false, true, IfSome, get_or};
-ghost use Rattle.egt_check.specs.Prelude.{K, kind_digits, column_of, size_of, table_in, HasColumn, HasBytes, AreThreeMen};
+ghost use Rattle.egt_check.specs.Prelude.{K, kind_digits, column_of, size_of, table_in, HasColumn, HasBytes};
+ghost use Rattle.egt_check.specs.Prelude.{AreThreeMen};
 ghost use Rattle.egt_check.specs.Prelude.{AreRuns, IsJudgedRow, MayJudge, TellsVoid, TellsVoids, beside, table_at};
 ghost use Rattle.egt_check.specs.declared.part.Part.TheVariants as parts;
 
@@ -58,7 +59,8 @@ fn tells_part(table: &Table, part: Part) -> bool
     }
 }
 
-/// The run of codes with the kings on these squares, if its entries with that side to move were found to keep the rules.
+/// The run of codes with the kings on these squares, if its entries with that side to move were found to keep the
+/// rules.
 fn right_run(three: &ThreeMen, side: Side) -> Option<usize>
     requires { AreThreeMen three.now }
     ensures few { IfSome result (λ run. run < 2048) }
@@ -78,7 +80,8 @@ fn right_run(three: &ThreeMen, side: Side) -> Option<usize>
 /// The runs of which all entries of the part with that side to move were found to keep the rules.
 fn right_rows(three: &ThreeMen, side: Side) -> [bool; MOST_PAIRS]
     requires { AreThreeMen three.now }
-    ensures { (run : ℕ) → get_or result run false ≡ true → IsJudgedRow three.now (run * (2 * kind_digits three.now.men.last.kind)) side }
+    ensures { (run : ℕ) → get_or result run false ≡ true →
+        IsJudgedRow three.now (run * (2 * kind_digits three.now.men.last.kind)) side }
 {
     let mut right = [false; MOST_PAIRS];
     for kings in 0..4096u16 {

@@ -99,7 +99,9 @@ fn raise_first_taken(
     out: &mut Block,
 ) -> bool
     requires { AreChildren column children.now men.now }
-    ensures { result ≡ true → (a b : ℕ) → a < 64 → b < 64 → (taken : ℕ) × IsRaised 0 (AreLeftCodes children.now.last.now.class children.now.last_flips (men_swapped men.now) side b a) (column_score children.now.last.now column) taken × (at out.new a b ≡ max (at out.old a b) taken) }
+    ensures { result ≡ true → (a b : ℕ) → a < 64 → b < 64 → (taken : ℕ) ×
+        IsRaised 0 (AreLeftCodes children.now.last.now.class children.now.last_flips (men_swapped men.now) side b a)
+        (column_score children.now.last.now column) taken × (at out.new a b ≡ max (at out.old a b) taken) }
 {
     if !is_of(men.one, side.other()) {
         return true;
@@ -138,7 +140,10 @@ fn raise_pawns_promoted(
     out: &mut Block,
 ) -> bool
     requires { AreChildren column children.now men.now }
-    ensures { result ≡ true → (a b : ℕ) → a < 64 → b < 64 → (last first : ℕ) × IsBestPromotion column children.now.last_pawn men.now side a b last × IsBestPromotion column children.now.first_pawn (men_swapped men.now) side b a first × (at out.new a b ≡ max (at out.old a b) (max last first)) }
+    ensures { result ≡ true → (a b : ℕ) → a < 64 → b < 64 →
+        (last first : ℕ) × IsBestPromotion column children.now.last_pawn men.now side a b last ×
+        IsBestPromotion column children.now.first_pawn (men_swapped men.now) side b a first ×
+        (at out.new a b ≡ max (at out.old a b) (max last first)) }
 {
     if !has_pawn(men, side) {
         return true;
@@ -166,8 +171,8 @@ fn raise_pawns_promoted(
     true
 }
 
-/// The greatest scores in the column of the moves of that side that leave the class, but captures in passing: they depend on
-/// the tables of the children alone. False where a table does not tell.
+/// The greatest scores in the column of the moves of that side that leave the class, but captures in passing: they
+/// depend on the tables of the children alone. False where a table does not tell.
 pub fn exits(
     children: &Children,
     column: Column,
@@ -261,8 +266,8 @@ pub fn passing_captures(
     true
 }
 
-/// The greatest scores of all those moves but captures in passing, in the mate column and in the zeroing column, by those of
-/// the exits. False where a table does not tell.
+/// The greatest scores of all those moves but captures in passing, in the mate column and in the zeroing column, by
+/// those of the exits. False where a table does not tell.
 pub fn move_scores(
     moves: &Moves,
     leaving: &Block,
@@ -273,9 +278,12 @@ pub fn move_scores(
 ) -> bool
     requires men { AreFourMen columns.Mate moves.now.four.now moves.now.men.now }
     requires leaving { HoldsExits columns.Mate moves.now.four.now.children moves.now.men.now moves.now.side leaving.now }
-    requires kept { AreKept moves.now.four.now.own.class (column_score moves.now.four.now.own) moves.now.men.now (other_side moves.now.side) keys.old blocks.old }
-    ensures kept { result ≡ true → AreKept moves.now.four.now.own.class (column_score moves.now.four.now.own) moves.now.men.now (other_side moves.now.side) keys.new blocks.new }
-    ensures scores { result ≡ true → (a b : ℕ) → a < 64 → b < 64 → AreMoveScores moves.now.four.now moves.now.men.now moves.now.side a b (at mates.new a b) (at zeroing.new a b) }
+    requires kept { AreKept moves.now.four.now.own.class (column_score moves.now.four.now.own) moves.now.men.now
+        (other_side moves.now.side) keys.old blocks.old }
+    ensures kept { result ≡ true → AreKept moves.now.four.now.own.class
+        (column_score moves.now.four.now.own) moves.now.men.now (other_side moves.now.side) keys.new blocks.new }
+    ensures scores { result ≡ true → (a b : ℕ) → a < 64 → b < 64 →
+        AreMoveScores moves.now.four.now moves.now.men.now moves.now.side a b (at mates.new a b) (at zeroing.new a b) }
 {
     let (four, men, side) = (moves.four, moves.men, moves.side);
     if !quiet_block(&four.own, Column::Mate, men, side, keys, blocks, mates) {
@@ -298,8 +306,8 @@ pub fn move_scores(
     true
 }
 
-/// Raises those to the scores of captures in passing, which are these: then they are of all moves where there is a target. The
-/// contract alone reads the tables and the men.
+/// Raises those to the scores of captures in passing, which are these: then they are of all moves where there is a
+/// target. The contract alone reads the tables and the men.
 pub fn raise_passed(
     four: &FourMen,
     men: &ShelfMen,
@@ -309,7 +317,8 @@ pub fn raise_passed(
     zeroing: &mut Block,
 )
     requires { HoldsPassing columns.Mate four.now.children men.now side passing.now }
-    ensures { (a b : ℕ) → a < 64 → b < 64 → AreMoveScores four.now men.now side a b (at mates.old a b) (at zeroing.old a b) →
+    ensures { (a b : ℕ) → a < 64 → b < 64 →
+        AreMoveScores four.now men.now side a b (at mates.old a b) (at zeroing.old a b) →
         ArePassedScores four.now men.now side a b (at mates.new a b) (at zeroing.new a b) }
 {
     raise(mates, passing);

@@ -36,7 +36,7 @@ impl<'o> Model for Own<'o> {
 }
 
 impl<'o> Own<'o> {
-    /// Those of a table.
+    /// The entries of a table.
     pub fn of_table(table: &'o Table) -> Own<'o>
         ensures { result ≡ table.now }
     {
@@ -45,7 +45,7 @@ impl<'o> Own<'o> {
         }
     }
 
-    /// Those that are being found.
+    /// The entries that are being found.
     pub fn of_found(found: &'o Found) -> Own<'o>
         ensures { result ≡ found.now }
     {
@@ -75,14 +75,16 @@ impl<'o> Own<'o> {
         }
     }
 
-    /// The scores of the codes that tell these men, who are those of the shelf, by the last man's square, and a target where
-    /// one was passed.
+    /// The scores of the codes that tell these men, who are those of the shelf, by the last man's square, and a target
+    /// where one was passed.
     #[inline(always)]
     pub fn row(&self, column: Column, men: &ShelfMen, shelf: u32, side: Side, passed: bool) -> Row
         requires there { HasColumn column self.now }
         requires shelf { IsShelfOf passed self.now.class shelf men.now }
         requires within { IsWithin self.now.class shelf }
-        ensures { (s : ℕ) → s < 64 → IsRaised 0 (λ code. TellsMen passed self.now.class code (stand_with men.now s) side) (column_score self.now column) (slice_index result s) }
+        ensures { (s : ℕ) → s < 64 → IsRaised 0
+            (λ code. TellsMen passed self.now.class code (stand_with men.now s) side) (column_score self.now column)
+            (slice_index result s) }
     {
         match self.entries {
             Entries::OfTable(table) => row_of(table, column, men, shelf, side, passed),

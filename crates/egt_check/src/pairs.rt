@@ -7,8 +7,8 @@ use egt_blocks::digits::digits_of;
 use egt_class::Class;
 use egt_index::{ShelfMen, has_target, last_digits, size};
 
-/// How the shelves of a class go by pairs: those of a pair are `step` from its number times `step` on, and as many `half` further on, whose positions have a
-/// target.
+/// How the shelves of a class go by pairs: those of a pair are `step` from its number times `step` on, and as many
+/// `half` further on, whose positions have a target.
 #[derive(Clone, Copy)]
 pub struct Pairs {
     /// How many squares the white king has; with each the black king has 64.
@@ -52,11 +52,16 @@ pub fn pairs_of(class: Class, men: &ShelfMen) -> Option<Pairs>
     })
 }
 
-/// Where the entries with the kings on a pair of squares keep the rules, with either side to move, those at its codes do;
-/// and where all pairs' do, those at all codes. This function does nothing: a caller calls it to know what it ensures.
+/// Where the entries with the kings on a pair of squares keep the rules, with either side to move, those at its codes
+/// do; and where all pairs' do, those at all codes. This function does nothing: a caller calls it to know what it
+/// ensures.
 pub fn judged_pairs_hold_all_codes()
-    ensures pair { (part : Part) (tables : Tables) (t : TableValue) (men : ShelfMen) (pairs : Pairs) (pair i : ℕ) → ArePairs t.class men pairs →
-        ((side : Side) → IsJudgedPair part tables t men pairs side pair) → i < size_of t.class → pair * pairs.codes ≤ i → i < (pair + 1) * pairs.codes → KeepsPart part tables t i }
-    ensures all { (part : Part) (tables : Tables) (t : TableValue) (men : ShelfMen) (pairs : Pairs) → ArePairs t.class men pairs →
-        ((side : Side) → AreJudgedPairs part tables t men pairs side) → (i : ℕ) → i < size_of t.class → KeepsPart part tables t i }
+    ensures pair { (part : Part) (tables : Tables) (t : TableValue) (men : ShelfMen) (pairs : Pairs) (pair i : ℕ) →
+        ArePairs t.class men pairs →
+        ((side : Side) → IsJudgedPair part tables t men pairs side pair) → i < size_of t.class →
+        pair * pairs.codes ≤ i → i < (pair + 1) * pairs.codes → KeepsPart part tables t i }
+    ensures all { (part : Part) (tables : Tables) (t : TableValue) (men : ShelfMen) (pairs : Pairs) →
+        ArePairs t.class men pairs →
+        ((side : Side) → AreJudgedPairs part tables t men pairs side) → (i : ℕ) → i < size_of t.class →
+        KeepsPart part tables t i }
 {}

@@ -32,7 +32,7 @@ pub struct Promotion<'t> {
     pub alone_flips: bool,
 }
 
-/// The same of each kind that a pawn is promoted to.
+/// The promotion to each kind.
 #[derive(Clone, Copy)]
 pub struct Promotions<'t> {
     pub queen: Promotion<'t>,
@@ -52,7 +52,8 @@ fn raise_promotion(
 ) -> bool
     requires of { IsPromotionOf column promotion.now men.now }
     requires mine { men.now.last.side ≡ side }
-    ensures { result ≡ true → (a b : ℕ) → a < 64 → b < 64 → IsPromotionScore column promotion.now men.now side a b (at out.old a b) (at out.new a b) }
+    ensures { result ≡ true → (a b : ℕ) → a < 64 → b < 64 →
+        IsPromotionScore column promotion.now men.now side a b (at out.old a b) (at out.new a b) }
 {
     let man = Man {
         side,
@@ -100,7 +101,8 @@ fn raise_promotions(
 ) -> bool
     requires of { ArePromotionsOf column promotions.now men.now }
     requires mine { men.now.last.side ≡ side }
-    ensures { result ≡ true → (a b : ℕ) → a < 64 → b < 64 → ArePromotionScores column promotions.now men.now side a b (at out.old a b) (at out.new a b) }
+    ensures { result ≡ true → (a b : ℕ) → a < 64 → b < 64 →
+        ArePromotionScores column promotions.now men.now side a b (at out.old a b) (at out.new a b) }
 {
     if !raise_promotion(&promotions.queen, column, men, side, out) {
         return false;
@@ -114,8 +116,8 @@ fn raise_promotions(
     raise_promotion(&promotions.knight, column, men, side, out)
 }
 
-/// The greatest scores of the positions after all promotions of the last man, where he is a pawn of that side. False where
-/// a table does not tell.
+/// The greatest scores of the positions after all promotions of the last man, where he is a pawn of that side. False
+/// where a table does not tell.
 pub(crate) fn promotions_block(
     promotions: &Option<Promotions>,
     column: Column,
@@ -124,7 +126,8 @@ pub(crate) fn promotions_block(
     out: &mut Block,
 ) -> bool
     requires { IfSome promotions.now (λ p. ArePromotionsOf column p men.now) }
-    ensures { result ≡ true → (a b : ℕ) → a < 64 → b < 64 → IsBestPromotion column promotions.now men.now side a b (at out.new a b) }
+    ensures { result ≡ true → (a b : ℕ) → a < 64 → b < 64 →
+        IsBestPromotion column promotions.now men.now side a b (at out.new a b) }
 {
     *out = nothing();
     if !is_pawn(men.last) || !is_of(men.last, side) {
@@ -151,7 +154,8 @@ fn advances_block(
     requires voids { ScoresNoVoids own.now.class (column_score own.now column) }
     requires men { AreMenOf own.now.class (men_after first false men.now men.now.last) }
     requires still { AreStill own.now.class (column_score own.now column) first men.now side still.now }
-    ensures { result ≡ true → (a b : ℕ) → a < 64 → b < 64 → AreAdvanceScores column own.now first men.now side a b (at out.new a b) }
+    ensures { result ≡ true → (a b : ℕ) → a < 64 → b < 64 →
+        AreAdvanceScores column own.now first men.now side a b (at out.new a b) }
 {
     step_block(own, column, first, men, side, still, out);
     let mut leaps = nothing();
@@ -162,8 +166,9 @@ fn advances_block(
     true
 }
 
-/// The greatest scores of the positions after all advances without promotion of both men, as far as they are pawns of that
-/// side; `still` are the scores of the men where they stand, the other side to move. False where the table does not tell.
+/// The greatest scores of the positions after all advances without promotion of both men, as far as they are pawns of
+/// that side; `still` are the scores of the men where they stand, the other side to move. False where the table does
+/// not tell.
 pub fn own_pawn_moves(
     own: &Own,
     column: Column,
@@ -176,7 +181,8 @@ pub fn own_pawn_moves(
     requires voids { ScoresNoVoids own.now.class (column_score own.now column) }
     requires men { AreMenOf own.now.class men.now }
     requires still { AreStill own.now.class (column_score own.now column) false men.now side still.now }
-    ensures { result ≡ true → (a b : ℕ) → a < 64 → b < 64 → AreOwnPawnMoves column own.now men.now side a b (at out.new a b) }
+    ensures { result ≡ true → (a b : ℕ) → a < 64 → b < 64 →
+        AreOwnPawnMoves column own.now men.now side a b (at out.new a b) }
 {
     if !advances_block(own, column, false, men, side, still, out) {
         return false;

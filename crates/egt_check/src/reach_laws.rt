@@ -13,22 +13,29 @@ use egt_index::laws::{
 };
 use egt_steps::facts::facts;
 
-/// Entries of a position that are due to the greatest scores of all moves keep the rules. Where there is no move, so do those that tell checkmate or
-/// stalemate.
+/// Entries of a position that are due to the greatest scores of all moves keep the rules. Where there is no move, so do
+/// those that tell checkmate or stalemate.
 pub fn due_reaches_are_right()
-    ensures due { (tables : Tables) (t : TableValue) (i : ℕ) (p : Setup) (g z : ℕ) → Spells t.class i p → ¬ IsVoid t.class i → reach_at t i ≢ 0 → reach_at t i < 128 →
-        AreGiven (near_tables tables) p (λ m. Unit {0}) g z → g ≢ 0 → reach_score (reach_at t i) ≡ reach_due_score g → IsJudgedBy (KeepsReach tables t i) None }
-    ensures end { (tables : Tables) (t : TableValue) (i : ℕ) (p : Setup) (x : ℕ) → Spells t.class i p → ¬ IsVoid t.class i → NoMove chess p → IsAtEnd p x → near_entry (reach_at t i) ≡ x →
+    ensures due { (tables : Tables) (t : TableValue) (i : ℕ) (p : Setup) (g z : ℕ) → Spells t.class i p →
+        ¬ IsVoid t.class i → reach_at t i ≢ 0 → reach_at t i < 128 →
+        AreGiven (near_tables tables) p (λ m. Unit {0}) g z → g ≢ 0 → reach_score (reach_at t i) ≡ reach_due_score g →
+        IsJudgedBy (KeepsReach tables t i) None }
+    ensures end { (tables : Tables) (t : TableValue) (i : ℕ) (p : Setup) (x : ℕ) → Spells t.class i p →
+        ¬ IsVoid t.class i → NoMove chess p → IsAtEnd p x → near_entry (reach_at t i) ≡ x →
         IsJudgedBy (KeepsReach tables t i) None }
 {
     facts();
     codes_spell_one_position();
 }
 
-/// The greatest scores in that column of the codes after all moves are those of the moves, in tables where it is read as a mate column.
+/// The greatest scores in that column of the codes after all moves are those of the moves, in tables where it is read
+/// as a mate column.
 pub fn all_reach_scores_give_all_moves()
-    ensures { (tables : Tables) (four : FourMen) (men : ShelfMen) (side : Side) (passed : Bool) (a b : ℕ) (p : Setup) (reach : ℕ) → AreTablesOf (near_tables tables) (four_in Reach four) men → men.one.kind ≢ K → men.last.kind ≢ K →
-        HasStand four.own.class false (stand_on men a b) side passed p → AreAllReachScores passed four men side a b reach → (zeroing : ℕ) × AreGiven (near_tables tables) p (λ m. Unit {0}) reach zeroing }
+    ensures { (tables : Tables) (four : FourMen) (men : ShelfMen) (side : Side) (passed : Bool) (a b : ℕ) (p : Setup)
+        (reach : ℕ) → AreTablesOf (near_tables tables) (four_in Reach four) men → men.one.kind ≢ K → men.last.kind ≢ K →
+        HasStand four.own.class false (stand_on men a b) side passed p →
+        AreAllReachScores passed four men side a b reach →
+        (zeroing : ℕ) × AreGiven (near_tables tables) p (λ m. Unit {0}) reach zeroing }
 {
     a_code_is_an_index_or_void();
     all_scores_give_all_moves();

@@ -17,8 +17,8 @@ use egt_lanes::Block;
 use egt_lanes::block::raise;
 use egt_table::Column;
 
-/// The greatest scores of all moves of that side but captures in passing, by those of its exits. False where a table does not
-/// tell.
+/// The greatest scores of all moves of that side but captures in passing, by those of its exits. False where a table
+/// does not tell.
 pub fn reach_scores(
     four: &FourMen,
     men: &ShelfMen,
@@ -30,9 +30,12 @@ pub fn reach_scores(
 ) -> bool
     requires men { AreFourMen columns.Reach four.now men.now }
     requires leaving { HoldsExits columns.Reach four.now.children men.now side leaving.now }
-    requires kept { AreKept four.now.own.class (column_score four.now.own) men.now (other_side side) keys.old blocks.old }
-    ensures kept { result ≡ true → AreKept four.now.own.class (column_score four.now.own) men.now (other_side side) keys.new blocks.new }
-    ensures scores { result ≡ true → (a b : ℕ) → a < 64 → b < 64 → AreReachScores four.now men.now side a b (at out.new a b) }
+    requires kept { AreKept four.now.own.class (column_score four.now.own) men.now
+        (other_side side) keys.old blocks.old }
+    ensures kept { result ≡ true → AreKept four.now.own.class (column_score four.now.own) men.now
+        (other_side side) keys.new blocks.new }
+    ensures scores { result ≡ true → (a b : ℕ) → a < 64 → b < 64 →
+        AreReachScores four.now men.now side a b (at out.new a b) }
 {
     if !quiet_block(&four.own, Column::Reach, men, side, keys, blocks, out) {
         return false;
@@ -57,8 +60,8 @@ pub fn reach_scores(
     true
 }
 
-/// Raises those to the scores of captures in passing, which are these: then they are of all moves where there is a target. The
-/// contract alone reads the tables and the men.
+/// Raises those to the scores of captures in passing, which are these: then they are of all moves where there is a
+/// target. The contract alone reads the tables and the men.
 pub fn raise_passed_reach(
     four: &FourMen,
     men: &ShelfMen,
@@ -67,7 +70,8 @@ pub fn raise_passed_reach(
     out: &mut Block,
 )
     requires { HoldsPassing columns.Reach four.now.children men.now side passing.now }
-    ensures { (a b : ℕ) → a < 64 → b < 64 → AreReachScores four.now men.now side a b (at out.old a b) → ArePassedReachScores four.now men.now side a b (at out.new a b) }
+    ensures { (a b : ℕ) → a < 64 → b < 64 → AreReachScores four.now men.now side a b (at out.old a b) →
+        ArePassedReachScores four.now men.now side a b (at out.new a b) }
 {
     raise(out, passing);
 }

@@ -57,8 +57,8 @@ pub fn end_is_right(table: &Table, part: Part, code: u32) -> bool
     }
 }
 
-/// Whether the ends are right at the codes of the numbers of these squares of the man, every other number from his first
-/// digit's on.
+/// Whether the ends are right at the codes of the numbers of these squares of the man, every other number from his
+/// first digit's on.
 fn ends_are_right(table: &Table, part: Part, man: Man, first: u32, ends: SquareSet) -> bool
     requires there { HasColumn (column_of part) table.now }
     requires codes { (digit : ℕ) → digit < kind_digits man.kind → first + 2 * digit < size_of table.now.class }
@@ -109,7 +109,8 @@ pub fn due_in(part: Part, row: Row) -> Row
 fn clock_is_due(table: &Table, part: Part, shelf: &Shelf, zeroing: Row, within: Row) -> bool
     requires shelf { IsShelfOf shelf.now.passed table.now.class shelf.now.number shelf.now.men }
     requires within { IsWithin table.now.class shelf.now.number }
-    ensures { result ≡ true → part ≡ parts.Values → (digit : ℕ) → digit < kind_digits shelf.now.men.last.kind → slice_index within (digit + kind_less shelf.now.men.last.kind) ≢ 0 →
+    ensures { result ≡ true → part ≡ parts.Values → (digit : ℕ) → digit < kind_digits shelf.now.men.last.kind →
+        slice_index within (digit + kind_less shelf.now.men.last.kind) ≢ 0 →
         score_at table.now Zeroing (code_of table.now.class (number_in table.now.class shelf.now.number shelf.now.side digit)) ≡ due_score (slice_index zeroing (digit + kind_less shelf.now.men.last.kind)) }
 {
     codes_tell_turned_men();
@@ -141,7 +142,9 @@ pub(crate) fn row_is_right(
     requires there { HasColumn (column_of part) table.now }
     requires shelf { IsShelfOf shelf.now.passed table.now.class shelf.now.number shelf.now.men }
     requires within { IsWithin table.now.class shelf.now.number }
-    ensures { result ≡ true → (digit : ℕ) → digit < kind_digits shelf.now.men.last.kind → column_score table.now (column_of part) (code_of table.now.class (number_in table.now.class shelf.now.number shelf.now.side digit)) ≢ 0 →
+    ensures { result ≡ true → (digit : ℕ) → digit < kind_digits shelf.now.men.last.kind →
+        column_score table.now (column_of part)
+        (code_of table.now.class (number_in table.now.class shelf.now.number shelf.now.side digit)) ≢ 0 →
         IsRightAtOf part table.now (code_of table.now.class (number_in table.now.class shelf.now.number shelf.now.side digit)) (slice_index scores (digit + kind_less shelf.now.men.last.kind)) (slice_index zeroing (digit + kind_less shelf.now.men.last.kind)) }
 {
     codes_tell_turned_men();

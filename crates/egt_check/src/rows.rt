@@ -56,8 +56,8 @@ fn first_of_targets(class: Class, shelf: u32) -> u32
     code_of(class, shelf * (2 * last_digits(class))) / 2 * 2
 }
 
-/// The scores of a shelf's codes in a class with targets, where beside each lies the code with the other digit of a target.
-/// The contract alone reads the men.
+/// The scores of a shelf's codes in a class with targets, where beside each lies the code with the other digit of a
+/// target. The contract alone reads the men.
 #[inline(always)]
 fn target_row(
     table: &Table,
@@ -78,7 +78,8 @@ fn target_row(
     column_scores(column, load_target(entries, side, passed))
 }
 
-/// The scores of the codes that tell these men, who are those of the shelf, by the last man's square, and a target where one was passed.
+/// The scores of the codes that tell these men, who are those of the shelf, by the last man's square, and a target
+/// where one was passed.
 #[inline(always)]
 pub fn row_of(
     table: &Table,
@@ -91,7 +92,8 @@ pub fn row_of(
     requires there { HasColumn column table.now }
     requires shelf { IsShelfOf passed table.now.class shelf men.now }
     requires within { IsWithin table.now.class shelf }
-    ensures { (s : ℕ) → s < 64 → IsRaised 0 (λ code. TellsMen passed table.now.class code (stand_with men.now s) side) (column_score table.now column) (slice_index result s) }
+    ensures { (s : ℕ) → s < 64 → IsRaised 0 (λ code. TellsMen passed table.now.class code (stand_with men.now s) side)
+        (column_score table.now column) (slice_index result s) }
 {
     codes_tell_turned_men();
     if has_target(table.class()) {

@@ -23,7 +23,8 @@ pub struct Runs {
 
 /// These runs, or all codes of the class in one, of which nothing is known.
 pub(crate) fn runs_or_one(known: Option<Runs>, class: Class) -> Runs
-    ensures { (part : Part) (tables : Tables) (t : TableValue) → t.class ≡ class → IfSome known (AreRuns part tables t) → AreRuns part tables t result }
+    ensures { (part : Part) (tables : Tables) (t : TableValue) → t.class ≡ class →
+        IfSome known (AreRuns part tables t) → AreRuns part tables t result }
 {
     match known {
         Some(runs) => runs,

@@ -24,7 +24,7 @@ pub struct ScoreRows {
     last: Man,
     /// How many shelves the class has.
     shelves: usize,
-    /// Those with White to move come first.
+    /// The rows with White to move come first.
     rows: Vec<Row>,
 }
 
@@ -55,7 +55,8 @@ fn row_place(shelves: usize, shelf: u32, side: Side) -> usize
 /// The squares of the man's digits.
 fn squares_of(man: Man, digits: u64) -> SquareSet
     requires { (k : ℕ) → kind_digits man.kind ≤ k → bit_at digits k ≡ 0 }
-    ensures digits { (k : ℕ) → k < kind_digits man.kind → bit_at result.bits (k + kind_less man.kind) ≡ bit_at digits k }
+    ensures digits { (k : ℕ) → k < kind_digits man.kind →
+        bit_at result.bits (k + kind_less man.kind) ≡ bit_at digits k }
     ensures edges { man.kind ≡ P → (s : ℕ) → s < 64 → (s < 8) ⊎ (56 ≤ s) → bit_at result.bits s ≡ 0 }
 {
     let bits = if is_pawn(man) { digits << 8 } else { digits };
@@ -93,7 +94,8 @@ impl ScoreRows {
         ensures class { self.new.class ≡ self.old.class }
         ensures void { HasNoVoidScore self.new }
         ensures kept { (code : ℕ) → slice_index self.old.scores code ≡ 128 → slice_index self.new.scores code ≡ 128 }
-        ensures drawn { result ≡ true → (side : Side) (k : ℕ) → k < places self.old.class → IsDrawnIndex self.new (code_of self.old.class (number_in self.old.class shelf side k)) }
+        ensures drawn { result ≡ true → (side : Side) (k : ℕ) → k < places self.old.class →
+            IsDrawnIndex self.new (code_of self.old.class (number_in self.old.class shelf side k)) }
         ensures few { AreDrawnOrNone self.old → AreDrawnOrNone self.new }
     {
         let Some(men) = shelf_men(self.class, shelf) else {
@@ -174,7 +176,8 @@ impl ScoreRows {
         requires edges { men.now.last.kind ≡ P → (s : ℕ) → s < 64 → (s < 8) ⊎ (56 ≤ s) → bit_at lanes.bits s ≡ 0 }
         ensures class { self.new.class ≡ self.old.class }
         ensures long { length self.new.scores ≡ size_of self.old.class }
-        ensures put { (digit : ℕ) → digit < kind_digits men.now.last.kind → Has lanes (digit + kind_less men.now.last.kind) →
+        ensures put { (digit : ℕ) → digit < kind_digits men.now.last.kind →
+            Has lanes (digit + kind_less men.now.last.kind) →
             slice_index self.new.scores (code_of self.old.class (number_in self.old.class shelf side digit)) ≡ slice_index scores (digit + kind_less men.now.last.kind) }
         ensures others { (code : ℕ) → (slice_index self.new.scores code ≡ slice_index self.old.scores code) ⊎ IsLaneIn self.old.class men.now shelf side lanes code }
     {
@@ -184,7 +187,7 @@ impl ScoreRows {
         self.rows[place] = chosen(mask, scores, self.rows[place]);
     }
 
-    /// The same scores once more.
+    /// A copy.
     ///
     /// # Errors
     ///

@@ -2,7 +2,8 @@
 use egt_board::Side;
 use egt_index::ShelfMen;
 
-/// A shelf of a class: its men with all squares of the last one, the side to move, and whether its positions have a target.
+/// A shelf of a class: its men with all squares of the last one, the side to move, and whether its positions have a
+/// target.
 #[derive(Clone, Copy)]
 pub struct Shelf {
     pub number: u32,

@@ -54,7 +54,8 @@ fn table_of<'a>(table: &'a Table, library: &'a Library, class: Class) -> &'a Tab
 fn entries_in(table: &Table, library: &Library, place: Place) -> ByMetric
     requires there { IsSome (beside (table_at library.now) table.now place.class) }
     requires below { place.index < size_of place.class }
-    ensures { (metric : Metric) (q : Setup) → IsPlaceOf place q → HasEntry (beside (table_at library.now) table.now) metric q (number_at result metric) }
+    ensures { (metric : Metric) (q : Setup) → IsPlaceOf place q →
+        HasEntry (beside (table_at library.now) table.now) metric q (number_at result metric) }
 {
     entries_at(table_of(table, library, place.class), place.index)
 }
@@ -209,7 +210,8 @@ fn reach_after(
     requires children { HasChildren (table_at library.now) table.now.class }
     requires reach_children { HasReachChildren (table_at library.now) table.now.class }
     requires men { AreMenOf position.now men.now }
-    ensures { (q : Setup) → Leads position.now chess_move.now q → HasReachEntry (beside (table_at library.now) table.now) q result }
+    ensures { (q : Setup) → Leads position.now chess_move.now q →
+        HasReachEntry (beside (table_at library.now) table.now) q result }
 {
     facts();
     let _side = position.side();

@@ -4,7 +4,8 @@ ghost use Rattle.egt_check.specs.Prelude.{other_side, turned_man, Setup, Side, I
 ghost use Rattle.egt_check.specs.Prelude.{AreMenOf, ShelfMen, IsOfficer, HasColumn, TableValue};
 ghost use Rattle.egt_check.specs.Prelude.{with_kings, AreKept, AreChildren, AreFourMen, AreTablesOf, IsOwnTable};
 ghost use Rattle.egt_check.specs.Prelude.{column_of, four_in, promotion_in, promotions_in, table_in, tables_in};
-ghost use Rattle.egt_check.specs.Prelude.{AreNamed, ArePromotionsOf, HasPromotion, HasPromotions, AreRuns, IsJudgedPair};
+ghost use Rattle.egt_check.specs.Prelude.{AreNamed, ArePromotionsOf, HasPromotion, HasPromotions, AreRuns};
+ghost use Rattle.egt_check.specs.Prelude.{IsJudgedPair};
 ghost use Rattle.egt_check.specs.Prelude.{IsPromotionOf, AreJudged, FourMen, men_swapped};
 ghost use Rattle.egt_check.specs.Prelude.{Tables, HasChildren, beside, table_at, HasBytes, column_score, Values};
 
@@ -42,9 +43,9 @@ pub fn with_kings(men: &ShelfMen, white: Square, black: Square) -> ShelfMen
     }
 }
 
-/// Whether all entries of the part keep the rules, of the shelves from this one on, one for each digit of the first man,
-/// with that side to move, and of those `half` further on, which have the same men and a target; 0 in a class without
-/// targets.
+/// Whether all entries of the part keep the rules, of the shelves from this one on, one for each digit of the first
+/// man, with that side to move, and of those `half` further on, which have the same men and a target; 0 in a class
+/// without targets.
 fn pair_is_right(
     moves: &Moves,
     first: u32,
@@ -56,10 +57,14 @@ fn pair_is_right(
 ) -> bool
     requires men { AreFourMen (column_of moves.now.part) moves.now.four.now moves.now.men.now }
     requires room { first + half + 64 < 4294967296 }
-    requires kept { AreKept moves.now.four.now.own.class (column_score moves.now.four.now.own) moves.now.men.now (other_side moves.now.side) keys.old blocks.old }
-    ensures kept { result ≡ true → AreKept moves.now.four.now.own.class (column_score moves.now.four.now.own) moves.now.men.now (other_side moves.now.side) keys.new blocks.new }
-    ensures judged { result ≡ true → (tables : Tables) → AreTablesOf (tables_in moves.now.part tables) (four_in moves.now.part moves.now.four.now) moves.now.men.now →
-        AreJudged moves.now.part tables moves.now.four.now.own moves.now.men.now first moves.now.side × AreJudged moves.now.part tables moves.now.four.now.own moves.now.men.now (first + half) moves.now.side }
+    requires kept { AreKept moves.now.four.now.own.class (column_score moves.now.four.now.own) moves.now.men.now
+        (other_side moves.now.side) keys.old blocks.old }
+    ensures kept { result ≡ true → AreKept moves.now.four.now.own.class
+        (column_score moves.now.four.now.own) moves.now.men.now (other_side moves.now.side) keys.new blocks.new }
+    ensures judged { result ≡ true → (tables : Tables) →
+        AreTablesOf (tables_in moves.now.part tables) (four_in moves.now.part moves.now.four.now) moves.now.men.now →
+        AreJudged moves.now.part tables moves.now.four.now.own moves.now.men.now first moves.now.side ×
+        AreJudged moves.now.part tables moves.now.four.now.own moves.now.men.now (first + half) moves.now.side }
 {
     let Some(here) = shelf_men(moves.four.own.class(), first) else {
         return false;
@@ -83,7 +88,8 @@ fn right_pairs(
     requires men { AreFourMen (column_of part) four.now men.now }
     requires few { pairs.now.kings ≤ 32 }
     requires room { 64 * pairs.now.kings * pairs.now.step + pairs.now.half + 64 < 4294967296 }
-    ensures { (tables : Tables) → AreTablesOf (tables_in part tables) (four_in part four.now) men.now → (pair : ℕ) → get_or result pair false ≡ true → IsJudgedPair part tables four.now.own men.now pairs.now side pair }
+    ensures { (tables : Tables) → AreTablesOf (tables_in part tables) (four_in part four.now) men.now → (pair : ℕ) →
+        get_or result pair false ≡ true → IsJudgedPair part tables four.now.own men.now pairs.now side pair }
 {
     let mut right = [false; MOST_PAIRS];
     let moves = Moves {
@@ -117,11 +123,12 @@ fn right_pairs(
     right
 }
 
-/// The codes of the class by pairs of kings' squares, and which of these were found right. `None` where its shelves do not
-/// go by them.
+/// The codes of the class by pairs of kings' squares, and which of these were found right. `None` where its shelves do
+/// not go by them.
 pub(crate) fn right_runs(four: &FourMen, men: &ShelfMen, part: Part) -> Option<Runs>
     requires men { AreFourMen (column_of part) four.now men.now }
-    ensures { (tables : Tables) → AreTablesOf (tables_in part tables) (four_in part four.now) men.now → IfSome result (AreRuns part tables four.now.own) }
+    ensures { (tables : Tables) → AreTablesOf (tables_in part tables) (four_in part four.now) men.now →
+        IfSome result (AreRuns part tables four.now.own) }
 {
     judged_pairs_hold_all_codes();
     let pairs = pairs_of(four.own.class(), men)?;
@@ -260,8 +267,8 @@ fn is_own_class(class: Class, men: &ShelfMen) -> bool
     own.number() == class.number() && !flips
 }
 
-/// The tables of the classes that these men's moves lead to when they leave their own, whose bytes tell their entries of
-/// the part. `None` where one of them is missing or does not, and where the class has other men.
+/// The tables of the classes that these men's moves lead to when they leave their own, whose bytes tell their entries
+/// of the part. `None` where one of them is missing or does not, and where the class has other men.
 #[tactic(auto, using(crate::proofs::VoidScores::part_voids))]
 pub fn children_of<'t>(
     library: &'t Library,
@@ -271,7 +278,8 @@ pub fn children_of<'t>(
 ) -> Option<Children<'t>>
     ensures of { IfSome result (λ children. AreChildren (column_of part) children men.now) }
     ensures four { IfSome result (λ children. (four : FourMen) → four.children ≡ children → IsOwnTable part class men.now four.own →
-        AreFourMen (column_of part) four men.now × AreTablesOf (tables_in part (beside (table_at library.now) four.own)) (four_in part four) men.now) }
+        AreFourMen (column_of part) four men.now ×
+        AreTablesOf (tables_in part (beside (table_at library.now) four.own)) (four_in part four) men.now) }
 {
     if is_king(men.one) || is_king(men.last) || !is_own_class(class, men) {
         return None;
@@ -294,8 +302,8 @@ pub fn children_of<'t>(
     })
 }
 
-/// The table of a class with these men, whose bytes tell its entries of the part, and those of its children. `None` where
-/// one of them is missing or does not tell, and where the class has other men.
+/// The table of a class with these men, whose bytes tell its entries of the part, and those of its children. `None`
+/// where one of them is missing or does not tell, and where the class has other men.
 pub(crate) fn four_men<'t>(
     table: &'t Table,
     library: &'t Library,
@@ -313,9 +321,9 @@ pub(crate) fn four_men<'t>(
     Some(beside_own(table, &children))
 }
 
-/// The codes of a class, and of which the entries of the mate column and of the zeroing column keep the rules: by blocks
-/// where two men stand beside the kings, by rows where one does. `None` of the kings alone, and where a table does not
-/// tell it by bytes.
+/// The codes of a class, and of which the entries of the mate column and of the zeroing column keep the rules: by
+/// blocks where two men stand beside the kings, by rows where one does. `None` of the kings alone, and where a table
+/// does not tell it by bytes.
 pub(crate) fn runs_by_blocks(table: &Table, library: &Library) -> Option<Runs>
     requires { HasChildren (table_at library.now) table.now.class }
     ensures { IfSome result (AreRuns Values (beside (table_at library.now) table.now) table.now) }

@@ -19,7 +19,8 @@ pub(crate) struct TableScores<'t> {
     pub(crate) table: &'t Table,
 }
 
-/// The scores of the codes that tell these men, by the square of the one beside the kings. The contract alone reads who they are.
+/// The scores of the codes that tell these men, by the square of the one beside the kings. The contract alone reads who
+/// they are.
 #[inline(always)]
 fn lone_row_of(
     table: &Table,
@@ -32,7 +33,9 @@ fn lone_row_of(
 ) -> Row
     requires there { HasColumn column table.now }
     requires lone { IsLoneRow table.now.class first white black man }
-    ensures { (s : ℕ) → s < 64 → IsRaised 0 (λ code. TellsMen false table.now.class code (lone_stand white black man s) side) (column_score table.now column) (slice_index result s) }
+    ensures { (s : ℕ) → s < 64 → IsRaised 0
+        (λ code. TellsMen false table.now.class code (lone_stand white black man s) side)
+        (column_score table.now column) (slice_index result s) }
 {
     codes_tell_turned_men();
     let first = first as usize;

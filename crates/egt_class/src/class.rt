@@ -3,8 +3,8 @@ ghost use Rattle.std.specs.Prelude.{◌≡◌, ◌<◌, ◌↔◌, IsSome, IfSom
 
 use std::marker::Model;
 
-/// A class of positions: those with the same men, colours exchanged or not. There are 36, for one king a side and up to two
-/// men beside them.
+/// A class of positions: those with the same men, colours exchanged or not. There are 36, for one king a side and up to
+/// two men beside them.
 #[derive(Clone, Copy, Debug, Default, PartialEq, Eq)]
 pub struct Class {
     number: u8,

@@ -39,8 +39,8 @@ fn child(at: usize) -> Class
     Class::at(number)
 }
 
-/// The classes other than this one that a legal move leads to: by a capture, a promotion or both. They ascend, and all have
-/// smaller numbers.
+/// The classes other than this one that a legal move leads to: by a capture, a promotion or both. They ascend, and all
+/// have smaller numbers.
 pub fn children(class: Class) -> ArrayVec<Class, 9>
     ensures { result.items ≡ children_of class }
 {

@@ -14,7 +14,8 @@ pub fn names_tell_classes()
 
 /// Both sides have the same men where they have as many of each kind.
 pub fn equal_sides_have_the_same_men()
-    ensures { (c : ℕ) → c < 36 → IsTrue (has_equal_sides c) ↔ ((kind : Kind) → men_in c White kind ≡ men_in c Black kind) }
+    ensures { (c : ℕ) → c < 36 → IsTrue (has_equal_sides c) ↔
+        ((kind : Kind) → men_in c White kind ≡ men_in c Black kind) }
 {}
 
 /// Each position is of some class.

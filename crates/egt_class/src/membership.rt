@@ -7,8 +7,8 @@ use crate::class::Class;
 use egt_board::counting::{one_king_is_counted, one_square_changes};
 use egt_board::{Kind, Man, Position, Side, Square};
 
-/// The class by the two men beside the kings: eleven rows for the one man, of eleven for the other: for no man, for White's
-/// queen, rook, bishop, knight and pawn, and for Black's.
+/// The class by the two men beside the kings: eleven rows for the one man, of eleven for the other: for no man, for
+/// White's queen, rook, bishop, knight and pawn, and for Black's.
 static NUMBERS: [u8; 121] = [
     0, 1, 2, 3, 4, 5, 1, 2, 3, 4, 5, 1, 6, 7, 8, 9, 26, 16, 17, 18, 19, 30, 2, 7, 10, 11, 12, 27,
     17, 20, 21, 22, 31, 3, 8, 11, 13, 14, 28, 18, 21, 23, 24, 32, 4, 9, 12, 14, 15, 29, 19, 22, 24,
@@ -84,7 +84,8 @@ fn class_of_pair(first: usize, second: usize) -> (Class, bool)
     (Class::at(number), flipped)
 }
 
-/// The class of every position with these men beside the kings, in whatever order, and whether colours are to be flipped there.
+/// The class of every position with these men beside the kings, in whatever order, and whether colours are to be
+/// flipped there.
 #[inline(always)]
 pub fn of_men(one: Option<Man>, other: Option<Man>) -> (Class, bool)
     ensures class { (p : Setup) → AreNonKings p one other → IsOf result.0 result.1 p }
@@ -93,8 +94,8 @@ pub fn of_men(one: Option<Man>, other: Option<Man>) -> (Class, bool)
     class_of_pair(slot(one), slot(other))
 }
 
-/// The class of a position, and whether colours are to be flipped for White to be the side that the name gives first; never so
-/// where both sides have the same men.
+/// The class of a position, and whether colours are to be flipped for White to be the side that the name gives first;
+/// never so where both sides have the same men.
 pub fn of(position: &Position) -> (Class, bool)
     ensures class { IsOf result.0 result.1 position.now }
     ensures unflipped { IsTrue (has_equal_sides result.0) → result.1 ≡ false }

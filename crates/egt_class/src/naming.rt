@@ -31,7 +31,8 @@ fn push_letter(name: &mut ArrayString<4>, letter: u8)
     name.push(char::from(letter));
 }
 
-/// The class's name: the letters of the men of the side named first, its king foremost, and then of the other side's men.
+/// The class's name: the letters of the men of the side named first, its king foremost, and then of the other side's
+/// men.
 pub fn name(class: Class) -> ArrayString<4>
     ensures { result.bytes ≡ name_of class }
 {

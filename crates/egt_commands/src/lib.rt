@@ -1,4 +1,5 @@
-//! The commands of `egtb` that neither build nor probe: what they print of positions and of the tables in a folder's files, and what ends a run.
+//! The commands of `egtb` that neither build nor probe: what they print of positions and of the tables in a folder's
+//! files, and what ends a run.
 #![tactic(auto)]
 
 pub mod check;

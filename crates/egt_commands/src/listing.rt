@@ -36,8 +36,8 @@ fn lines(alloc: Global) -> Result<Vec<u8>, AllocError>
     Ok(text)
 }
 
-/// All classes in order of their numbers, each as its number, its name and the number of its codes, with a line feed after each:
-/// `14 KBNK 5242880`.
+/// All classes in order of their numbers, each as its number, its name and the number of its codes, with a line feed
+/// after each: `14 KBNK 5242880`.
 ///
 /// # Errors
 ///

@@ -8,7 +8,8 @@ use egt_table::{Column, FileFault};
 use std::alloc::AllocError;
 use std::fmt;
 
-/// What ends a run, but for a table that was not built. Its `Display` is the line that is printed, without the line feed.
+/// What ends a run, but for a table that was not built. Its `Display` is the line that is printed, without the line
+/// feed.
 #[derive(Clone, Copy, Debug, PartialEq, Eq)]
 pub enum RunFault {
     /// The FEN was refused, with its first fault.

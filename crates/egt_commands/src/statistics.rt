@@ -20,7 +20,8 @@ pub struct Statistics {
     pub longest_win: Option<u16>,
     /// The most plies of a loss, if there is one.
     pub longest_loss: Option<u16>,
-    /// How many positions are dead (FIDE Laws of Chess 2023, article 5.2.2), stalemates counted, where the table has the column of the nearest mates.
+    /// How many positions are dead (FIDE Laws of Chess 2023, article 5.2.2), stalemates counted, where the table has
+    /// the column of the nearest mates.
     pub dead: Option<u32>,
 }
 

@@ -72,8 +72,9 @@ fn lines(alloc: Global, class: Class, statistics: &Statistics) -> Result<Vec<u8>
     Ok(text)
 }
 
-/// What the table says in all, as nine lines: `class`, `entries`, `void`, `draws`, `wins`, `losses`, `longest win`, `longest loss` and `dead`, each with
-/// a space, its value and a line feed; the value is `-` where there is no win, no loss or no column of the nearest mates.
+/// What the table says in all, as nine lines: `class`, `entries`, `void`, `draws`, `wins`, `losses`, `longest win`,
+/// `longest loss` and `dead`, each with a space, its value and a line feed; the value is `-` where there is no win, no
+/// loss or no column of the nearest mates.
 ///
 /// # Errors
 ///

@@ -47,7 +47,8 @@ pub(crate) fn count(table: &Table, column: Column, shown: Shown) -> u32
     count
 }
 
-/// How many positions are dead, where the table has the column of the nearest mates: their entry there is that of a draw elsewhere.
+/// How many positions are dead, where the table has the column of the nearest mates: their entry there is that of a
+/// draw elsewhere.
 pub(crate) fn dead(table: &Table) -> Option<u32>
     ensures { result ≡ option_map (count_by (shows kinds.Draw)) table.now.reach }
 {

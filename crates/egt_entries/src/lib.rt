@@ -1,5 +1,5 @@
-//! The rules that entries of tables are judged by, what entries show, and why a table is refused; apart, so that these proofs run beside those of
-//! egt_steps and egt_blocks.
+//! The rules that entries of tables are judged by, what entries show, and why a table is refused; apart, so that these
+//! proofs run beside those of egt_steps and egt_blocks.
 #![tactic(auto)]
 
 pub mod by_metric;

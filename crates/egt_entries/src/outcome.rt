@@ -49,8 +49,8 @@ pub fn is_decisive(entry: u16) -> bool
     2 < entry && entry <= 2 * LONGEST + 3
 }
 
-/// The score of a step that says what this entry shows, which is a win or a loss: the sooner a loss comes, the higher; wins come below,
-/// the later the higher.
+/// The score of a step that says what this entry shows, which is a win or a loss: the sooner a loss comes, the higher;
+/// wins come below, the later the higher.
 fn decisive_score(entry: u16) -> u16
     requires long { 2 < entry }
     requires short { entry ≤ 64003 }
@@ -75,7 +75,8 @@ pub fn mate_score(entry: u16) -> u16
 
 /// The score, in the zeroing column, of a step to a position with these entries.
 pub fn zeroing_score(mate: u16, zeroing: u16, zeroes: bool) -> u16
-    ensures { (said other : Option Outcome) → IsShownBy mate said → IsShownBy zeroing other → result ≡ score_of (zeroing_said said other zeroes) }
+    ensures { (said other : Option Outcome) → IsShownBy mate said → IsShownBy zeroing other →
+        result ≡ score_of (zeroing_said said other zeroes) }
 {
     if !is_decisive(mate) {
         return UNKNOWN;

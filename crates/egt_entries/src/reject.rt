@@ -8,7 +8,8 @@ use egt_table::Column;
 pub enum Reject {
     /// The table of this class, the least of the children that have none, is not there.
     Missing(Class),
-    /// The table has the column of the nearest mates, and the table of this class, the least of such children, lacks it.
+    /// The table has the column of the nearest mates, and the table of this class, the least of such children, lacks
+    /// it.
     NoReach(Class),
     /// In the first column that has a bad entry, the least index of one, and the first rule that it breaks.
     Rejected {

@@ -16,7 +16,8 @@ pub fn one_meaning()
 
 /// A text has one first fault at most, and none where it spells a position.
 pub fn one_fault()
-    ensures only { (text : List ℕ) (one other : FenFault) → IsFirstFault text one → IsFirstFault text other → one ≡ other }
+    ensures only { (text : List ℕ) (one other : FenFault) → IsFirstFault text one → IsFirstFault text other →
+        one ≡ other }
     ensures none { (text : List ℕ) (fen : Fen) (fault : FenFault) → Spells text fen → IsFirstFault text fault → ⊥ }
 {}
 

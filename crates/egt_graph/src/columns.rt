@@ -1,5 +1,6 @@
 //! One step of retrograde analysis over plain columns: an entry and a counter a node.
-ghost use Rattle.std.specs.Prelude.{◌≡◌, ◌==◌, true, false, ℕ, ◌+◌, ◌-◌, ◌<◌, ◌≤◌, length, slice_index, slice_set, All, MatchBool, IsTrue, IsFalse};
+ghost use Rattle.std.specs.Prelude.{◌≡◌, ◌==◌, true, false, ℕ, ◌+◌, ◌-◌, ◌<◌, ◌≤◌, length, slice_index, slice_set, All};
+ghost use Rattle.std.specs.Prelude.{MatchBool, IsTrue, IsFalse};
 ghost use Rattle.egt_graph.specs.Columns.{decided, Marks, TakesBack, count_of, is_open, is_open_at};
 
 /// The entry of a node that is not decided.

@@ -1,5 +1,7 @@
 //! Laws over the definitions alone. Each is the contract of a function that does nothing.
-ghost use Rattle.egt_graph.specs.Due.{DueEntriesAreAsDeep, DueEntriesAreAsFar, DueEntriesAreNears, DueEntriesAreNumbers, DueEntriesAreRanks, DueEntriesAreValues, DueNumbersStay, DueValuesStay};
+ghost use Rattle.egt_graph.specs.Due.{DueEntriesAreAsDeep, DueEntriesAreAsFar, DueEntriesAreNears};
+ghost use Rattle.egt_graph.specs.Due.{DueEntriesAreNumbers, DueEntriesAreRanks, DueEntriesAreValues, DueNumbersStay};
+ghost use Rattle.egt_graph.specs.Due.{DueValuesStay};
 ghost use Rattle.egt_graph.specs.Events.{EventsLeave, EachRoundIsOfItsRank, FinishedRunsAgree};
 ghost use Rattle.egt_graph.specs.Laws.{MorePliesDoNoHarm, EachNodeHasOneValue};
 
@@ -30,8 +32,8 @@ pub fn finished_runs_agree()
     ensures { FinishedRunsAgree }
 {}
 
-/// Entries that are due at every node, each by the best of its node's successors, are the ranks, by whatever way they were found;
-/// an entry past a limit tells of a rank above it.
+/// Entries that are due at every node, each by the best of its node's successors, are the ranks, by whatever way they
+/// were found; an entry past a limit tells of a rank above it.
 pub fn entries_that_are_due_are_the_ranks()
     ensures values { DueEntriesAreValues }
     ensures ranks { DueEntriesAreRanks }

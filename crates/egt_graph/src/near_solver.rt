@@ -34,8 +34,9 @@ fn nears_of(run: Nearing) -> Nears
     Nears::from_entries(entries)
 }
 
-/// How far the nearest mate is from every node by moves of both sides; a mated node has 0, and a position outside counts as the number of its
-/// value. It goes backward from the mates, ply by ply: the game is asked for the moves into a node once, and for no moves out of one.
+/// How far the nearest mate is from every node by moves of both sides; a mated node has 0, and a position outside
+/// counts as the number of its value. It goes backward from the mates, ply by ply: the game is asked for the moves into
+/// a node once, and for no moves out of one.
 ///
 /// # Errors
 ///

@@ -11,7 +11,8 @@ use crate::schedule::Schedule;
 use arrayvec::ArrayVec;
 use std::alloc::{AllocError, Global};
 
-/// The numbers that are known so far, each as the entry of a win in so many plies is, and the nodes by the numbers of their exits.
+/// The numbers that are known so far, each as the entry of a win in so many plies is, and the nodes by the numbers of
+/// their exits.
 #[derive(Drop)]
 pub(crate) struct Nearing {
     pub(crate) entries: Vec<u16>,

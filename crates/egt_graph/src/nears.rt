@@ -1,8 +1,8 @@
 //! One entry a node: how far the nearest mate is.
 use std::marker::Model;
 
-/// How far the nearest mate is from a game's nodes by moves of both sides, one entry a node: 0 void, 1 none, `2 + n` where it is n plies away,
-/// n at most 32,000.
+/// How far the nearest mate is from a game's nodes by moves of both sides, one entry a node: 0 void, 1 none, `2 + n`
+/// where it is n plies away, n at most 32,000.
 #[derive(Drop)]
 pub struct Nears {
     entries: Vec<u16>,

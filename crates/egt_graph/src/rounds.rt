@@ -169,8 +169,8 @@ impl<'g, G: Game> Rounds<'g, G> {
         is_block_front(&self.entries, batch.block(), self.round, batch.nodes())
     }
 
-    /// Ends the round once each block was posted: the exits of its number fall due, and either the next round begins, or
-    /// the run has ended. It has where no node has a rank above the round, or where the round is the limit.
+    /// Ends the round once each block was posted: the exits of its number fall due, and either the next round begins,
+    /// or the run has ended. It has where no node has a rank above the round, or where the round is the limit.
     pub fn close(&mut self) -> Close
         ensures same_game { self.new.game ≡ self.old.game }
         ensures closes { Closes (G.graph self.old.game) self.old.state result self.new.state }

@@ -1,5 +1,6 @@
 //! The scan for the nodes of a round.
-ghost use Rattle.std.specs.Prelude.{◌≡◌, ◌↔◌, ℕ, ◌+◌, ◌*◌, ◌^◌, ◌<◌, ◌≤◌, length, map, slice_index, All, IsTrue, IsFalse, IfOk};
+ghost use Rattle.std.specs.Prelude.{◌≡◌, ◌↔◌, ℕ, ◌+◌, ◌*◌, ◌^◌, ◌<◌, ◌≤◌, length, map, slice_index, All, IsTrue};
+ghost use Rattle.std.specs.Prelude.{IsFalse, IfOk};
 ghost use Rattle.std.specs.Bool.{OnTrue};
 ghost use Rattle.egt_graph.specs.Frontier.{frontier_of, frontier_below, is_entry_of_round, entry_front};
 

@@ -1,5 +1,6 @@
 //! Nodes by the round in which something falls due for them.
-ghost use Rattle.std.specs.Prelude.{◌≡◌, ◌==◌, ℕ, ◌<◌, ◌≤◌, ◌++◌, ◌∷◌, [], length, map, slice_index_or, OnOk, IsFalse, if◌then◌else◌};
+ghost use Rattle.std.specs.Prelude.{◌≡◌, ◌==◌, ℕ, ◌<◌, ◌≤◌, ◌++◌, ◌∷◌, [], length, map, slice_index_or, OnOk, IsFalse};
+ghost use Rattle.std.specs.Prelude.{if◌then◌else◌};
 
 use std::alloc::{AllocError, Global};
 use std::marker::Model;

@@ -7,8 +7,8 @@ use crate::batch::Batch;
 use crate::columns::{any_open, count_down, mark_wins, take_back};
 use crate::game::Game;
 
-/// Takes back the moves into the nodes of a batch, and ticks its block. `_game` is the game that the columns are of: the
-/// contract alone reads it.
+/// Takes back the moves into the nodes of a batch, and ticks its block. `_game` is the game that the columns are of:
+/// the contract alone reads it.
 pub(crate) fn take_in<G: Game>(
     _game: &G,
     entries: &mut [u16],

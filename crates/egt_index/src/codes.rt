@@ -26,7 +26,8 @@ fn behind(number: u32, man: Man, square: Square) -> u32
 /// The number with the digit of the man, if there is one, behind it.
 fn entry_behind(number: u32, entry: Option<(Man, Square)>) -> u32
     requires { number < 2 ^ 24 }
-    ensures tells { HasDigit entry → (pawns : Bool) → Tells pawns result (men_among (option_to_list entry)) number (option_to_list entry) }
+    ensures tells { HasDigit entry → (pawns : Bool) →
+        Tells pawns result (men_among (option_to_list entry)) number (option_to_list entry) }
     ensures few { result < (number + 1) * 64 }
 {
     match entry {

@@ -31,7 +31,8 @@ fn settled_position(class: Class, code: u32) -> Option<Position>
     }
 }
 
-/// The settled position that the code spells; `None` where the code is no position's index, and so from the class's size on.
+/// The settled position that the code spells; `None` where the code is no position's index, and so from the class's
+/// size on.
 pub fn position(class: Class, code: u32) -> Option<Position>
     ensures spells { IfSome result (λ p. Spells class code p) }
     ensures settled { IfSome result IsSettled }

@@ -1,5 +1,5 @@
-//! What the men before the last one tell of all codes that differ by no more than his square, the side to move and the target: such
-//! codes follow one another.
+//! What the men before the last one tell of all codes that differ by no more than his square, the side to move and the
+//! target: such codes follow one another.
 ghost use Rattle.std.specs.Prelude.{◌≡◌, IfSome, IfNone};
 ghost use Rattle.egt_index.specs.Prelude.{IsFirstOfTwo, IsFront, IsFrontOf, SpellsNothing};
 
@@ -21,7 +21,8 @@ pub(crate) struct Front {
     pub(crate) tied: bool,
 }
 
-/// The men before the last one who have these digits, whether codes are least or not. `None` where no code with them spells a position.
+/// The men before the last one who have these digits, whether codes are least or not. `None` where no code with them
+/// spells a position.
 pub(crate) fn spelled_front(class: Class, number: u32) -> Option<Front>
     ensures some { IfSome result (IsFront class number) }
     ensures none { IfNone result (SpellsNothing class number) }
@@ -42,7 +43,8 @@ pub(crate) fn spelled_front(class: Class, number: u32) -> Option<Front>
     })
 }
 
-/// The first man of the class with his square, where the last man is another: his digit comes behind those of the kings.
+/// The first man of the class with his square, where the last man is another: his digit comes behind those of the
+/// kings.
 fn first_of_two(class: Class, next: Option<(Man, Square)>) -> Option<(Man, Square)>
     ensures first { IfSome result (λ e. IsFirstOfTwo class e.0) }
     ensures is { IfSome result (λ e. next ≡ Some e) }
@@ -56,7 +58,8 @@ fn first_of_two(class: Class, next: Option<(Man, Square)>) -> Option<(Man, Squar
     }
 }
 
-/// The men before the last one who have these digits, with what they tell; `None` where no code with these men is a position's index.
+/// The men before the last one who have these digits, with what they tell; `None` where no code with these men is a
+/// position's index.
 pub(crate) fn front_of(class: Class, number: u32) -> Option<Front>
     ensures { IsFrontOf class number result }
 {

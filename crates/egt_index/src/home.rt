@@ -4,7 +4,8 @@ ghost use Rattle.egt_index.specs.Prelude.{king_square, AreHome, king_base};
 
 use egt_board::Square;
 
-/// The first such turn for each square of a king: without pawns, without and with colours exchanged, and then with pawns.
+/// The first such turn for each square of a king: without pawns, without and with colours exchanged, and then with
+/// pawns.
 static FIRST: [u8; 256] = [
     0, 0, 0, 0, 1, 1, 1, 1, 4, 0, 0, 0, 1, 1, 1, 5, 4, 4, 0, 0, 1, 1, 5, 5, 4, 4, 4, 0, 1, 5, 5, 5,
     6, 6, 6, 2, 3, 7, 7, 7, 6, 6, 2, 2, 3, 3, 7, 7, 6, 2, 2, 2, 3, 3, 3, 7, 2, 2, 2, 2, 3, 3, 3, 3,
@@ -61,10 +62,11 @@ pub fn home(pawns: bool, flips: bool, king: Square) -> (u8, Option<u8>)
     }
 }
 
-/// The turn, beside the one that changes nothing, that leaves the king at home who is there, in the same colours: it exchanges files
-/// and ranks, where he stands on the long diagonal.
+/// The turn, beside the one that changes nothing, that leaves the king at home who is there, in the same colours: it
+/// exchanges files and ranks, where he stands on the long diagonal.
 pub(crate) fn still_home(pawns: bool, king: Square) -> Option<u8>
-    ensures home { (digit : ℕ) → digit < king_base pawns → king_square pawns digit ≡ king → AreHome pawns false king 0 result }
+    ensures home { (digit : ℕ) → digit < king_base pawns → king_square pawns digit ≡ king →
+        AreHome pawns false king 0 result }
     ensures below { IfSome result (λ turn. turn < 16) }
 {
     if !pawns & (king.file() == king.rank()) {

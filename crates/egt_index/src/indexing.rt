@@ -23,7 +23,8 @@ fn side_after(side: Side, flips: bool) -> Side
 /// The least code of what the turn makes of a settled position with these men of the class, if it has one.
 fn code_after(class: Class, stand: &Stand, side: Side, passed: bool, turn: u8) -> Option<u32>
     requires { turn < 16 }
-    ensures { (p : Setup) → HasStand class (turn / 8 == 1) stand.now side passed p → KeepsPlay (turn % 8) p.men → CodeAfter class p turn result }
+    ensures { (p : Setup) → HasStand class (turn / 8 == 1) stand.now side passed p → KeepsPlay (turn % 8) p.men →
+        CodeAfter class p turn result }
 {
     facts();
     let _number = class.number();
@@ -47,8 +48,8 @@ fn lesser(least: Option<u32>, code: Option<u32>) -> Option<u32>
     }
 }
 
-/// The least code of what the turns that exchange colours, or those that do not, make of a settled position of the class. Only one
-/// or two of them bring the white king to a square of his digit.
+/// The least code of what the turns that exchange colours, or those that do not, make of a settled position of the
+/// class. Only one or two of them bring the white king to a square of his digit.
 fn least_with(class: Class, stand: &Stand, side: Side, passed: bool, flips: bool) -> Option<u32>
     ensures { (p : Setup) → HasStand class flips stand.now side passed p → LeastWith class p flips result }
 {
@@ -85,7 +86,8 @@ fn least_of_both(
 
 /// The least code of all images of a settled position of the class.
 fn least_standing(class: Class, standing: &Standing, side: Side, passed: bool) -> Option<u32>
-    ensures { (p : Setup) → HasStand class standing.now.flipped standing.now.stand side passed p → Best class p 16 result }
+    ensures { (p : Setup) → HasStand class standing.now.flipped standing.now.stand side passed p →
+        Best class p 16 result }
 {
     facts();
     let _number = class.number();
@@ -118,8 +120,8 @@ pub fn index(class: Class, position: &Position) -> u32
     least_standing(class, &standing, side, passed).unwrap()
 }
 
-/// The class of a position without a target and its index there, by its men alone: the kings' squares, the men beside the kings, in
-/// whatever order, and the side to move.
+/// The class of a position without a target and its index there, by its men alone: the kings' squares, the men beside
+/// the kings, in whatever order, and the side to move.
 pub fn indexed_by_men(
     white: Square,
     black: Square,
@@ -127,7 +129,8 @@ pub fn indexed_by_men(
     other: Option<(Man, Square)>,
     side: Side,
 ) -> (Class, u32)
-    requires { (p : Setup) × IsAdmissible p × HasAllMen p.men white black one other × (p.side ≡ side) × (p.target ≡ None) }
+    requires { (p : Setup) × IsAdmissible p × HasAllMen p.men white black one other × (p.side ≡ side) ×
+        (p.target ≡ None) }
     ensures { (p : Setup) → IsAdmissible p → HasAllMen p.men white black one other → p.side ≡ side → p.target ≡ None →
         ((flipped : Bool) × IsOf result.0 flipped p) × IsIndex result.0 p result.1 }
 {

@@ -20,7 +20,8 @@ pub fn spelled_positions_are_of_the_class()
 
 /// Each position of a class has one index, which is below the class's size.
 pub fn every_position_has_one_index()
-    ensures some { (p : Setup) (c : ℕ) (flipped : Bool) → c < 36 → IsAdmissible p → IsOf c flipped p → (i : ℕ) × IsIndex c p i }
+    ensures some { (p : Setup) (c : ℕ) (flipped : Bool) → c < 36 → IsAdmissible p → IsOf c flipped p →
+        (i : ℕ) × IsIndex c p i }
     ensures one { (p : Setup) (c i j : ℕ) → IsAdmissible p → IsIndex c p i → IsIndex c p j → i ≡ j }
     ensures below { (p : Setup) (c i : ℕ) → IsIndex c p i → i < size_of c }
 {
@@ -51,44 +52,55 @@ pub fn a_code_is_an_index_or_void()
 
 /// No pawn stands in a position of a class without pawns.
 pub fn a_class_without_pawns_has_none()
-    ensures { (c : ℕ) (flipped : Bool) (p : Setup) → IsAdmissible p → IsOf c flipped p → has_pawns (material_of c) ≡ false → HasNoPawn p.men }
+    ensures { (c : ℕ) (flipped : Bool) (p : Setup) → IsAdmissible p → IsOf c flipped p →
+        has_pawns (material_of c) ≡ false → HasNoPawn p.men }
 {
     facts();
 }
 
 /// A settled position that a code spells has the men that the code tells.
 pub fn codes_tell_their_men()
-    ensures { (passed : Bool) (c code : ℕ) (p : Setup) (stand : Stand) (side : Side) → c < 36 → Spells c code p → IsSettled p → TellsMen passed c code stand side → HasStand c false stand side passed p }
+    ensures { (passed : Bool) (c code : ℕ) (p : Setup) (stand : Stand) (side : Side) → c < 36 → Spells c code p →
+        IsSettled p → TellsMen passed c code stand side → HasStand c false stand side passed p }
 {
     facts();
 }
 
-/// Each code of a class has a number, which stands for it alone; the positions of the upper half of all shelves have a target, and no others; and what an
-/// index spells is settled, so that its number stands for that.
+/// Each code of a class has a number, which stands for it alone; the positions of the upper half of all shelves have a
+/// target, and no others; and what an index spells is settled, so that its number stands for that.
 pub fn numbers_stand_for_codes()
     ensures code { (c code : ℕ) → c < 36 → code < size_of c → code_of c (number_of c code) ≡ code }
     ensures within { (c code : ℕ) → c < 36 → code < size_of c → number_of c code < size_of c }
     ensures below { (c n : ℕ) → c < 36 → code_of c n < size_of c → n < size_of c }
     ensures coded { (c n : ℕ) → c < 36 → n < size_of c → code_of c n < size_of c }
     ensures number { (c n : ℕ) → c < 36 → n < size_of c → number_of c (code_of c n) ≡ n }
-    ensures halves { (c shelf : ℕ) (men : ShelfMen) (is : IsShelf c shelf men) → c < 36 → has_target (material_of c) ≡ true → (is.passed ≡ true) ↔ (half_of c ≤ shelf * (2 * places c)) }
-    ensures indexes_are_settled { (c i : ℕ) (p q : Setup) → IsAdmissible p → IsIndex c p i → Spells c i q → IsSettled q }
+    ensures halves { (c shelf : ℕ) (men : ShelfMen) (is : IsShelf c shelf men) → c < 36 →
+        has_target (material_of c) ≡ true → (is.passed ≡ true) ↔ (half_of c ≤ shelf * (2 * places c)) }
+    ensures indexes_are_settled { (c i : ℕ) (p q : Setup) → IsAdmissible p → IsIndex c p i → Spells c i q →
+        IsSettled q }
 {
     facts();
 }
 
-/// One code tells men on their squares, pawns on neither the first rank nor the last. The index of a position with these men is a code that tells them where
-/// a turn takes them, and a target where the position has one; and what any such code spells is an image of each position with these men. There is one if no
-/// target was passed, or what the code spells is settled.
+/// One code tells men on their squares, pawns on neither the first rank nor the last. The index of a position with
+/// these men is a code that tells them where a turn takes them, and a target where the position has one; and what any
+/// such code spells is an image of each position with these men. There is one if no target was passed, or what the code
+/// spells is settled.
 pub fn codes_tell_turned_men()
-    ensures one { (passed : Bool) (c x y : ℕ) (stand : Stand) (side : Side) → TellsMen passed c x stand side → TellsMen passed c y stand side → x ≡ y }
-    ensures pawns { (passed : Bool) (c code : ℕ) (stand : Stand) (side : Side) (man : Man) (s : ℕ) → TellsMen passed c code stand side → IsListed (list_of stand) man s → MayStand man s }
-    ensures index { (passed : Bool) (c i : ℕ) (flips : Bool) (stand : Stand) (side : Side) (q : Setup) → c < 36 → IsFilled stand → HasStand c flips stand side passed q → IsIndex c q i →
+    ensures one { (passed : Bool) (c x y : ℕ) (stand : Stand) (side : Side) → TellsMen passed c x stand side →
+        TellsMen passed c y stand side → x ≡ y }
+    ensures pawns { (passed : Bool) (c code : ℕ) (stand : Stand) (side : Side) (man : Man) (s : ℕ) →
+        TellsMen passed c code stand side → IsListed (list_of stand) man s → MayStand man s }
+    ensures index { (passed : Bool) (c i : ℕ) (flips : Bool) (stand : Stand) (side : Side) (q : Setup) → c < 36 →
+        IsFilled stand → HasStand c flips stand side passed q → IsIndex c q i →
         IsSomeTurnedCodeWith passed c i flips stand side }
-    ensures images { (passed : Bool) (c code : ℕ) (flips : Bool) (stand : Stand) (side : Side) (q r : Setup) → c < 36 → HasStand c flips stand side passed q →
+    ensures images { (passed : Bool) (c code : ℕ) (flips : Bool) (stand : Stand) (side : Side) (q r : Setup) → c < 36 →
+        HasStand c flips stand side passed q →
         IsSomeTurnedCodeWith passed c code flips stand side → Spells c code r → AreImages q r }
-    ensures there { (passed : Bool) (c code : ℕ) (flips : Bool) (stand : Stand) (side : Side) (r : Setup) → c < 36 → AreOnBoard stand → IsSomeTurnedCodeWith passed c code flips stand side →
-        Spells c code r → (passed ≡ true → IsSettled r) → (q : Setup) × HasStand c flips stand side passed q × AreImages q r }
+    ensures there { (passed : Bool) (c code : ℕ) (flips : Bool) (stand : Stand) (side : Side) (r : Setup) → c < 36 →
+        AreOnBoard stand → IsSomeTurnedCodeWith passed c code flips stand side →
+        Spells c code r → (passed ≡ true → IsSettled r) →
+        (q : Setup) × HasStand c flips stand side passed q × AreImages q r }
 {
     facts();
 }

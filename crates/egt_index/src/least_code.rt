@@ -1,5 +1,5 @@
-//! Whether codes are the least of all images of the positions that they spell, as the kings and the first man tell: their digits are the
-//! highest.
+//! Whether codes are the least of all images of the positions that they spell, as the kings and the first man tell:
+//! their digits are the highest.
 ghost use Rattle.std.specs.Prelude.{◌≡◌, ◌⊎◌, ◌+◌, ◌*◌, ◌<◌, true, false, if◌then◌else◌, IfSome};
 ghost use Rattle.egt_index.specs.Prelude.{has_equal_sides, AllSpelled, HasFront, HasKingsOn, IfMoved, IsBeaten};
 ghost use Rattle.egt_index.specs.Prelude.{IsFirstOfTwo, KeepsWith, TurnBeats, TurnKeeps, IsIndex, IsInOrder, Stand};
@@ -13,7 +13,8 @@ use crate::turning::turned_square;
 use egt_board::{Man, Square};
 use egt_class::Class;
 
-/// What images tell of all codes that spell a position with the kings, and the first man where he is known, on the same squares.
+/// What images tell of all codes that spell a position with the kings, and the first man where he is known, on the same
+/// squares.
 #[derive(Clone, Copy)]
 pub(crate) enum Leastness {
     /// Some image has a lesser code.
@@ -51,7 +52,8 @@ fn both(one: Leastness, other: Leastness) -> Leastness
     }
 }
 
-/// What the image tells that has the kings on the same squares: in the same colours another square of the first man decides.
+/// What the image tells that has the kings on the same squares: in the same colours another square of the first man
+/// decides.
 fn leastness_by_first(first: Option<(Man, Square)>, turn: u8) -> Leastness
     requires { turn < 16 }
     ensures beaten { result ≡ Beaten → IfMoved first turn (λ before after. after < before) }
@@ -71,8 +73,8 @@ fn leastness_by_first(first: Option<(Man, Square)>, turn: u8) -> Leastness
     }
 }
 
-/// What the image tells that the turn, which brings a king home, makes of a settled position: other squares of the kings decide,
-/// and then another square of the first man, where he is known.
+/// What the image tells that the turn, which brings a king home, makes of a settled position: other squares of the
+/// kings decide, and then another square of the first man, where he is known.
 fn leastness_after(
     class: Class,
     white: Square,
@@ -106,8 +108,10 @@ fn leastness_straight(
     first: Option<(Man, Square)>,
 ) -> Leastness
     requires { IfSome first (λ e. IsFirstOfTwo class e.0) }
-    ensures beats { result ≡ Beaten → (stand : Stand) → HasFront white black first stand → AllSpelled class stand (IsBeaten class) }
-    ensures keeps { result ≡ Least → (stand : Stand) → HasFront white black first stand → IsInOrder stand.next stand.last → AllSpelled class stand (λ p code. KeepsWith class p false code) }
+    ensures beats { result ≡ Beaten → (stand : Stand) → HasFront white black first stand →
+        AllSpelled class stand (IsBeaten class) }
+    ensures keeps { result ≡ Least → (stand : Stand) → HasFront white black first stand →
+        IsInOrder stand.next stand.last → AllSpelled class stand (λ p code. KeepsWith class p false code) }
 {
     facts();
     let _number = class.number();
@@ -120,8 +124,10 @@ fn leastness_straight(
 /// What the images in exchanged colours tell, of a class whose sides have the same men.
 fn leastness_exchanged(class: Class, white: Square, black: Square) -> Leastness
     requires { has_equal_sides class ≡ true }
-    ensures beats { result ≡ Beaten → (stand : Stand) → HasKingsOn white black stand → AllSpelled class stand (IsBeaten class) }
-    ensures keeps { result ≡ Least → (stand : Stand) → HasKingsOn white black stand → AllSpelled class stand (λ p code. KeepsWith class p true code) }
+    ensures beats { result ≡ Beaten → (stand : Stand) → HasKingsOn white black stand →
+        AllSpelled class stand (IsBeaten class) }
+    ensures keeps { result ≡ Least → (stand : Stand) → HasKingsOn white black stand →
+        AllSpelled class stand (λ p code. KeepsWith class p true code) }
 {
     facts();
     let _number = class.number();
@@ -133,8 +139,8 @@ fn leastness_exchanged(class: Class, white: Square, black: Square) -> Leastness
     }
 }
 
-/// What the images tell of the codes that spell settled positions with the kings on these squares, and the first man on his where he is
-/// known, where equal men stand in order.
+/// What the images tell of the codes that spell settled positions with the kings on these squares, and the first man on
+/// his where he is known, where equal men stand in order.
 pub(crate) fn leastness_in_order(
     class: Class,
     white: Square,
@@ -142,8 +148,10 @@ pub(crate) fn leastness_in_order(
     first: Option<(Man, Square)>,
 ) -> Leastness
     requires { IfSome first (λ e. IsFirstOfTwo class e.0) }
-    ensures beaten { result ≡ Beaten → (stand : Stand) → HasFront white black first stand → AllSpelled class stand (λ p code. ¬ IsIndex class p code) }
-    ensures least { result ≡ Least → (stand : Stand) → HasFront white black first stand → IsInOrder stand.next stand.last → AllSpelled class stand (IsIndex class) }
+    ensures beaten { result ≡ Beaten → (stand : Stand) → HasFront white black first stand →
+        AllSpelled class stand (λ p code. ¬ IsIndex class p code) }
+    ensures least { result ≡ Least → (stand : Stand) → HasFront white black first stand →
+        IsInOrder stand.next stand.last → AllSpelled class stand (IsIndex class) }
 {
     facts();
     let _number = class.number();

@@ -19,7 +19,8 @@ pub fn lone_man(class: Class) -> Option<Man>
     }
 }
 
-/// The first of the codes with the kings on these squares, which follow one another by the man's digit. `None` where the white king is not at home.
+/// The first of the codes with the kings on these squares, which follow one another by the man's digit. `None` where
+/// the white king is not at home.
 pub fn lone_row(class: Class, man: Man, white: Square, black: Square) -> Option<u32>
     requires { IsLoneMan class man }
     ensures row { IfSome result (λ first. IsLoneRow class first white black man) }

@@ -20,12 +20,14 @@ pub(crate) fn pair(first: Square, second: Square) -> u16
 /// The squares of the kings after the turn, as a number.
 pub(crate) fn kings_after(white: Square, black: Square, turn: u8) -> u16
     requires { turn < 16 }
-    ensures { result ≡ 64 * turned_square (turn % 8) (turn / 8 == 1) white + turned_square (turn % 8) (turn / 8 == 1) black }
+    ensures { result ≡ 64 * turned_square (turn % 8) (turn / 8 == 1) white + turned_square (turn % 8)
+        (turn / 8 == 1) black }
 {
     pair(turned_square(turn, white), turned_square(turn, black))
 }
 
-/// The squares of the kings, as a number, after the turn that brings the white king home, with colours exchanged or not: the lesser where there are two turns.
+/// The squares of the kings, as a number, after the turn that brings the white king home, with colours exchanged or
+/// not: the lesser where there are two turns.
 fn home_kings(class: Class, white: Square, black: Square, flips: bool) -> u16
     ensures { AreNearest class flips white black result }
 {

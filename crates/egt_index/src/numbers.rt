@@ -1,5 +1,5 @@
-//! Numbers of positions, and the codes that they stand for: the codes without a target come first, then those with one. A shelf of numbers is behind a
-//! front, whose men stand before the last one.
+//! Numbers of positions, and the codes that they stand for: the codes without a target come first, then those with one.
+//! A shelf of numbers is behind a front, whose men stand before the last one.
 ghost use Rattle.std.specs.Prelude.{◌≡◌, ℕ, ◌<◌, ◌+◌, ◌*◌, ◌≤◌, IfNone, IfSome};
 ghost use Rattle.egt_index.specs.Prelude.{code_of, half_of, places, IsShelfBehind, IsWithin, size_of};
 
@@ -52,8 +52,8 @@ pub fn code_of(class: Class, number: u32) -> u32
     }
 }
 
-/// The number of the front of the shelf, which the men before the last one have, and whether the positions of the shelf have a target. `None` past the
-/// last shelf.
+/// The number of the front of the shelf, which the men before the last one have, and whether the positions of the shelf
+/// have a target. `None` past the last shelf.
 pub(crate) fn front_number(class: Class, shelf: u32) -> Option<(u32, bool)>
     ensures behind { IfSome result (λ found. IsShelfBehind found.1 class shelf found.0) }
     ensures past { IfNone result (size_of class ≤ shelf * (2 * places class)) }
@@ -74,8 +74,8 @@ pub(crate) fn front_number(class: Class, shelf: u32) -> Option<(u32, bool)>
     }
 }
 
-/// The number of the shelf behind the front, of positions with a target where one was passed. `None` past the last front, and where the class has no
-/// targets but one was passed.
+/// The number of the shelf behind the front, of positions with a target where one was passed. `None` past the last
+/// front, and where the class has no targets but one was passed.
 pub(crate) fn shelf_behind(class: Class, front: u32, passed: bool) -> Option<u32>
     ensures behind { IfSome result (λ shelf. IsShelfBehind passed class shelf front) }
     ensures within { IfSome result (IsWithin class) }

@@ -1,5 +1,5 @@
-//! Positions with a target that the last man makes with the men before him: the pawns stand side by side, on the rank to which one of them has just
-//! advanced by two squares.
+//! Positions with a target that the last man makes with the men before him: the pawns stand side by side, on the rank
+//! to which one of them has just advanced by two squares.
 ghost use Rattle.std.specs.Prelude.{◌≡◌, ◌≢◌, ℕ, ◌<◌, ◌↔◌, ◌⊎◌, true, false, IsTrue, Some};
 ghost use Rattle.egt_index.specs.Prelude.{bit_at, rank_of, Man, material_of, IsFrontBefore, IsMade, IsNewDigit};
 ghost use Rattle.egt_index.specs.Prelude.{taking_rank, PassesNothing, has_target};
@@ -12,7 +12,8 @@ use egt_class::Class;
 
 /// Whether the man beside the kings, before the last one, stands on the fourth rank or the fifth.
 fn is_in_the_middle(stand: &Stand) -> bool
-    ensures { result ≡ false → (one : Man) (s : ℕ) → stand.now.next ≡ Some (one, s) → (rank_of s ≢ 3) × (rank_of s ≢ 4) }
+    ensures { result ≡ false → (one : Man) (s : ℕ) → stand.now.next ≡ Some (one, s) →
+        (rank_of s ≢ 3) × (rank_of s ≢ 4) }
 {
     match stand.next {
         Some((_, on)) => on.rank() == 3 || on.rank() == 4,
@@ -20,8 +21,8 @@ fn is_in_the_middle(stand: &Stand) -> bool
     }
 }
 
-/// Whether a settled position with a target may have these men before the last one, by their number: White's pawn has advanced to the fourth rank, or may
-/// take one that advanced to the fifth.
+/// Whether a settled position with a target may have these men before the last one, by their number: White's pawn has
+/// advanced to the fourth rank, or may take one that advanced to the fifth.
 pub(crate) fn may_pass(class: Class, number: u32) -> bool
     requires { has_target (material_of class) ≡ true }
     ensures { result ≡ false → PassesNothing class number }
@@ -65,7 +66,8 @@ fn with_digit(
     requires targets { has_target (material_of class) ≡ true }
     requires before { IsFrontBefore class front.now man }
     requires digit { digit < 48 }
-    ensures { (k : ℕ) → (bit_at result.bits k ≡ 1) ↔ ((bit_at digits.bits k ≡ 1) ⊎ IsNewDigit class front.now.stand man mover there digit k) }
+    ensures { (k : ℕ) → (bit_at result.bits k ≡ 1) ↔
+        ((bit_at digits.bits k ≡ 1) ⊎ IsNewDigit class front.now.stand man mover there digit k) }
 {
     if there && is_made(class, front, man, mover, digit) {
         digits.with(Square::at(digit))
@@ -84,7 +86,8 @@ fn taking_rank(mover: Side) -> u8
     }
 }
 
-/// The last man's digits, as bits, where he makes a settled position with a target and that side to move: he stands beside the other pawn, which is there.
+/// The last man's digits, as bits, where he makes a settled position with a target and that side to move: he stands
+/// beside the other pawn, which is there.
 pub(crate) fn passed_by(class: Class, front: &Front, man: Man, on: Square, mover: Side) -> u64
     requires targets { has_target (material_of class) ≡ true }
     requires before { IsFrontBefore class front.now man }

@@ -127,7 +127,8 @@ fn passed_places(class: Class, front: &Front, man: Man) -> Places
     }
 }
 
-/// The last man's digits where he makes a settled position with the men of the front, with a target where one was passed.
+/// The last man's digits where he makes a settled position with the men of the front, with a target where one was
+/// passed.
 pub(crate) fn settled_places(class: Class, front: &Front, man: Man, passed: bool) -> Places
     requires before { IsFrontBefore class front.now man }
     requires targets { has_target (material_of class) ≡ false → passed ≡ false }
@@ -140,7 +141,8 @@ pub(crate) fn settled_places(class: Class, front: &Front, man: Man, passed: bool
     }
 }
 
-/// The indexes of the shelf behind the front, whose last man this is; `None` where each code is to be asked about alone.
+/// The indexes of the shelf behind the front, whose last man this is; `None` where each code is to be asked about
+/// alone.
 fn places_behind(class: Class, front: &Front, man: Man, passed: bool) -> Option<Places>
     requires before { IsFrontBefore class front.now man }
     requires targets { has_target (material_of class) ≡ false → passed ≡ false }
@@ -155,7 +157,8 @@ fn places_behind(class: Class, front: &Front, man: Man, passed: bool) -> Option<
     Some(in_order(&front.stand.next, man, all))
 }
 
-/// The indexes of the shelf behind the front with this number, where that and the class tell all of them; there is no front only where all are void.
+/// The indexes of the shelf behind the front with this number, where that and the class tell all of them; there is no
+/// front only where all are void.
 fn places_by_front(class: Class, number: u32, passed: bool, front: &Option<Front>) -> Option<Places>
     requires front { IsFrontOf class number front.now }
     requires targets { has_target (material_of class) ≡ false → passed ≡ false }

@@ -1,5 +1,6 @@
-//! The men of a shelf of numbers: but for the last one they stand on the same squares in all of its positions. A code tells its men by their digits,
-//! whether it is the least for its position or not, so what is told here needs no comparison of codes.
+//! The men of a shelf of numbers: but for the last one they stand on the same squares in all of its positions. A code
+//! tells its men by their digits, whether it is the least for its position or not, so what is told here needs no
+//! comparison of codes.
 ghost use Rattle.std.specs.Prelude.{◌≡◌, ◌+◌, ◌-◌, ◌*◌, ◌<◌, Some, IfSome, IfNone};
 ghost use Rattle.egt_index.specs.Prelude.{MayStand, Man, kind_digits, kind_less, AreMenOf, HasShelf, HasTwoBeside};
 ghost use Rattle.egt_index.specs.Prelude.{IsShelf, IsShelfOf, IsWithin};
@@ -43,7 +44,8 @@ fn digit_on(man: Man, square: Square) -> Option<u32>
     }
 }
 
-/// The men of the shelf with this number, of a class with two men beside the kings. `None` of other classes, and past the last shelf.
+/// The men of the shelf with this number, of a class with two men beside the kings. `None` of other classes, and past
+/// the last shelf.
 pub fn shelf_men(class: Class, shelf: u32) -> Option<ShelfMen>
     ensures shelf { IfSome result (IsShelf class shelf) }
     ensures none { IfNone result (HasTwoBeside class → ¬ IsWithin class shelf) }
@@ -63,8 +65,8 @@ pub fn shelf_men(class: Class, shelf: u32) -> Option<ShelfMen>
     })
 }
 
-/// The number of the shelf with these men, of positions with a target where one was passed. `None` where the white king is not at home, a pawn stands on
-/// the first rank or the last, and where the class has no targets but one was passed.
+/// The number of the shelf with these men, of positions with a target where one was passed. `None` where the white king
+/// is not at home, a pawn stands on the first rank or the last, and where the class has no targets but one was passed.
 pub fn shelf_of(class: Class, men: &ShelfMen, passed: bool) -> Option<u32>
     requires men { AreMenOf class men.now }
     ensures shelf { IfSome result (λ shelf. IsShelfOf passed class shelf men.now) }

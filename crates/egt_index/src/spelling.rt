@@ -71,7 +71,8 @@ fn take(number: u32, man: Option<Man>) -> (u32, Option<(Man, Square)>)
     }
 }
 
-/// Takes the digit of the last man of the class off the number: none is last where fewer than two men stand beside the kings.
+/// Takes the digit of the last man of the class off the number: none is last where fewer than two men stand beside the
+/// kings.
 fn take_last(class: Class, number: u32) -> (u32, Option<(Man, Square)>)
     ensures { TellsLast class number result.0 result.1 }
 {
@@ -175,8 +176,8 @@ pub(crate) fn target_of(side: Side, passed: bool, stand: &Stand) -> Option<Squar
     Some(square.ahead(side))
 }
 
-/// The position with this board, on which these are the kings, that side to move and that target; `None` where the rules of
-/// play do not admit it.
+/// The position with this board, on which these are the kings, that side to move and that target; `None` where the
+/// rules of play do not admit it.
 pub(crate) fn admitted(
     board: Board,
     side: Side,
@@ -238,7 +239,8 @@ pub fn spelled_position(class: Class, code: u32) -> Position
     Position::with_kings(board, side, target, stand.white, stand.black)
 }
 
-/// The settled position whose index this is: what `position` answers, where the caller knows that there is one, so that no test is needed.
+/// The settled position whose index this is: what `position` answers, where the caller knows that there is one, so that
+/// no test is needed.
 pub fn position_of(class: Class, index: u32) -> Position
     requires { ¬ IsVoid class index }
     ensures spells { Spells class index result }

@@ -122,7 +122,8 @@ pub(crate) fn stand_by(
     one: &Option<(Man, Square)>,
     other: &Option<(Man, Square)>,
 ) -> Stand
-    ensures { (p : Setup) → IsAdmissible p → IsOf class flipped p → HasAllMen p.men white black one.now other.now → Stood class flipped p.men (list_of result) }
+    ensures { (p : Setup) → IsAdmissible p → IsOf class flipped p → HasAllMen p.men white black one.now other.now →
+        Stood class flipped p.men (list_of result) }
 {
     let (first, second) = non_kings(class);
     let in_order = is_first(&first, flipped, one);
@@ -135,8 +136,8 @@ pub(crate) fn stand_by(
     }
 }
 
-/// Where the men of a position of the class stand. The first man of the name beside the king tells the colours: no class whose
-/// sides differ has him on both.
+/// Where the men of a position of the class stand. The first man of the name beside the king tells the colours: no
+/// class whose sides differ has him on both.
 #[inline(always)]
 pub(crate) fn standing_of(class: Class, position: &Position) -> Standing
     requires { (flipped : Bool) × IsOf class flipped position.now }
@@ -168,7 +169,8 @@ pub(crate) fn standing_by(
     other: &Option<(Man, Square)>,
 ) -> Standing
     ensures flipped { result.flipped ≡ flipped }
-    ensures stood { (p : Setup) → IsAdmissible p → IsOf class flipped p → HasAllMen p.men white black one.now other.now → Stood class flipped p.men (list_of result.stand) }
+    ensures stood { (p : Setup) → IsAdmissible p → IsOf class flipped p →
+        HasAllMen p.men white black one.now other.now → Stood class flipped p.men (list_of result.stand) }
 {
     Standing {
         flipped,

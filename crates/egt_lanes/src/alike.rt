@@ -9,7 +9,8 @@ use std::simd::prelude::*;
 /// Of each pair 0 only where both entries are 0, or show the same result and have bytes of their own.
 #[inline(always)]
 fn unlike(mate: Entries, zeroing: Entries) -> Entries
-    ensures { (i : ℕ) → i < 64 → slice_index result i ≡ 0 → AreVoidOrAlike (slice_index mate i) (slice_index zeroing i) }
+    ensures { (i : ℕ) → i < 64 → slice_index result i ≡ 0 →
+        AreVoidOrAlike (slice_index mate i) (slice_index zeroing i) }
 {
     let one = Entries::splat(1);
     let low = mate.simd_min(zeroing);
@@ -29,11 +30,13 @@ fn are_alike(mate: Entries, zeroing: Entries) -> bool
     unlike(mate, zeroing).reduce_or() == 0
 }
 
-/// Whether in each pair of the first blocks of 64 both entries are 0, or show the same result and have bytes of their own.
+/// Whether in each pair of the first blocks of 64 both entries are 0, or show the same result and have bytes of their
+/// own.
 fn blocks_are_alike(mate: &[u16], zeroing: &[u16], blocks: usize) -> bool
     requires mate { 64 * blocks ≤ length mate.now }
     requires zeroing { 64 * blocks ≤ length zeroing.now }
-    ensures { result ≡ true → (i : ℕ) → i < 64 * blocks → AreVoidOrAlike (slice_index mate.now i) (slice_index zeroing.now i) }
+    ensures { result ≡ true → (i : ℕ) → i < 64 * blocks →
+        AreVoidOrAlike (slice_index mate.now i) (slice_index zeroing.now i) }
 {
     for block in 0..blocks {
         let from = 64 * block;
@@ -58,7 +61,8 @@ fn is_alike(mate: u16, zeroing: u16) -> bool
 /// Whether the pairs from this place on are such.
 fn rest_is_alike(mate: &[u16], zeroing: &[u16], from: usize) -> bool
     requires { length zeroing.now ≡ length mate.now }
-    ensures { result ≡ true → (i : ℕ) → from ≤ i → i < length mate.now → AreVoidOrAlike (slice_index mate.now i) (slice_index zeroing.now i) }
+    ensures { result ≡ true → (i : ℕ) → from ≤ i → i < length mate.now →
+        AreVoidOrAlike (slice_index mate.now i) (slice_index zeroing.now i) }
 {
     for place in from..mate.len() {
         if !is_alike(mate[place], zeroing[place]) {
@@ -71,7 +75,8 @@ fn rest_is_alike(mate: &[u16], zeroing: &[u16], from: usize) -> bool
 /// Whether of all places both columns' entries are 0, or show the same result and have bytes of their own.
 pub fn columns_are_alike(mate: &[u16], zeroing: &[u16]) -> bool
     requires { length zeroing.now ≡ length mate.now }
-    ensures { result ≡ true → (i : ℕ) → i < length mate.now → AreVoidOrAlike (slice_index mate.now i) (slice_index zeroing.now i) }
+    ensures { result ≡ true → (i : ℕ) → i < length mate.now →
+        AreVoidOrAlike (slice_index mate.now i) (slice_index zeroing.now i) }
 {
     let blocks = mate.len() / 64;
     blocks_are_alike(mate, zeroing, blocks) && rest_is_alike(mate, zeroing, 64 * blocks)

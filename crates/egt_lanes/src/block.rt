@@ -11,8 +11,10 @@ pub type Block = [Row; 64];
 /// The lanes of two rows in turn: those of the first halves, and those of the second.
 #[inline(always)]
 fn woven(above: Row, below: Row) -> (Row, Row)
-    ensures low { (b : ℕ) → b < 64 → slice_index result.0 b ≡ slice_index (if b % 2 == 0 then above else below) (b / 2) }
-    ensures high { (b : ℕ) → b < 64 → slice_index result.1 b ≡ slice_index (if b % 2 == 0 then above else below) (32 + b / 2) }
+    ensures low { (b : ℕ) → b < 64 → slice_index result.0 b ≡ slice_index (if b % 2 == 0 then above else below)
+        (b / 2) }
+    ensures high { (b : ℕ) → b < 64 → slice_index result.1 b ≡ slice_index (if b % 2 == 0 then above else below)
+        (32 + b / 2) }
 {
     above.interleave(below)
 }

@@ -56,7 +56,8 @@ const PAWN_SQUARES: [usize; 64] = [
 #[inline(always)]
 pub fn load_pawn(entries: &[u16], side: Side) -> Entries
     requires { length entries.now ≡ 96 }
-    ensures middle { (s : ℕ) → 8 ≤ s → s < 56 → slice_index result s ≡ slice_index entries.now (2 * (s - 8) + side_number side) }
+    ensures middle { (s : ℕ) → 8 ≤ s → s < 56 →
+        slice_index result s ≡ slice_index entries.now (2 * (s - 8) + side_number side) }
     ensures edge { (s : ℕ) → s < 64 → (s < 8) ⊎ (56 ≤ s) → slice_index result s ≡ 0 }
 {
     let every_second = of_side(loaded(entries, 0), loaded(entries, 32), side);
@@ -75,7 +76,9 @@ const TARGET_SQUARES: [usize; 64] = [
 #[inline(always)]
 pub fn load_target(entries: &[u16], side: Side, target: bool) -> Entries
     requires { length entries.now ≡ 192 }
-    ensures middle { (s : ℕ) → 8 ≤ s → s < 56 → slice_index result s ≡ slice_index entries.now (4 * (s - 8) + 2 * side_number side + (if target then 1 else 0)) }
+    ensures middle { (s : ℕ) → 8 ≤ s → s < 56 →
+        slice_index result s ≡ slice_index entries.now
+        (4 * (s - 8) + 2 * side_number side + (if target then 1 else 0)) }
     ensures edge { (s : ℕ) → s < 64 → (s < 8) ⊎ (56 ≤ s) → slice_index result s ≡ 0 }
 {
     let front = parted(loaded(entries, 0), loaded(entries, 64), target);

@@ -1,5 +1,6 @@
-//! Whether the column of the nearest mates has entries where the mate column has, and their scores are bytes of their own.
-//! An entry of it is 0 where there is no position, 1 of a dead one, and 2 + n where n plies of both sides lead to a checkmate.
+//! Whether the column of the nearest mates has entries where the mate column has, and their scores are bytes of their
+//! own. An entry of it is 0 where there is no position, 1 of a dead one, and 2 + n where n plies of both sides lead to
+//! a checkmate.
 ghost use Rattle.std.specs.Prelude.{◌≡◌, ℕ, ◌<◌, ◌≤◌, ◌*◌, slice_index, length, true};
 ghost use Rattle.egt_lanes.specs.Prelude.{IsVoidOrNear};
 
@@ -24,11 +25,13 @@ fn are_near(mate: Entries, reach: Entries) -> bool
     far(mate, reach).reduce_or() == 0
 }
 
-/// Whether in each pair of the first blocks of 64 both entries are 0, or neither is and that of the nearest mates is below 128.
+/// Whether in each pair of the first blocks of 64 both entries are 0, or neither is and that of the nearest mates is
+/// below 128.
 fn blocks_are_near(mate: &[u16], reach: &[u16], blocks: usize) -> bool
     requires mate { 64 * blocks ≤ length mate.now }
     requires reach { 64 * blocks ≤ length reach.now }
-    ensures { result ≡ true → (i : ℕ) → i < 64 * blocks → IsVoidOrNear (slice_index mate.now i) (slice_index reach.now i) }
+    ensures { result ≡ true → (i : ℕ) → i < 64 * blocks →
+        IsVoidOrNear (slice_index mate.now i) (slice_index reach.now i) }
 {
     for block in 0..blocks {
         let from = 64 * block;
@@ -49,7 +52,8 @@ fn is_near(mate: u16, reach: u16) -> bool
 /// Whether the pairs from this place on are such.
 fn rest_is_near(mate: &[u16], reach: &[u16], from: usize) -> bool
     requires { length reach.now ≡ length mate.now }
-    ensures { result ≡ true → (i : ℕ) → from ≤ i → i < length mate.now → IsVoidOrNear (slice_index mate.now i) (slice_index reach.now i) }
+    ensures { result ≡ true → (i : ℕ) → from ≤ i → i < length mate.now →
+        IsVoidOrNear (slice_index mate.now i) (slice_index reach.now i) }
 {
     for place in from..mate.len() {
         if !is_near(mate[place], reach[place]) {
@@ -62,7 +66,8 @@ fn rest_is_near(mate: &[u16], reach: &[u16], from: usize) -> bool
 /// Whether of all places both columns' entries are 0, or neither is and that of the nearest mates is below 128.
 pub fn column_is_near(mate: &[u16], reach: &[u16]) -> bool
     requires { length reach.now ≡ length mate.now }
-    ensures { result ≡ true → (i : ℕ) → i < length mate.now → IsVoidOrNear (slice_index mate.now i) (slice_index reach.now i) }
+    ensures { result ≡ true → (i : ℕ) → i < length mate.now →
+        IsVoidOrNear (slice_index mate.now i) (slice_index reach.now i) }
 {
     let blocks = mate.len() / 64;
     blocks_are_near(mate, reach, blocks) && rest_is_near(mate, reach, 64 * blocks)

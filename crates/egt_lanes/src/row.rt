@@ -18,7 +18,8 @@ pub fn greater(a: Row, b: Row) -> Row
 #[inline(always)]
 pub fn differ(a: Row, b: Row, within: Row) -> bool
     ensures alike { result ≡ false → (s : ℕ) → s < 64 → slice_index within s ≢ 0 → slice_index a s ≡ slice_index b s }
-    ensures apart { result ≡ true → (s : ℕ) × (s < 64) × (slice_index within s ≢ 0) × (slice_index a s ≢ slice_index b s) }
+    ensures apart { result ≡ true → (s : ℕ) × (s < 64) × (slice_index within s ≢ 0) ×
+        (slice_index a s ≢ slice_index b s) }
 {
     let nothing = Row::splat(0);
     let wrong = a.simd_ne(b).select(within, nothing);

@@ -68,8 +68,9 @@ fn byte_reach_scores(entries: Row) -> Row
     entries.simd_eq(one).select(Row::splat(128), loss)
 }
 
-/// The scores of entries of the column of the nearest mates, of which the low byte counts: 0 is of no position, 1 of a dead
-/// one, and 2 + n of one from which n plies of both sides lead to a checkmate. Entries below 128 have scores of their own.
+/// The scores of entries of the column of the nearest mates, of which the low byte counts: 0 is of no position, 1 of a
+/// dead one, and 2 + n of one from which n plies of both sides lead to a checkmate. Entries below 128 have scores of
+/// their own.
 #[inline(always)]
 pub fn reach_scores(entries: Entries) -> Row
     ensures { (s : ℕ) → s < 64 → slice_index result s ≡ reach_score (slice_index entries s % 256) }

@@ -94,12 +94,14 @@ pub fn shifted(row: Row, step: Step) -> Row
     )
 }
 
-/// At each square the greatest of what stands there on the way along the steps, up to the first square that is not free.
+/// At each square the greatest of what stands there on the way along the steps, up to the first square that is not
+/// free.
 #[inline(always)]
 pub fn ridden(row: Row, free: SquareSet, step: Step) -> Row
     requires wide { step.wide ≤ 2 }
     requires high { step.high ≤ 2 }
-    ensures { (s : ℕ) → s < 64 → IsRaised 0 (λ t. Rides (λ u. bit_at free.bits u ≡ 1) 7 s t step) (λ t. slice_index row t) (slice_index result s) }
+    ensures { (s : ℕ) → s < 64 → IsRaised 0 (λ t. Rides (λ u. bit_at free.bits u ≡ 1) 7 s t step)
+        (λ t. slice_index row t) (slice_index result s) }
 {
     let mut last = shifted(row, step);
     let mut best = last;
@@ -128,7 +130,8 @@ pub(crate) fn step(files: Way, wide: u8, ranks: Way, high: u8) -> Step
 fn ray_raised(low: Row, row: Row, free: SquareSet, step: Step) -> Row
     requires wide { step.wide ≤ 2 }
     requires high { step.high ≤ 2 }
-    ensures { (s : ℕ) → s < 64 → IsRaised (slice_index low s) (λ t. Rides (λ u. bit_at free.bits u ≡ 1) 7 s t step) (λ t. slice_index row t) (slice_index result s) }
+    ensures { (s : ℕ) → s < 64 → IsRaised (slice_index low s) (λ t. Rides (λ u. bit_at free.bits u ≡ 1) 7 s t step)
+        (λ t. slice_index row t) (slice_index result s) }
 {
     greater(low, ridden(row, free, step))
 }
@@ -138,7 +141,8 @@ fn ray_raised(low: Row, row: Row, free: SquareSet, step: Step) -> Row
 fn step_raised(low: Row, row: Row, step: Step) -> Row
     requires wide { step.wide ≤ 2 }
     requires high { step.high ≤ 2 }
-    ensures { (s : ℕ) → s < 64 → IsRaised (slice_index low s) (λ t. Away step 1 s t) (λ t. slice_index row t) (slice_index result s) }
+    ensures { (s : ℕ) → s < 64 → IsRaised (slice_index low s) (λ t. Away step 1 s t) (λ t. slice_index row t)
+        (slice_index result s) }
 {
     greater(low, shifted(row, step))
 }
@@ -146,7 +150,9 @@ fn step_raised(low: Row, row: Row, step: Step) -> Row
 /// `low` raised by what stands along files and ranks.
 #[inline(always)]
 fn straight_raised(low: Row, row: Row, free: SquareSet) -> Row
-    ensures { (s : ℕ) → s < 64 → IsRaised (slice_index low s) (λ t. OneOf (Rides (λ u. bit_at free.bits u ≡ 1) 7 s t) straight_steps) (λ t. slice_index row t) (slice_index result s) }
+    ensures { (s : ℕ) → s < 64 → IsRaised (slice_index low s)
+        (λ t. OneOf (Rides (λ u. bit_at free.bits u ≡ 1) 7 s t) straight_steps) (λ t. slice_index row t)
+        (slice_index result s) }
 {
     let down = ray_raised(low, row, free, step(Way::Still, 0, Way::Down, 1));
     let up = ray_raised(down, row, free, step(Way::Still, 0, Way::Up, 1));
@@ -157,7 +163,9 @@ fn straight_raised(low: Row, row: Row, free: SquareSet) -> Row
 /// `low` raised by what stands along diagonals.
 #[inline(always)]
 fn diagonal_raised(low: Row, row: Row, free: SquareSet) -> Row
-    ensures { (s : ℕ) → s < 64 → IsRaised (slice_index low s) (λ t. OneOf (Rides (λ u. bit_at free.bits u ≡ 1) 7 s t) diagonal_steps) (λ t. slice_index row t) (slice_index result s) }
+    ensures { (s : ℕ) → s < 64 → IsRaised (slice_index low s)
+        (λ t. OneOf (Rides (λ u. bit_at free.bits u ≡ 1) 7 s t) diagonal_steps) (λ t. slice_index row t)
+        (slice_index result s) }
 {
     let down_left = ray_raised(low, row, free, step(Way::Down, 1, Way::Down, 1));
     let up_left = ray_raised(down_left, row, free, step(Way::Down, 1, Way::Up, 1));
@@ -168,7 +176,8 @@ fn diagonal_raised(low: Row, row: Row, free: SquareSet) -> Row
 /// `low` raised by what stands a knight's step further.
 #[inline(always)]
 fn knight_raised(low: Row, row: Row) -> Row
-    ensures { (s : ℕ) → s < 64 → IsRaised (slice_index low s) (λ t. OneOf (λ d. Away d 1 s t) knight_steps) (λ t. slice_index row t) (slice_index result s) }
+    ensures { (s : ℕ) → s < 64 → IsRaised (slice_index low s) (λ t. OneOf (λ d. Away d 1 s t) knight_steps)
+        (λ t. slice_index row t) (slice_index result s) }
 {
     let left_down = step_raised(low, row, step(Way::Down, 2, Way::Down, 1));
     let left_up = step_raised(left_down, row, step(Way::Down, 2, Way::Up, 1));
@@ -184,7 +193,8 @@ fn knight_raised(low: Row, row: Row) -> Row
 #[inline(always)]
 pub fn last_man_raised(low: Row, row: Row, free: SquareSet, man: Man) -> Row
     requires { IsPiece man.kind }
-    ensures { (s : ℕ) → s < 64 → IsRaised (slice_index low s) (λ t. Reaches (λ u. bit_at free.bits u ≡ 1) man s t) (λ t. slice_index row t) (slice_index result s) }
+    ensures { (s : ℕ) → s < 64 → IsRaised (slice_index low s) (λ t. Reaches (λ u. bit_at free.bits u ≡ 1) man s t)
+        (λ t. slice_index row t) (slice_index result s) }
 {
     match man.kind {
         Kind::Q => straight_raised(diagonal_raised(low, row, free), row, free),
@@ -220,7 +230,8 @@ fn pawn_homes(side: Side) -> SquareSet
 /// `low` raised at each square by what stands where a pawn of that side advances by one square.
 #[inline(always)]
 pub fn advanced_by_one(low: Row, row: Row, free: SquareSet, side: Side) -> Row
-    ensures { (s : ℕ) → s < 64 → IsRaised (slice_index low s) (λ t. AdvancesBy 1 (λ u. bit_at free.bits u ≡ 1) side s t) (λ t. slice_index row t) (slice_index result s) }
+    ensures { (s : ℕ) → s < 64 → IsRaised (slice_index low s)
+        (λ t. AdvancesBy 1 (λ u. bit_at free.bits u ≡ 1) side s t) (λ t. slice_index row t) (slice_index result s) }
 {
     greater(low, shifted(kept(row, free), one_ahead(side)))
 }
@@ -228,7 +239,8 @@ pub fn advanced_by_one(low: Row, row: Row, free: SquareSet, side: Side) -> Row
 /// `low` raised at each square by what stands where a pawn of that side advances by two squares.
 #[inline(always)]
 pub fn advanced_by_two(low: Row, row: Row, free: SquareSet, side: Side) -> Row
-    ensures { (s : ℕ) → s < 64 → IsRaised (slice_index low s) (λ t. AdvancesBy 2 (λ u. bit_at free.bits u ≡ 1) side s t) (λ t. slice_index row t) (slice_index result s) }
+    ensures { (s : ℕ) → s < 64 → IsRaised (slice_index low s)
+        (λ t. AdvancesBy 2 (λ u. bit_at free.bits u ≡ 1) side s t) (λ t. slice_index row t) (slice_index result s) }
 {
     let ahead = one_ahead(side);
     let near = shifted(kept(row, free), ahead);
@@ -240,7 +252,8 @@ pub fn advanced_by_two(low: Row, row: Row, free: SquareSet, side: Side) -> Row
 /// from its original rank, all of them free.
 #[inline(always)]
 pub fn advanced(low: Row, row: Row, free: SquareSet, side: Side) -> Row
-    ensures { (s : ℕ) → s < 64 → IsRaised (slice_index low s) (λ t. Advances (λ u. bit_at free.bits u ≡ 1) side s t) (λ t. slice_index row t) (slice_index result s) }
+    ensures { (s : ℕ) → s < 64 → IsRaised (slice_index low s) (λ t. Advances (λ u. bit_at free.bits u ≡ 1) side s t)
+        (λ t. slice_index row t) (slice_index result s) }
 {
     let near = advanced_by_one(low, row, free, side);
     advanced_by_two(near, row, free, side)

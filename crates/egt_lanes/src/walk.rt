@@ -62,8 +62,8 @@ const KNIGHT: [Step; 8] = [
     },
 ];
 
-/// What is reached along the steps from a square: the row of the next one, and what is reached from there on; up to a king, and in each lane not past the
-/// last man, who stands there.
+/// What is reached along the steps from a square: the row of the next one, and what is reached from there on; up to a
+/// king, and in each lane not past the last man, who stands there.
 #[inline(always)]
 fn reached_from(
     reached: &Block,
@@ -74,8 +74,10 @@ fn reached_from(
     kings: SquareSet,
 ) -> Row
     requires ray { IsRay step upward }
-    requires next { (n b : ℕ) → Away step 1 from n → b < 64 → IsRaised 0 (λ t. Rides (IsOpen kings.bits b) 7 n t step) (λ t. at rows.now t b) (at reached.now n b) }
-    ensures { (b : ℕ) → b < 64 → IsRaised 0 (λ t. Rides (IsOpen kings.bits b) 7 from t step) (λ t. at rows.now t b) (slice_index result b) }
+    requires next { (n b : ℕ) → Away step 1 from n → b < 64 →
+        IsRaised 0 (λ t. Rides (IsOpen kings.bits b) 7 n t step) (λ t. at rows.now t b) (at reached.now n b) }
+    ensures { (b : ℕ) → b < 64 → IsRaised 0 (λ t. Rides (IsOpen kings.bits b) 7 from t step) (λ t. at rows.now t b)
+        (slice_index result b) }
 {
     let Some(next) = from.stepped(step) else {
         return Row::splat(0);
@@ -96,12 +98,14 @@ fn nth_square(down: bool, k: u8) -> Square
     Square::at(if down { 63 - k } else { k })
 }
 
-/// Raises each row by the rows along one step. What is reached from a square is known once it is known of the next one: so where the step leads upward, the
-/// squares come from the last one down.
+/// Raises each row by the rows along one step. What is reached from a square is known once it is known of the next one:
+/// so where the step leads upward, the squares come from the last one down.
 #[inline(always)]
 fn raise_ray(out: &mut Block, rows: &Block, step: Step, upward: bool, kings: SquareSet)
     requires { IsRay step upward }
-    ensures { (a b : ℕ) → a < 64 → b < 64 → IsRaised (at out.old a b) (λ t. Rides (IsOpen kings.bits b) 7 a t step) (λ t. at rows.now t b) (at out.new a b) }
+    ensures { (a b : ℕ) → a < 64 → b < 64 →
+        IsRaised (at out.old a b) (λ t. Rides (IsOpen kings.bits b) 7 a t step) (λ t. at rows.now t b)
+        (at out.new a b) }
 {
     let mut reached = [Row::splat(0); 64];
     for k in 0..64_u8 {
@@ -115,7 +119,9 @@ fn raise_ray(out: &mut Block, rows: &Block, step: Step, upward: bool, kings: Squ
 
 /// Raises each row by the rows along files and ranks.
 fn raise_straight(out: &mut Block, rows: &Block, kings: SquareSet)
-    ensures { (a b : ℕ) → a < 64 → b < 64 → IsRaised (at out.old a b) (λ t. OneOf (Rides (IsOpen kings.bits b) 7 a t) straight_steps) (λ t. at rows.now t b) (at out.new a b) }
+    ensures { (a b : ℕ) → a < 64 → b < 64 →
+        IsRaised (at out.old a b) (λ t. OneOf (Rides (IsOpen kings.bits b) 7 a t) straight_steps)
+        (λ t. at rows.now t b) (at out.new a b) }
 {
     raise_ray(out, rows, step(Way::Still, 0, Way::Down, 1), false, kings);
     raise_ray(out, rows, step(Way::Still, 0, Way::Up, 1), true, kings);
@@ -125,7 +131,9 @@ fn raise_straight(out: &mut Block, rows: &Block, kings: SquareSet)
 
 /// Raises each row by the rows along diagonals.
 fn raise_diagonal(out: &mut Block, rows: &Block, kings: SquareSet)
-    ensures { (a b : ℕ) → a < 64 → b < 64 → IsRaised (at out.old a b) (λ t. OneOf (Rides (IsOpen kings.bits b) 7 a t) diagonal_steps) (λ t. at rows.now t b) (at out.new a b) }
+    ensures { (a b : ℕ) → a < 64 → b < 64 →
+        IsRaised (at out.old a b) (λ t. OneOf (Rides (IsOpen kings.bits b) 7 a t) diagonal_steps)
+        (λ t. at rows.now t b) (at out.new a b) }
 {
     raise_ray(out, rows, step(Way::Down, 1, Way::Down, 1), false, kings);
     raise_ray(out, rows, step(Way::Down, 1, Way::Up, 1), true, kings);
@@ -138,7 +146,8 @@ fn raise_diagonal(out: &mut Block, rows: &Block, kings: SquareSet)
 fn hopped(low: Row, rows: &Block, from: Square, step: Step) -> Row
     requires wide { step.wide < 8 }
     requires high { step.high < 8 }
-    ensures { (b : ℕ) → b < 64 → IsRaised (slice_index low b) (λ t. Away step 1 from t) (λ t. at rows.now t b) (slice_index result b) }
+    ensures { (b : ℕ) → b < 64 → IsRaised (slice_index low b) (λ t. Away step 1 from t) (λ t. at rows.now t b)
+        (slice_index result b) }
 {
     match from.stepped(step) {
         Some(next) => greater(low, rows[next.number() as usize]),
@@ -150,7 +159,8 @@ fn hopped(low: Row, rows: &Block, from: Square, step: Step) -> Row
 #[inline(always)]
 fn hopped_along(low: Row, rows: &Block, from: Square, steps: &[Step]) -> Row
     requires { All (λ d. (d.wide < 8) × (d.high < 8)) steps.now }
-    ensures { (b : ℕ) → b < 64 → IsRaised (slice_index low b) (λ t. OneOf (λ d. Away d 1 from t) steps.now) (λ t. at rows.now t b) (slice_index result b) }
+    ensures { (b : ℕ) → b < 64 → IsRaised (slice_index low b) (λ t. OneOf (λ d. Away d 1 from t) steps.now)
+        (λ t. at rows.now t b) (slice_index result b) }
 {
     let mut best = low;
     for step in steps {
@@ -161,7 +171,9 @@ fn hopped_along(low: Row, rows: &Block, from: Square, steps: &[Step]) -> Row
 
 /// Raises each row by the rows a knight's step further.
 fn raise_hops(out: &mut Block, rows: &Block)
-    ensures { (a b : ℕ) → a < 64 → b < 64 → IsRaised (at out.old a b) (λ t. OneOf (λ d. Away d 1 a t) knight_steps) (λ t. at rows.now t b) (at out.new a b) }
+    ensures { (a b : ℕ) → a < 64 → b < 64 →
+        IsRaised (at out.old a b) (λ t. OneOf (λ d. Away d 1 a t) knight_steps) (λ t. at rows.now t b)
+        (at out.new a b) }
 {
     for a in 0..64_u8 {
         let place = a as usize;
@@ -169,11 +181,12 @@ fn raise_hops(out: &mut Block, rows: &Block)
     }
 }
 
-/// Raises each row of `out`, for the first man's square, by the rows of `from` where he attacks from there: past squares
-/// on which neither a king stands nor, in that lane, the last man.
+/// Raises each row of `out`, for the first man's square, by the rows of `from` where he attacks from there: past
+/// squares on which neither a king stands nor, in that lane, the last man.
 pub fn raise_rows(out: &mut Block, from: &Block, man: Man, kings: SquareSet)
     requires { IsPiece man.kind }
-    ensures { (a b : ℕ) → a < 64 → b < 64 → IsRaised (at out.old a b) (λ t. Reaches (IsOpen kings.bits b) man a t) (λ t. at from.now t b) (at out.new a b) }
+    ensures { (a b : ℕ) → a < 64 → b < 64 →
+        IsRaised (at out.old a b) (λ t. Reaches (IsOpen kings.bits b) man a t) (λ t. at from.now t b) (at out.new a b) }
 {
     match man.kind {
         Kind::Q => {

@@ -3,7 +3,8 @@ ghost use Rattle.egt_moves.specs.Prelude.{Setup, IsAdmissible, Move, Exchanges, 
 
 use egt_board::counting::one_square_changes;
 
-/// A legal move takes one man of the enemy or none, and puts the man that moves, or what it is promoted to, in its place.
+/// A legal move takes one man of the enemy or none, and puts the man that moves, or what it is promoted to, in its
+/// place.
 pub fn moves_exchange_men()
     ensures { (p q : Setup) (m : Move) → IsAdmissible p → Leads p m q → Exchanges p m q }
 {

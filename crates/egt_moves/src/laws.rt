@@ -41,15 +41,18 @@ pub fn least_plies()
 
 /// A win goes on to a loss one ply less, a loss to a win one ply less, and no step from a loss leads to a later win.
 pub fn play_goes_on()
-    ensures win { (n : ℕ) (p : Setup) → HasValue chess p (Win (suc n)) → SomeMove chess p (λ q. HasValue chess q (Loss n)) }
-    ensures loss { (n : ℕ) (p : Setup) → HasValue chess p (Loss (suc n)) → SomeMove chess p (λ q. HasValue chess q (Win n)) }
+    ensures win { (n : ℕ) (p : Setup) → HasValue chess p (Win (suc n)) →
+        SomeMove chess p (λ q. HasValue chess q (Loss n)) }
+    ensures loss { (n : ℕ) (p : Setup) → HasValue chess p (Loss (suc n)) →
+        SomeMove chess p (λ q. HasValue chess q (Win n)) }
     ensures no_later { (n : ℕ) (p : Setup) → HasValue chess p (Loss (suc n)) → EachMove chess p (MatesWithin chess n) }
 {}
 
 /// A search of some number of plies has one answer.
 pub fn one_answer()
     ensures some { (n : ℕ) (p : Setup) → (answer : Option Value) × AnswersWithin chess n p answer }
-    ensures one { (n : ℕ) (p : Setup) (x y : Option Value) → AnswersWithin chess n p x → AnswersWithin chess n p y → x ≡ y }
+    ensures one { (n : ℕ) (p : Setup) (x y : Option Value) → AnswersWithin chess n p x → AnswersWithin chess n p y →
+        x ≡ y }
 {}
 
 /// Entries that fit their successors' are the values and the zeroing distances, in whatever class a test tells.

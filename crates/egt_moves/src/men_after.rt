@@ -17,7 +17,8 @@ pub struct Men {
     pub side: Side,
 }
 
-/// Where the man of the entry stands after the move, as what it promotes to; he is gone where another arrives on his square.
+/// Where the man of the entry stands after the move, as what it promotes to; he is gone where another arrives on his
+/// square.
 #[inline(always)]
 fn entry_after(entry: &Option<(Man, Square)>, chess_move: &Move) -> Option<(Man, Square)>
     ensures { result ≡ entry_after entry.now chess_move.now }
@@ -64,7 +65,8 @@ impl Men {
 
     /// The men after the move, where it is legal and takes no pawn in passing: who stood where it arrives is gone.
     pub fn after(&self, chess_move: &Move) -> Men
-        ensures { (p q : Setup) → IsAdmissible p → AreMenOf p self.now → Leads p chess_move.now q → p.target ≢ Some chess_move.now.to → AreMenOf q result }
+        ensures { (p q : Setup) → IsAdmissible p → AreMenOf p self.now → Leads p chess_move.now q →
+            p.target ≢ Some chess_move.now.to → AreMenOf q result }
     {
         Men {
             white: square_after(self.white, chess_move),
@@ -83,8 +85,8 @@ fn is_two_ranks(from: Square, to: Square) -> bool
     to.rank() == from.rank() + 2 || from.rank() == to.rank() + 2
 }
 
-/// Whether a legal move between the squares neither takes a pawn in passing nor lets a pawn be taken so: then the men tell the
-/// position that it leads to.
+/// Whether a legal move between the squares neither takes a pawn in passing nor lets a pawn be taken so: then the men
+/// tell the position that it leads to.
 pub fn is_without_en_passant(position: &Position, from: Square, to: Square) -> bool
     ensures { result ≡ true → (m : Move) (q : Setup) → m.from ≡ from → m.to ≡ to → Leads position.now m q →
         (position.now.target ≢ Some to) × (q.target ≡ None) }

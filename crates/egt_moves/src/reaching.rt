@@ -1,5 +1,5 @@
-//! What holds of the nearest checkmate by legal moves of both sides, and of dead positions (FIDE Laws of Chess 2023, article 5.2.2). These
-//! functions do nothing: a caller calls one to know what it ensures.
+//! What holds of the nearest checkmate by legal moves of both sides, and of dead positions (FIDE Laws of Chess 2023,
+//! article 5.2.2). These functions do nothing: a caller calls one to know what it ensures.
 ghost use Rattle.std.specs.Prelude.{◌≡◌, ◌↔◌, ◌⊎◌, ℕ, ◌≤◌, Bool, IsTrue, Option};
 ghost use Rattle.egt_moves.specs.Prelude.{AreImages, SettlesTo, Setup, IsAdmissible, Draw, HasValue, IsStalemate};
 ghost use Rattle.egt_moves.specs.Prelude.{chess, ReachesMateWithin, IsDead, HasReach, ReachJudgedOver};
@@ -25,8 +25,10 @@ pub fn one_reach()
 
 /// A position and its settled form have the same number, and so have a position and each of its images.
 pub fn reach_is_kept()
-    ensures settling { (p q : Setup) → IsAdmissible p → SettlesTo p q → (x : Option ℕ) → HasReach chess p x ↔ HasReach chess q x }
-    ensures images { (p q : Setup) → IsAdmissible p → AreImages p q → (x : Option ℕ) → HasReach chess p x ↔ HasReach chess q x }
+    ensures settling { (p q : Setup) → IsAdmissible p → SettlesTo p q → (x : Option ℕ) →
+        HasReach chess p x ↔ HasReach chess q x }
+    ensures images { (p q : Setup) → IsAdmissible p → AreImages p q → (x : Option ℕ) →
+        HasReach chess p x ↔ HasReach chess q x }
 {
     images_come_by_mirrors();
 }

@@ -13,7 +13,8 @@ use egt_board::{Kind, Man, Occupancy, Position, Square, SquareSet};
 fn danger(position: &Position, occupancy: Occupancy, from: Square) -> SquareSet
     requires occupancy { IsOccupancy position.now occupancy }
     requires mine { (man : Man) → Stands position.now.men from man → man.side ≡ position.now.side }
-    ensures attacked { (t : ℕ) → t < 64 → Has result t ↔ IsAttacked (map.remove position.now.men from) t (other_side position.now.side) }
+    ensures attacked { (t : ℕ) → t < 64 →
+        Has result t ↔ IsAttacked (map.remove position.now.men from) t (other_side position.now.side) }
     ensures admissible { IsAdmissible position.now }
 {
     let enemy = position.side().other();
@@ -29,8 +30,8 @@ fn is_lone(camp: SquareSet, king: Square) -> bool
     camp.less(king).is_empty()
 }
 
-/// The squares to which this man, lifted from `from`, may come so that the enemy does not attack `king`: all of them where the enemy has
-/// his king alone.
+/// The squares to which this man, lifted from `from`, may come so that the enemy does not attack `king`: all of them
+/// where the enemy has his king alone.
 fn shelter(
     position: &Position,
     occupancy: Occupancy,
@@ -42,7 +43,8 @@ fn shelter(
     requires stands { Stands position.now.men from man }
     requires mine { man.side ≡ position.now.side }
     requires home { IsKingOn position.now.men position.now.side king }
-    ensures kept { (t : ℕ) → t < 64 → Has result t ↔ IsKeptFrom (map.remove position.now.men from) t man king (other_side position.now.side) }
+    ensures kept { (t : ℕ) → t < 64 → Has result t ↔ IsKeptFrom (map.remove position.now.men from) t man king
+        (other_side position.now.side) }
     ensures admissible { IsAdmissible position.now }
 {
     let enemy = position.side().other();
@@ -106,7 +108,8 @@ fn shields(
     requires mine { man.side ≡ position.now.side }
     requires other { man.kind ≡ K → ⊥ }
     requires goes { (t : ℕ) → Has goals t ↔ Goes position.now man from t }
-    ensures { (t : ℕ) → Goes position.now man from t → Has result t ↔ ¬ IsInCheck (men_after position.now man (plain from t)) position.now.side }
+    ensures { (t : ℕ) → Goes position.now man from t →
+        Has result t ↔ ¬ IsInCheck (men_after position.now man (plain from t)) position.now.side }
 {
     let shelter = shelter(position, occupancy, man, from, position.king(man.side));
     let Some(target) = passing_goal(position, man, goals) else {
@@ -137,8 +140,8 @@ pub(crate) fn legal_goals(
     }
 }
 
-/// The squares to which a legal move of the man on `from` goes, one of the side to move: what `legal_targets` answers, where the caller
-/// knows the man and the squares of either side's men.
+/// The squares to which a legal move of the man on `from` goes, one of the side to move: what `legal_targets` answers,
+/// where the caller knows the man and the squares of either side's men.
 pub fn legal_targets_of(
     position: &Position,
     occupancy: Occupancy,

@@ -11,7 +11,8 @@ pub const THIRD: [Option<Kind>; 6] = [
     Some(Kind::P),
 ];
 
-/// The men on their squares, White having the third man if there is one, and the side to move. Squares are numbers below 64.
+/// The men on their squares, White having the third man if there is one, and the side to move. Squares are numbers
+/// below 64.
 #[derive(Clone, Copy, Default)]
 pub struct PlainPosition {
     pub white_king: u8,
@@ -20,7 +21,8 @@ pub struct PlainPosition {
     pub black_moves: bool,
 }
 
-/// How many codes a class has, by the man beside the white king: a digit of 64 for each man and one of 2 for the side to move.
+/// How many codes a class has, by the man beside the white king: a digit of 64 for each man and one of 2 for the side
+/// to move.
 pub fn code_count(third: Option<Kind>) -> usize {
     match third {
         Some(_) => 64 * 64 * 64 * 2,
@@ -49,7 +51,8 @@ fn may_stand(kind: Kind, square: u8) -> bool {
 }
 
 impl PlainPosition {
-    /// The number whose digits are the squares of the white king, the black king and the third man, and the side to move.
+    /// The number whose digits are the squares of the white king, the black king and the third man, and the side to
+    /// move.
     pub fn code(self) -> usize {
         let kings = 64 * usize::from(self.white_king) + usize::from(self.black_king);
         let men = match self.third {
@@ -82,8 +85,8 @@ impl PlainPosition {
             || self.third.is_some_and(|(_, stands)| stands == square)
     }
 
-    /// Whether it is a position: the kings do not touch, the third man has a square to itself where it may stand, and the black
-    /// king is not attacked with White to move.
+    /// Whether it is a position: the kings do not touch, the third man has a square to itself where it may stand, and
+    /// the black king is not attacked with White to move.
     pub fn is_position(self) -> bool {
         if touch(self.white_king, self.black_king) {
             return false;

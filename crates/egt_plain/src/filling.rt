@@ -63,8 +63,8 @@ pub fn position_of(plain: PlainPosition) -> Option<Position> {
     made.ok()
 }
 
-/// The class's number and the plain code of a position with at most three men: the settled form, with colours flipped where Black has
-/// the third man. None for more men, and for a class from 6 on.
+/// The class's number and the plain code of a position with at most three men: the settled form, with colours flipped
+/// where Black has the third man. None for more men, and for a class from 6 on.
 pub fn plain_code(position: &Position) -> Option<(usize, usize)> {
     let (_, flipped) = of(position);
     let turned = if flipped {
@@ -97,8 +97,8 @@ pub fn plain_code(position: &Position) -> Option<(usize, usize)> {
 ///
 /// # Errors
 ///
-/// `Position` where a code is a position here and not for the product, or the other way, and for a class from 6 on; `NoMemory` where
-/// a growth was refused.
+/// `Position` where a code is a position here and not for the product, or the other way, and for a class from 6 on;
+/// `NoMemory` where a growth was refused.
 pub fn indexes(alloc: Global, class: u8) -> Result<Vec<Option<u32>>, Unlike> {
     let Some(asked) = Class::new(class) else {
         return Err(Unlike::Position);

@@ -1,6 +1,7 @@
-//! What several crates of tests stand on. Plain tables of the first six classes: every position by its own code, with no symmetry, solved by
-//! sweeps forward, written from the rules of play alone (`filling` and `shelf` alone ask for indexes and sizes, and put the entries there).
-//! The table of two kings by the rule of kings alone; tables' files and libraries; runs by rounds in whatever order.
+//! What several crates of tests stand on. Plain tables of the first six classes: every position by its own code, with
+//! no symmetry, solved by sweeps forward, written from the rules of play alone (`filling` and `shelf` alone ask for
+//! indexes and sizes, and put the entries there). The table of two kings by the rule of kings alone; tables' files and
+//! libraries; runs by rounds in whatever order.
 #![tactic(auto)]
 
 mod code;

@@ -1,5 +1,6 @@
-//! Sweeps for the plies to checkmate. Sweep n looks at the successors of each position that is not decided: it is won in n
-//! where one of them is lost in less than n, and lost in n where all are won in less, or where it is checkmate and n is 0.
+//! Sweeps for the plies to checkmate. Sweep n looks at the successors of each position that is not decided: it is won
+//! in n where one of them is lost in less than n, and lost in n where all are won in less, or where it is checkmate and
+//! n is 0.
 use crate::code::{PlainPosition, code_count};
 use crate::outcome::{DRAW, is_loss_below, is_win_below, loss, win};
 use crate::tables::PlainTables;

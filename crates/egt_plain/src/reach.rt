@@ -1,5 +1,5 @@
-//! Sweeps for the plies to the nearest checkmate, whichever side is mated, by moves of both sides. Sweep n looks at the successors of each position of
-//! which no number is known: it is n where the number of one of them is less.
+//! Sweeps for the plies to the nearest checkmate, whichever side is mated, by moves of both sides. Sweep n looks at the
+//! successors of each position of which no number is known: it is n where the number of one of them is less.
 use crate::code::PlainPosition;
 use crate::outcome::loss;
 use crate::tables::PlainTables;
@@ -69,7 +69,8 @@ fn last_due(solved: &PlainTables) -> u16 {
     greatest
 }
 
-/// The column of the nearest mates of a class. Sweeps end where one finds nothing and no number of another class is still to fall due.
+/// The column of the nearest mates of a class. Sweeps end where one finds nothing and no number of another class is
+/// still to fall due.
 pub(crate) fn solve_reach(
     alloc: Global,
     third: Option<Kind>,

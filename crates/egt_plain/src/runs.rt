@@ -106,8 +106,9 @@ fn first_round<G: Game>(
     Ok((repeated, close, post_block(alloc, rounds, *last)?))
 }
 
-/// What is answered in a run whose first round posts one block a second time, and whose second a batch of the first that was held: to both, to a close before
-/// the last block of the first round is posted, and to its post. And the ranks in the end.
+/// What is answered in a run whose first round posts one block a second time, and whose second a batch of the first
+/// that was held: to both, to a close before the last block of the first round is posted, and to its post. And the
+/// ranks in the end.
 pub fn with_held<G: Game>(
     alloc: Global,
     game: &G,
@@ -123,7 +124,8 @@ pub fn with_held<G: Game>(
     Ok((answers, late, finished(alloc, rounds, order)?))
 }
 
-/// Expands every block and posts the odd ones; the other batches are lost. Answers whether just the odd ones count as posted.
+/// Expands every block and posts the odd ones; the other batches are lost. Answers whether just the odd ones count as
+/// posted.
 fn lose_even_batches<G: Game>(
     alloc: Global,
     rounds: &mut Rounds<'_, G>,
@@ -145,7 +147,8 @@ fn lose_even_batches<G: Game>(
     Ok(odd)
 }
 
-/// A round with lost batches: whether just the odd ones count as posted, and what is answered to a close and to a second post before the others are made again.
+/// A round with lost batches: whether just the odd ones count as posted, and what is answered to a close and to a
+/// second post before the others are made again.
 fn play_with_losses<G: Game>(
     alloc: Global,
     rounds: &mut Rounds<'_, G>,

@@ -27,7 +27,8 @@ pub fn library_of(alloc: Global, tables: &PlainTables, end: u8) -> Result<Librar
     Ok(library)
 }
 
-/// A library with these plain tables, the column of the nearest mates in each, of the classes below a number, which is at most 6.
+/// A library with these plain tables, the column of the nearest mates in each, of the classes below a number, which is
+/// at most 6.
 pub fn whole_library_of(alloc: Global, tables: &PlainTables, end: u8) -> Result<Library, Fail> {
     let mut library = Library::new(alloc)?;
     for class in 0..end {

@@ -40,7 +40,8 @@ pub fn stepped(square: u8, step: (u8, u8)) -> Option<u8> {
     }
 }
 
-/// The steps of a piece, and how often it may repeat one (FIDE Laws of Chess 2023, articles 3.2 to 3.8); a pawn has none.
+/// The steps of a piece, and how often it may repeat one (FIDE Laws of Chess 2023, articles 3.2 to 3.8); a pawn has
+/// none.
 pub fn steps_of(kind: Kind) -> (&'static [(u8, u8)], u8) {
     match kind {
         Kind::Q => (&ALL_STEPS, 7),

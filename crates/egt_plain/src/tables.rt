@@ -11,9 +11,9 @@ pub(crate) struct PlainTable {
     pub(crate) reach: Vec<u16>,
 }
 
-/// The tables of the classes 0 to some number of at most 5. An entry is 0 for a code that is no position, 1 for a draw, `2 + 2n` for a
-/// win in n plies and `3 + 2n` for a loss in n plies; in the column of the nearest mates 1 for a dead position and `2 + n` where n plies of both
-/// sides lead to a checkmate.
+/// The tables of the classes 0 to some number of at most 5. An entry is 0 for a code that is no position, 1 for a draw,
+/// `2 + 2n` for a win in n plies and `3 + 2n` for a loss in n plies; in the column of the nearest mates 1 for a dead
+/// position and `2 + n` where n plies of both sides lead to a checkmate.
 #[derive(Drop)]
 pub struct PlainTables {
     pub(crate) tables: Vec<PlainTable>,
@@ -43,7 +43,8 @@ impl PlainTables {
         0
     }
 
-    /// The entry of a position, which is of a class that was solved or of the one in work, of which this is the column; 0 where it is none.
+    /// The entry of a position, which is of a class that was solved or of the one in work, of which this is the column;
+    /// 0 where it is none.
     pub(crate) fn entry_beside(
         &self,
         column: Column,

@@ -1,6 +1,6 @@
-//! Sweeps for the plies to a winning capture, move of a pawn or checkmate, over positions whose mate entries are known. Sweep n
-//! decides a win where a move to a lost position zeroes or leads to a zeroing loss in less than n, and a loss where each move
-//! zeroes or leads to a zeroing win in less than n.
+//! Sweeps for the plies to a winning capture, move of a pawn or checkmate, over positions whose mate entries are known.
+//! Sweep n decides a win where a move to a lost position zeroes or leads to a zeroing loss in less than n, and a loss
+//! where each move zeroes or leads to a zeroing win in less than n.
 use crate::code::PlainPosition;
 use crate::moves::Successor;
 use crate::outcome::{DRAW, is_loss, is_loss_below, is_win, is_win_below, loss, win};

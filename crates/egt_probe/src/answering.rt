@@ -104,13 +104,14 @@ fn answer_last<K: Sink>(
     push_report(alloc, library, kept, sink)
 }
 
-/// Answers each line of the source by its report, followed by a line feed, in order. A line ends at a line feed, or at the end of
-/// the input if it is not empty there. It keeps a line of at most 1,024 bytes and a piece of 4,096, however long the input is.
+/// Answers each line of the source by its report, followed by a line feed, in order. A line ends at a line feed, or at
+/// the end of the input if it is not empty there. It keeps a line of at most 1,024 bytes and a piece of 4,096, however
+/// long the input is.
 ///
 /// # Errors
 ///
-/// `NoMemory` where a growth was refused: whole reports of a beginning of the lines were written then. `Device` where the
-/// source or the sink failed, which is counted: a beginning of the reports was written then.
+/// `NoMemory` where a growth was refused: whole reports of a beginning of the lines were written then. `Device` where
+/// the source or the sink failed, which is counted: a beginning of the reports was written then.
 pub fn answer<S: Source, K: Sink>(
     alloc: Global,
     library: &Library,
@@ -119,7 +120,8 @@ pub fn answer<S: Source, K: Sink>(
 ) -> Result<(), AnswerFault>
     ensures answered { OnOk result (AnsweredAll (loaded_in library.now) (S.left source.old) (S.left source.new) (K.written sink.old) (K.written sink.new)) }
     ensures fault { IfErr result (λ fault. AnsweredSome (loaded_in library.now) fault (S.left source.old) (K.written sink.old) (K.written sink.new)) }
-    ensures failures { CountsEither result (S.failures source.old) (S.failures source.new) (K.failures sink.old) (K.failures sink.new) }
+    ensures failures { CountsEither result (S.failures source.old) (S.failures source.new) (K.failures sink.old)
+        (K.failures sink.new) }
 {
     let mut kept = OpenLine::new();
     let mut buffer = [0; PIECE];

@@ -69,13 +69,13 @@ pub(crate) fn best_line(
     Ok(moves)
 }
 
-/// The line of best play of a position that is won or lost: as many moves as plies to mate, each the first in the order of moves that
-/// keeps the distance, the last one checkmate.
+/// The line of best play of a position that is won or lost: as many moves as plies to mate, each the first in the order
+/// of moves that keeps the distance, the last one checkmate.
 ///
 /// # Errors
 ///
-/// `Missing` where the library has no table of the position's class, `Drawn` where the position is a draw, and `NoMemory` where
-/// there is no memory for the moves.
+/// `Missing` where the library has no table of the position's class, `Drawn` where the position is a draw, and
+/// `NoMemory` where there is no memory for the moves.
 pub fn line(alloc: Global, library: &Library, position: &Position) -> Result<Vec<Move>, LineFault>
     ensures line { IfOk result (λ moves. IsBestPlay position.now moves.items) }
     ensures loaded { IfOk result (λ _. IsLoaded (loaded_in library.now) position.now) }

@@ -37,8 +37,8 @@ pub(crate) fn holding_move(library: &Library, position: &Position) -> Move
     drawing_move(library, position).unwrap()
 }
 
-/// The first move in the order of moves that holds the draw of a drawn position, dead or not; `None` where it is stalemate. It takes
-/// no memory.
+/// The first move in the order of moves that holds the draw of a drawn position, dead or not; `None` where it is
+/// stalemate. It takes no memory.
 ///
 /// # Errors
 ///

@@ -15,12 +15,14 @@ use crate::facts::facts;
 /// sides lead to it, which is a draw too. Where the table has the column of the nearest mates, some legal moves lead to
 /// it from a position with a legal move that is called a draw.
 pub fn what_a_verdict_means()
-    ensures mover_mates { (loaded : Loaded) (p : Setup) (c n z : ℕ) → IsVerdict loaded p (verdict_of c (outcomes.Decided p.side n z)) →
+    ensures mover_mates { (loaded : Loaded) (p : Setup) (c n z : ℕ) →
+        IsVerdict loaded p (verdict_of c (outcomes.Decided p.side n z)) →
         MatesWithin chess n p × CannotMateBefore chess n p }
     ensures mover_is_mated { (loaded : Loaded) (p : Setup) (c n z : ℕ) →
         IsVerdict loaded p (verdict_of c (outcomes.Decided (other_side p.side) n z)) →
         IsMatedWithin chess n p × AvoidsMateBefore chess n p }
-    ensures draw { (loaded : Loaded) (p : Setup) (c : ℕ) → IsVerdict loaded p (verdict_of c outcomes.Draw) → IsDraw chess p }
+    ensures draw { (loaded : Loaded) (p : Setup) (c : ℕ) → IsVerdict loaded p (verdict_of c outcomes.Draw) →
+        IsDraw chess p }
     ensures dead { (loaded : Loaded) (p : Setup) (c : ℕ) → IsVerdict loaded p (verdict_of c outcomes.Dead) →
         IsDraw chess p × IsDead chess p }
     ensures alive { (loaded : Loaded) (p : Setup) (c : ℕ) → IsVerdict loaded p (verdict_of c outcomes.Draw) →
@@ -45,7 +47,8 @@ pub fn the_best_move_begins_the_line()
 /// A line has one report, by the rules of play, the classes that are loaded and which of their tables have the column
 /// of the nearest mates, alone.
 pub fn a_line_has_one_report()
-    ensures { (loaded : Loaded) (line one other : List ℕ) → Report loaded line one → Report loaded line other → one ≡ other }
+    ensures { (loaded : Loaded) (line one other : List ℕ) → Report loaded line one → Report loaded line other →
+        one ≡ other }
 {
     facts();
 }
@@ -60,8 +63,8 @@ pub fn the_same_classes_give_the_same_reports()
 }
 
 /// Where the same classes are loaded, and the same of their tables have the column of the nearest mates, the same is
-/// told of a position: its verdict, its line, the move that holds its draw, or the fault; a line alone may be refused for
-/// want of memory.
+/// told of a position: its verdict, its line, the move that holds its draw, or the fault; a line alone may be refused
+/// for want of memory.
 pub fn the_same_classes_give_the_same_answers()
     ensures verdict { (loaded others : Loaded) (p : Setup) (one other : Result Verdict Missing) → IsAdmissible p →
         ((c : ℕ) → loaded c ≡ others c) → TellsVerdict loaded p one → TellsVerdict others p other → one ≡ other }

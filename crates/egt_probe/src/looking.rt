@@ -16,8 +16,8 @@ use egt_table::{Column, Table};
 /// The entry of a dead position in the column of the nearest mates.
 const DEAD: u16 = 1;
 
-/// The outcome that the entries of the columns of mates and of zeroing moves show of a position with that side to move. They do not
-/// tell which draws are dead.
+/// The outcome that the entries of the columns of mates and of zeroing moves show of a position with that side to move.
+/// They do not tell which draws are dead.
 fn outcome_shown(side: Side, mate: u16, zeroing: u16) -> Outcome
     requires { (v : Value) × (w : Value) × Shows mate v × Shows zeroing w × SameKind v w }
     ensures mate { Shows mate (mate_value side result) }
@@ -35,7 +35,8 @@ fn outcome_shown(side: Side, mate: u16, zeroing: u16) -> Outcome
     }
 }
 
-/// The outcome of the position, whose index this is, by the two columns that each table has. They do not tell which draws are dead.
+/// The outcome of the position, whose index this is, by the two columns that each table has. They do not tell which
+/// draws are dead.
 fn decided_or_drawn(table: &Table, index: u32, position: &Position) -> Outcome
     requires truth { IsTrueTable table.now }
     requires index { IsIndex table.now.class position.now index }
@@ -49,8 +50,8 @@ fn decided_or_drawn(table: &Table, index: u32, position: &Position) -> Outcome
     outcome_shown(position.side(), mate, zeroing)
 }
 
-/// Whether the position, whose index this is, is dead and has a legal move, as far as the table tells: `false` where it lacks the
-/// column of the nearest mates.
+/// Whether the position, whose index this is, is dead and has a legal move, as far as the table tells: `false` where it
+/// lacks the column of the nearest mates.
 fn is_dead(table: &Table, index: u32, position: &Position) -> bool
     requires truth { IsTrueTable table.now }
     requires index { IsIndex table.now.class position.now index }
@@ -88,9 +89,9 @@ fn outcome_at(table: &Table, index: u32, position: &Position) -> Outcome
     }
 }
 
-/// The class of the position and its outcome: who forces checkmate, in how many plies, and in how many a capture, a move of a pawn
-/// or checkmate, or that nobody does. Where the table has the column of the nearest mates, it also tells which draws with a legal
-/// move are dead. It takes no memory.
+/// The class of the position and its outcome: who forces checkmate, in how many plies, and in how many a capture, a
+/// move of a pawn or checkmate, or that nobody does. Where the table has the column of the nearest mates, it also tells
+/// which draws with a legal move are dead. It takes no memory.
 ///
 /// # Errors
 ///

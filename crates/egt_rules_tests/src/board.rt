@@ -81,7 +81,7 @@ fn is_image(words: &str, number: u8, image: &str) -> Option<bool> {
     Some(symmetry.number() == number && same(&found, &position_of(image)?))
 }
 
-/// The same of a position with pawns, and the mirror of the files.
+/// Whether the mirror of the files brings a position with pawns to the image.
 fn is_mirrored(words: &str, image: &str) -> Option<bool> {
     let found = position_of(words)?.image(Symmetry::new(1)?);
     Some(same(&found, &position_of(image)?))

@@ -28,8 +28,8 @@ fn count(number: u8) -> Option<u32> {
     Some(indexes)
 }
 
-/// The squares of the white king, of the black king and of each other man, the sides to move and, where both sides have a
-/// pawn, a target or none.
+/// The squares of the white king, of the black king and of each other man, the sides to move and, where both sides have
+/// a pawn, a target or none.
 fn wanted(number: u8) -> u32 {
     match number {
         0 => 10 * 64 * 2,
@@ -57,7 +57,7 @@ const INDEXES: [(&str, (u8, u32)); 7] = [
     // The image has the king on c2, the queen on h4 and the black king on a1: ((5 * 64 + 0) * 64 + 31) * 2 + 0.
     ("Kb6 Qd1 ka8 w", (1, 41_022)),
     ("Kb6 Qd1 ka8 b", (1, 41_023)),
-    // The same with colours exchanged.
+    // Colours exchanged.
     ("kb3 qd8 Ka1 b", (1, 41_022)),
     // ((26 * 64 + 48) * 48 + 41) * 2 + 0.
     ("Kf7 Pg7 kh7 w", (5, 164_434)),
@@ -128,10 +128,10 @@ fn two_kings_have_462_indexes(rt: HostRuntime) {
 // (223944 - 48776 + 2 * 42 * 6) / 8 = 21959.
 //
 // With a pawn the mirror of files keeps no position, and half of all are indexes. Black to move: the pawn has 48
-// squares, less those of the kings; a king there leaves the other 58 squares from 12 of them and 55 from 36:
-// 3612 * 48 - 2 * (12 * 58 + 36 * 55) = 168024. White to move: less those where the pawn attacks the black king, from
-// one square on the outer files and from two on the others; the white king then has 58 or 55 squares, and with the black
-// king on the eighth rank 60 or 58: 10 * 58 + 30 * 2 * 55 + 2 * 60 + 6 * 2 * 58 = 4696.
+// squares, less those of the kings; a king there leaves the other 58 squares from 12 of them and 55 from 36: 3612 * 48
+// - 2 * (12 * 58 + 36 * 55) = 168024. White to move: less those where the pawn attacks the black king, from one square
+// on the outer files and from two on the others; the white king then has 58 or 55 squares, and with the black king on
+// the eighth rank 60 or 58: 10 * 58 + 30 * 2 * 55 + 2 * 60 + 6 * 2 * 58 = 4696.
 #[test]
 fn classes_of_three_men_have_as_many_indexes_as_orbits(rt: HostRuntime) {
     for (number, black, white) in [

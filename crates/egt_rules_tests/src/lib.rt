@@ -1,6 +1,6 @@
-//! Tests over the public calls of the rules of play: squares, moves, moves backward, texts of positions, classes and indexes. Figures come from
-//! outside, and plain forms stand beside what is fast. It holds nothing else: a crate with tests is proved twice, so the crates that the program
-//! stands on have none.
+//! Tests over the public calls of the rules of play: squares, moves, moves backward, texts of positions, classes and
+//! indexes. Figures come from outside, and plain forms stand beside what is fast. It holds nothing else: a crate with
+//! tests is proved twice, so the crates that the program stands on have none.
 #![tactic(auto)]
 
 #[cfg(test)]

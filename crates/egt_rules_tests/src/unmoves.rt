@@ -156,8 +156,8 @@ fn targets() -> [Option<Square>; 17] {
     targets
 }
 
-/// The length of the list for the settled position, where it has, in order, exactly what plain play finds from each way to put one man elsewhere, with each
-/// target.
+/// The length of the list for the settled position, where it has, in order, exactly what plain play finds from each way
+/// to put one man elsewhere, with each target.
 fn agrees(position: &Position) -> Option<usize> {
     let settled = position.settle();
     let position = &settled;
@@ -185,8 +185,8 @@ fn agrees(position: &Position) -> Option<usize> {
     Some(list.len())
 }
 
-/// How many unmoves samples of the positions with these men have, where all agree, on squares and with targets that a generator of numbers
-/// gives.
+/// How many unmoves samples of the positions with these men have, where all agree, on squares and with targets that a
+/// generator of numbers gives.
 fn samples_agree(men: [Man; 4]) -> Option<usize> {
     let mut seed: u32 = 1;
     let mut listed: usize = 0;

@@ -1,5 +1,5 @@
-//! What one move changes: the laws of the crates below that rules and games rest on, and where each kind of move leads, by the
-//! men on their squares. The checker stands on it.
+//! What one move changes: the laws of the crates below that rules and games rest on, and where each kind of move leads,
+//! by the men on their squares. The checker stands on it.
 #![tactic(auto)]
 
 pub mod class_moves;

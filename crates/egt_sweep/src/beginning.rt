@@ -1,6 +1,8 @@
-//! The items that looks begin with, one for each pair of kings' squares and side to move with entries of positions, and where the number of each stands.
+//! The items that looks begin with, one for each pair of kings' squares and side to move with entries of positions, and
+//! where the number of each stands.
 ghost use Rattle.std.specs.Prelude.{◌≡◌, ◌≢◌, ◌+◌, ◌*◌, ◌<◌, ◌≤◌, ℕ, false, true, IfOk, IfSome, length, slice_index_or};
-ghost use Rattle.egt_sweep.specs.FillPrelude.{All, AreShelvesOf, with_kings, IsOwnTable, AreMenOf, TableValue, AreNumbered};
+ghost use Rattle.egt_sweep.specs.FillPrelude.{All, AreShelvesOf, with_kings, IsOwnTable, AreMenOf, TableValue};
+ghost use Rattle.egt_sweep.specs.FillPrelude.{AreNumbered};
 ghost use Rattle.egt_sweep.specs.FillPrelude.{IsItem, no_squares, IsFilling};
 
 use crate::filling::Filling;
@@ -42,8 +44,8 @@ fn no_ends() -> [SquareSet; 64]
     [SquareSet::EMPTY; 64]
 }
 
-/// The item of the shelves from this one on, of these men with that side to move, before its first look. `None` where the shelves are those of other men, and
-/// where the table of a child does not tell.
+/// The item of the shelves from this one on, of these men with that side to move, before its first look. `None` where
+/// the shelves are those of other men, and where the table of a child does not tell.
 fn item_of(
     alloc: Global,
     f: &Filling,
@@ -76,8 +78,8 @@ fn item_of(
     }))
 }
 
-/// Adds the item of the shelves from this one on with that side to move, or none where no entries are of positions. False where the shelves do not go by
-/// pairs, and where the table of a child does not tell.
+/// Adds the item of the shelves from this one on with that side to move, or none where no entries are of positions.
+/// False where the shelves do not go by pairs, and where the table of a child does not tell.
 fn begin_pair(
     alloc: Global,
     f: &Filling,
@@ -109,7 +111,8 @@ fn begin_pair(
     Ok(true)
 }
 
-/// Adds the items of all pairs with that side to move. False where the shelves do not go by pairs, and where the table of a child does not tell.
+/// Adds the items of all pairs with that side to move. False where the shelves do not go by pairs, and where the table
+/// of a child does not tell.
 fn begin_side(
     alloc: Global,
     f: &Filling,
@@ -136,8 +139,8 @@ fn begin_side(
     Ok(true)
 }
 
-/// The items of all pairs, with either side to move, before their first looks. `None` where the class's shelves do not go by pairs, and where the table of a
-/// child does not tell.
+/// The items of all pairs, with either side to move, before their first looks. `None` where the class's shelves do not
+/// go by pairs, and where the table of a child does not tell.
 pub(crate) fn begun_items(
     alloc: Global,
     f: &Filling,

@@ -1,6 +1,7 @@
 //! Entries that are to be found, before any look: all positions are drawn in the part's columns, or dead.
 ghost use Rattle.std.specs.Prelude.{◌≡◌, ◌<◌, ℕ, None, length, IfErr, IfOk, IfSome};
-ghost use Rattle.egt_sweep.specs.FillPrelude.{IsVoid, size_of, IsTable, table_in, AreDrawnOrNone, HasNoVoidScore, IsDrawnIndex};
+ghost use Rattle.egt_sweep.specs.FillPrelude.{IsVoid, size_of, IsTable, table_in, AreDrawnOrNone, HasNoVoidScore};
+ghost use Rattle.egt_sweep.specs.FillPrelude.{IsDrawnIndex};
 ghost use Rattle.egt_sweep.specs.FillPrelude.{HasBytes, IsDrawn, IsWithReach};
 ghost use Rattle.egt_check.specs.declared.part.Part.TheVariants as parts;
 
@@ -45,8 +46,8 @@ pub(crate) fn drawn_column(alloc: Global, class: Class) -> Result<Vec<u16>, Allo
     Ok(entries)
 }
 
-/// The entries of the class in whose columns of values all positions are drawn. `None` of a class that has not two men beside
-/// the kings.
+/// The entries of the class in whose columns of values all positions are drawn. `None` of a class that has not two men
+/// beside the kings.
 pub(crate) fn begun_values(alloc: Global, class: Class) -> Result<Option<Found>, AllocError>
     ensures class { IfOk result (λ some. IfSome some (λ t. t.class ≡ class)) }
     ensures reach { IfOk result (λ some. IfSome some (λ t. t.reach ≡ None)) }

@@ -9,7 +9,8 @@ pub enum BuildFault {
     /// A growth was refused. Nothing is said of the class.
     #[error("out of memory")]
     NoMemory,
-    /// Some position of the class has a mate distance above this limit; or, for 32,000, its nearest mate is farther away.
+    /// Some position of the class has a mate distance above this limit; or, for 32,000, its nearest mate is farther
+    /// away.
     #[error("a mate takes more than {0} plies")]
     TooDeep(u16),
     /// The class, the least of the children, has no table in the library.

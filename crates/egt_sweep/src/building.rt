@@ -113,7 +113,8 @@ fn value_columns(
 /// The table of these columns, where each is as long as the class asks.
 fn joined(class: Class, mates: Ranks, zeroing: Ranks, nears: Nears) -> Option<Table>
     ensures table { IfSome result (λ t. t ≡ record { class = class; mate = mates; zeroing = zeroing; reach = Some nears }) }
-    ensures exact { length mates ≡ size_of class → length zeroing ≡ size_of class → length nears ≡ size_of class → IsSome result }
+    ensures exact { length mates ≡ size_of class → length zeroing ≡ size_of class → length nears ≡ size_of class →
+        IsSome result }
 {
     let table = Table::from_ranks(class, mates, zeroing).ok()?;
     table.with_reach(nears).ok()
@@ -145,7 +146,8 @@ fn reach_part(alloc: Global, class: Class, library: &Library) -> Result<Nears, B
     requires children { HasChildren (table_at library.now) class }
     requires reach_children { HasReachChildren (table_at library.now) class }
     ensures nears { IfOk result (AreNears (reach_game (table_at library.now) class)) }
-    ensures refused { (limit : ℕ) → AllWithinLimit class limit → IfErr result (IsNotBuilt (table_at library.now) class limit) }
+    ensures refused { (limit : ℕ) → AllWithinLimit class limit →
+        IfErr result (IsNotBuilt (table_at library.now) class limit) }
 {
     match reach_column(alloc, class, library) {
         Ok(nears) => Ok(nears),
@@ -196,8 +198,8 @@ fn kept(table: Table, class: Class, library: &Library, limit: u16) -> Result<Tab
     within_limit(table, limit)
 }
 
-/// As `build`, where a class of two men or a piece beside the kings is filled within so many rounds of looks; where these
-/// are too few, it is solved as the others are.
+/// As `build`, where a class of two men or a piece beside the kings is filled within so many rounds of looks; where
+/// these are too few, it is solved as the others are.
 ///
 /// # Errors
 ///
@@ -225,15 +227,17 @@ pub fn build_within(
     }
 }
 
-/// The table of a class whose children have their tables in the library, each with the column of the nearest mates, with no mate distance above `limit`,
-/// which is at most 32,000. A class of two men beside the kings is filled by blocks, one of a piece by rows, another by retrograde analysis
-/// (Thompson 1986). No check is run, and none is needed: every entry is true, and the library takes the table unless it has one of the class.
+/// The table of a class whose children have their tables in the library, each with the column of the nearest mates,
+/// with no mate distance above `limit`, which is at most 32,000. A class of two men beside the kings is filled by
+/// blocks, one of a piece by rows, another by retrograde analysis (Thompson 1986). No check is run, and none is needed:
+/// every entry is true, and the library takes the table unless it has one of the class.
 ///
 /// # Errors
 ///
-/// `Missing` with the least child that has no table; else `NoReach` with the least child whose table lacks that column; else `NoMemory` where a growth was
-/// refused, and `TooDeep` with the limit where some position of the class has a mate distance above it, or with 32,000 where none has and the nearest mate
-/// of some position is farther away than 32,000 plies.
+/// `Missing` with the least child that has no table; else `NoReach` with the least child whose table lacks that column;
+/// else `NoMemory` where a growth was refused, and `TooDeep` with the limit where some position of the class has a mate
+/// distance above it, or with 32,000 where none has and the nearest mate of some position is farther away than 32,000
+/// plies.
 pub fn build(
     alloc: Global,
     class: Class,

@@ -1,6 +1,8 @@
-//! Whole tables whose entries are due with the kings on all squares: of those that were looked at they are, and of the rest all are of no position.
+//! Whole tables whose entries are due with the kings on all squares: of those that were looked at they are, and of the
+//! rest all are of no position.
 ghost use Rattle.std.specs.Prelude.{◌≡◌, ◌+◌, ◌<◌, ℕ, true, Contains};
-ghost use Rattle.egt_sweep.specs.FillPrelude.{All, size_of, IsOwnTable, KeepsPart, AreAllJudged, IsDueItem, tables_with};
+ghost use Rattle.egt_sweep.specs.FillPrelude.{All, size_of, IsOwnTable, KeepsPart, AreAllJudged, IsDueItem};
+ghost use Rattle.egt_sweep.specs.FillPrelude.{tables_with};
 ghost use Rattle.egt_sweep.specs.FillPrelude.{IsFilling, Item};
 
 use crate::filling::Filling;
@@ -37,7 +39,8 @@ fn has_item(
     }
 }
 
-/// Whether all entries of the shelves from this one on with that side to move, and of those `half` further on, are of no position or those of an item.
+/// Whether all entries of the shelves from this one on with that side to move, and of those `half` further on, are of
+/// no position or those of an item.
 pub(crate) fn pair_is_covered(
     filling: &Filling,
     table: &Found,
@@ -72,7 +75,7 @@ pub(crate) fn pair_is_covered(
     has_item(items, places, first, here.white, here.black, side)
 }
 
-/// Whether so are those of all shelves, with either side to move: then all entries of the part keep the rules.
+/// Whether the entries of all shelves are due, with either side to move: then all entries of the part keep the rules.
 pub(crate) fn all_are_covered(
     filling: &Filling,
     table: &Found,
@@ -82,7 +85,8 @@ pub(crate) fn all_are_covered(
     requires filling { IsFilling filling.now }
     requires own { IsOwnTable filling.now.part filling.now.class filling.now.men table.now }
     requires due { All (IsDueItem filling.now table.now) items.now }
-    ensures { result ≡ true → (i : ℕ) → i < size_of table.now.class → KeepsPart filling.now.part (tables_with filling.now table.now) table.now i }
+    ensures { result ≡ true → (i : ℕ) → i < size_of table.now.class →
+        KeepsPart filling.now.part (tables_with filling.now table.now) table.now i }
 {
     judged_pairs_hold_all_codes();
     let Some(pairs) = pairs_of(filling.class, &filling.men) else {

@@ -12,8 +12,8 @@ use egt_check::successors::place_after;
 use egt_class::Class;
 use egt_moves::{Men, Move, legal_moves, zeroing};
 
-/// Whether the move from a position of the class to one of the class `after` goes on in the game: it stays in the class, or does not zero.
-/// One that does not zero stays in the class.
+/// Whether the move from a position of the class to one of the class `after` goes on in the game: it stays in the
+/// class, or does not zero. One that does not zero stays in the class.
 pub(crate) fn goes_on(
     metric: Metric,
     class: Class,
@@ -22,8 +22,10 @@ pub(crate) fn goes_on(
     after: Class,
 ) -> bool
     requires { (flipped : Bool) × IsOf class flipped position.now }
-    ensures on { (q : Setup) (flipped : Bool) → Leads position.now chess_move.now q → IsOf after flipped q → IsTrue result ↔ GoesOn metric class position.now chess_move.now q }
-    ensures class { (q : Setup) (flipped : Bool) → Leads position.now chess_move.now q → IsOf after flipped q → IsTrue result → after ≡ class }
+    ensures on { (q : Setup) (flipped : Bool) → Leads position.now chess_move.now q → IsOf after flipped q →
+        IsTrue result ↔ GoesOn metric class position.now chess_move.now q }
+    ensures class { (q : Setup) (flipped : Bool) → Leads position.now chess_move.now q → IsOf after flipped q →
+        IsTrue result → after ≡ class }
 {
     laws();
     let _side = position.side();
@@ -50,7 +52,8 @@ fn add_edge(
     requires ascending { IsStrictlyIncreasing list.old.items }
     requires room { array_vec_len list.old < 64 }
     ensures ascending { IsStrictlyIncreasing list.new.items }
-    ensures members { (k : ℕ) → Contains list.new.items k ↔ (Contains list.old.items k ⊎ LeadsOn metric class position.now chess_move.now k) }
+    ensures members { (k : ℕ) → Contains list.new.items k ↔
+        (Contains list.old.items k ⊎ LeadsOn metric class position.now chess_move.now k) }
     ensures few { array_vec_len list.new ≤ array_vec_len list.old + 1 }
 {
     laws();
@@ -67,7 +70,8 @@ fn add_edge(
 pub(crate) fn edges(metric: Metric, class: Class, position: &Position) -> ArrayVec<u32, 64>
     requires { (flipped : Bool) × IsOf class flipped position.now }
     ensures ascending { IsStrictlyIncreasing result.items }
-    ensures exact { (i : ℕ) → IsAt class i position.now → (k : ℕ) → Contains result.items k ↔ Connects metric class i k }
+    ensures exact { (i : ℕ) → IsAt class i position.now → (k : ℕ) →
+        Contains result.items k ↔ Connects metric class i k }
 {
     laws();
     let _side = position.side();

@@ -7,7 +7,8 @@ use egt_class::Class;
 use egt_index::laws::codes_spell_one_position;
 use egt_index::position;
 
-/// The score of the code's position, checkmate or stalemate, in all columns. `None` where it has a move, and of a void code.
+/// The score of the code's position, checkmate or stalemate, in all columns. `None` where it has a move, and of a void
+/// code.
 pub(crate) fn end_score(class: Class, code: u32) -> Option<u8>
     requires { code < size_of class }
     ensures { IfSome result (IsEndScore class code) }

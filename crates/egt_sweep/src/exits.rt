@@ -161,7 +161,8 @@ pub(crate) fn exits_of(
     requires knows { Knows (table_at library.now) class objective.now }
     requires children { HasChildren (table_at library.now) class }
     requires of { (flipped : Bool) × IsOf class flipped position.now }
-    ensures { result.items ≡ exits_from (known (table_at library.now) class objective.now) (metric_of objective.now) class (Some position.now) }
+    ensures { result.items ≡ exits_from (known (table_at library.now) class objective.now)
+        (metric_of objective.now) class (Some position.now) }
 {
     let men = Men::of(position);
     let moves = legal_moves(position);

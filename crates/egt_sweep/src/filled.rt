@@ -10,7 +10,8 @@ use egt_class::Class;
 use egt_table::Table;
 use std::alloc::Global;
 
-/// The table of a class with all its columns; none where bytes do not tell of its entries, and where so many rounds of looks are too few.
+/// The table of a class with all its columns; none where bytes do not tell of its entries, and where so many rounds of
+/// looks are too few.
 pub(crate) fn filled(
     alloc: Global,
     class: Class,

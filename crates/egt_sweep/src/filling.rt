@@ -22,7 +22,8 @@ pub(crate) struct Filling<'t> {
     pub(crate) half: u32,
 }
 
-/// What the part of the class's table is filled by. `None` of another class, and where the table of a child is missing or does not tell its entries by bytes.
+/// What the part of the class's table is filled by. `None` of another class, and where the table of a child is missing
+/// or does not tell its entries by bytes.
 pub(crate) fn filling_of<'t>(library: &'t Library, class: Class, part: Part) -> Option<Filling<'t>>
     ensures filling { IfSome result IsFilling }
     ensures class { IfSome result (λ f. f.class ≡ class) }

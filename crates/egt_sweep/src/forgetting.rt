@@ -15,7 +15,8 @@ use egt_table::Column;
 fn forget_at(white: Square, black: Square, keys: &mut [Option<BlockKey>])
     requires { 0 < length keys.old }
     ensures fewer { AreFewer keys.old keys.new }
-    ensures gone { (column : Column) → slice_index_or keys.new (wide_place column white black (length keys.old)) None ≡ None }
+    ensures gone { (column : Column) → slice_index_or keys.new
+        (wide_place column white black (length keys.old)) None ≡ None }
 {
     let places = keys.len();
     keys[wide_place(Column::Mate, white, black, places)] = None;
@@ -41,7 +42,8 @@ fn forget_turned(
     }
 }
 
-/// Forgets the blocks that were read from positions with the kings on these squares, among those with the same side to move and those with the other.
+/// Forgets the blocks that were read from positions with the kings on these squares, among those with the same side to
+/// move and those with the other.
 pub(crate) fn forget_read(
     class: Class,
     white: Square,
@@ -55,7 +57,8 @@ pub(crate) fn forget_read(
     ensures others { (side : Side) → AreForgotten class white black side (other_side side) others.old others.new }
 {
     forget_turned(class, false, white, black, same);
-    // Where sides have the same men, these positions are read as those with the other side to move too, in exchanged colours.
+    // Where sides have the same men, these positions are read as those with the other side to move too, in exchanged
+    // colours.
     if has_equal_sides(class) {
         forget_turned(class, true, black, white, others);
     }

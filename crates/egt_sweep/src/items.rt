@@ -15,7 +15,7 @@ pub(crate) struct Item {
     pub(crate) looked: u32,
     /// The last man's squares at which there is no move, by the first man's.
     pub(crate) ended: [SquareSet; 64],
-    /// Those where there is a target.
+    /// The ends where there is a target.
     pub(crate) passed_ended: [SquareSet; 64],
     /// The greatest scores of the moves that leave the class, but captures in passing.
     pub(crate) leaving: Box<Block>,

@@ -14,7 +14,8 @@ pub(crate) struct Near {
     pub(crate) blocks: Vec<Block>,
 }
 
-/// The greatest scores of all moves, where there is no target and where there is one; the second of each are of the zeroing column alone.
+/// The greatest scores of all moves, where there is no target and where there is one; the second of each are of the
+/// zeroing column alone.
 #[derive(Drop)]
 pub(crate) struct Scores {
     pub(crate) plain: Box<Block>,

@@ -1,7 +1,7 @@
-//! The builder of tables. Classes with two men beside the kings are filled block by block with the kernels that check them: a
-//! look at the positions whose kings stand on two squares puts what is due to the greatest scores of all moves, and a block
-//! is looked at again where one that it reads has changed. Those with a piece are filled by rows, looked at all until nothing
-//! is put. Other classes are games, solved by retrograde analysis.
+//! The builder of tables. Classes with two men beside the kings are filled block by block with the kernels that check
+//! them: a look at the positions whose kings stand on two squares puts what is due to the greatest scores of all moves,
+//! and a block is looked at again where one that it reads has changed. Those with a piece are filled by rows, looked at
+//! all until nothing is put. Other classes are games, solved by retrograde analysis.
 #![tactic(auto)]
 
 mod ascending;

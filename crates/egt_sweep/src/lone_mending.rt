@@ -2,7 +2,8 @@
 //! squares, with one side to move.
 ghost use Rattle.std.specs.Prelude.{◌≡◌, ◌+◌, ◌*◌, ◌-◌, ◌%◌, ◌<◌, ℕ, true, Err, IfOk};
 ghost use Rattle.egt_sweep.specs.FillPrelude.{bit_at, size_of, HasColumn, column_of, table_in, HasBytes, IsMendedAt};
-ghost use Rattle.egt_sweep.specs.FillPrelude.{Side, side_number, kind_digits, AreThreeMen, IsLoneRow, IsDueRow, IsLoneFilling};
+ghost use Rattle.egt_sweep.specs.FillPrelude.{Side, side_number, kind_digits, AreThreeMen, IsLoneRow, IsDueRow};
+ghost use Rattle.egt_sweep.specs.FillPrelude.{IsLoneFilling};
 ghost use Rattle.egt_sweep.specs.declared.mending.Mended.TheVariants as mends;
 
 use crate::ends::end_score;
@@ -47,8 +48,8 @@ struct Wrong {
     entries: Entries,
 }
 
-/// Puts the entry at the code, in both columns of values: no move of the side that wins zeroes. False where bytes do not
-/// tell it, and where the code is no index: then all stays as it is.
+/// Puts the entry at the code, in both columns of values: no move of the side that wins zeroes. False where bytes do
+/// not tell it, and where the code is no index: then all stays as it is.
 fn put_code(table: &mut Table, part: Part, code: u32, entry: u16) -> bool
     requires there { HasColumn (column_of part) table.old }
     requires bytes { HasBytes (table_in part table.old) }
@@ -149,8 +150,8 @@ fn wrong_in(three: &ThreeMen, first: u32, side: Side, all: bool) -> Wrong
     }
 }
 
-/// The side to move in a row. The kings on two squares have two rows, the first with Black to move: White's wins rest on
-/// Black's losses.
+/// The side to move in a row. The kings on two squares have two rows, the first with Black to move: White's wins rest
+/// on Black's losses.
 fn side_of(row: u32) -> Side
     ensures { side_number result ≡ 1 - row % 2 }
 {
@@ -161,8 +162,8 @@ fn side_of(row: u32) -> Side
     }
 }
 
-/// What is to be put in the row; else that it is due, or not told. Where all moves are looked at, it is due only where its
-/// entries keep the rules.
+/// What is to be put in the row; else that it is due, or not told. Where all moves are looked at, it is due only where
+/// its entries keep the rules.
 fn row_seen(
     table: &Table,
     f: &LoneFilling,
@@ -208,8 +209,8 @@ fn row_seen(
     }
 }
 
-/// Puts what is due in the row, as far as its quiet steps tell it; where all moves are looked at, it is due only where its
-/// entries keep the rules.
+/// Puts what is due in the row, as far as its quiet steps tell it; where all moves are looked at, it is due only where
+/// its entries keep the rules.
 pub(crate) fn mend_lone_row(
     table: &mut Table,
     f: &LoneFilling,

@@ -1,6 +1,7 @@
 //! Rounds of looks at the rows of a class with one piece beside the kings, until all entries are due.
 ghost use Rattle.std.specs.Prelude.{◌≡◌, ◌*◌, ◌<◌, ◌≤◌, ℕ, true, IfSome};
-ghost use Rattle.egt_sweep.specs.FillPrelude.{size_of, IsLoneMan, IsLoneFilling, IsMendedAt, KeepsPart, beside, table_at};
+ghost use Rattle.egt_sweep.specs.FillPrelude.{size_of, IsLoneMan, IsLoneFilling, IsMendedAt, KeepsPart, beside};
+ghost use Rattle.egt_sweep.specs.FillPrelude.{table_at};
 ghost use Rattle.egt_sweep.specs.declared.mending.Mended.TheVariants as mends;
 
 use crate::lone_mending::{Kings, LoneFilling, mend_lone_row};
@@ -43,7 +44,8 @@ fn look_at_rows(
 ) -> Mended
     requires filling { IsLoneFilling f.now table.old }
     ensures mended { IsMendedAt f.now.part (λ i. Unit {0}) table.old table.new }
-    ensures due { result ≡ mends.Due → all ≡ true → (i : ℕ) → i < size_of table.new.class → KeepsPart f.now.part (beside (table_at f.now.library.now) table.new) table.new i }
+    ensures due { result ≡ mends.Due → all ≡ true → (i : ℕ) → i < size_of table.new.class →
+        KeepsPart f.now.part (beside (table_at f.now.library.now) table.new) table.new i }
 {
     let codes = size(table.class());
     if codes % 128 != 0 || codes / 128 > 2048 {
@@ -61,9 +63,9 @@ fn look_at_rows(
     found
 }
 
-/// Puts what is due at all codes of the part, until all entries are: a round of looks at quiet steps follows one that put
-/// something, and one of looks at all moves one that did not. `None` where bytes do not tell that, and where so many
-/// rounds are too few.
+/// Puts what is due at all codes of the part, until all entries are: a round of looks at quiet steps follows one that
+/// put something, and one of looks at all moves one that did not. `None` where bytes do not tell that, and where so
+/// many rounds are too few.
 pub(crate) fn settle_rows(f: &LoneFilling, table: &mut Table, rounds: u32) -> Option<Looks>
     requires filling { IsLoneFilling f.now table.old }
     ensures mended { IsMendedAt f.now.part (λ i. Unit {0}) table.old table.new }

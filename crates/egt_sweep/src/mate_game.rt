@@ -10,8 +10,8 @@ use egt_class::Class;
 use egt_graph::{Exit, Game};
 use egt_index::size;
 
-/// The game whose nodes are the indexes of a class, whose edges are the moves that stay in it, and whose exits are the others, with the mate
-/// value of where they lead.
+/// The game whose nodes are the indexes of a class, whose edges are the moves that stay in it, and whose exits are the
+/// others, with the mate value of where they lead.
 #[derive(Drop)]
 pub struct MateGame<'l> {
     pub(crate) class: Class,

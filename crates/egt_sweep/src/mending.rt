@@ -1,7 +1,9 @@
 //! Entries that are put where they are not due to the greatest scores of the moves.
 ghost use Rattle.std.specs.Prelude.{◌≡◌, ◌≢◌, ◌+◌, ◌*◌, ◌<◌, ◌==◌, if◌then◌else◌, ℕ, true, slice_index};
-ghost use Rattle.egt_sweep.specs.FillPrelude.{bit_at, Has, code_of, kind_digits, kind_less, AreMenOf, number_in, size_of};
-ghost use Rattle.egt_sweep.specs.FillPrelude.{AreShelvesOf, HasColumn, column_of, table_in, Zeroing, IsToldAt, IsRightEndOf};
+ghost use Rattle.egt_sweep.specs.FillPrelude.{bit_at, Has, code_of, kind_digits, kind_less, AreMenOf, number_in};
+ghost use Rattle.egt_sweep.specs.FillPrelude.{size_of};
+ghost use Rattle.egt_sweep.specs.FillPrelude.{AreShelvesOf, HasColumn, column_of, table_in, Zeroing, IsToldAt};
+ghost use Rattle.egt_sweep.specs.FillPrelude.{IsRightEndOf};
 ghost use Rattle.egt_sweep.specs.FillPrelude.{IsMaskOf, HasBytes, score_at, AllEnded, AreEnded, AreRightRows, IsCodeIn};
 ghost use Rattle.egt_sweep.specs.FillPrelude.{IsCodeOf, IsLaneOf, IsMendedAt, IsPutAt, IsRightRow, IsRowSeen, IsShelf};
 ghost use Rattle.egt_check.specs.declared.part.Part.TheVariants as parts;
@@ -39,9 +41,11 @@ fn put_lanes(
     requires there { HasColumn (column_of part) table.old }
     requires bytes { HasBytes (table_in part table.old) }
     ensures mended { IsMendedAt part (IsLaneOf table.old.class shelf.now lanes) table.old table.new }
-    ensures told { result ≡ true → (digit : ℕ) → digit < kind_digits shelf.now.men.last.kind → Has lanes (digit + kind_less shelf.now.men.last.kind) →
+    ensures told { result ≡ true → (digit : ℕ) → digit < kind_digits shelf.now.men.last.kind →
+        Has lanes (digit + kind_less shelf.now.men.last.kind) →
         IsToldAt part table.new (code_of table.old.class (number_in table.old.class shelf.now.number shelf.now.side digit)) (slice_index scores (digit + kind_less shelf.now.men.last.kind)) (slice_index clocks (digit + kind_less shelf.now.men.last.kind)) }
-    ensures put { result ≡ true → (digit : ℕ) → digit < kind_digits shelf.now.men.last.kind → Has lanes (digit + kind_less shelf.now.men.last.kind) →
+    ensures put { result ≡ true → (digit : ℕ) → digit < kind_digits shelf.now.men.last.kind →
+        Has lanes (digit + kind_less shelf.now.men.last.kind) →
         IsPutAt part table.new (code_of table.old.class (number_in table.old.class shelf.now.number shelf.now.side digit)) (slice_index scores (digit + kind_less shelf.now.men.last.kind)) (slice_index clocks (digit + kind_less shelf.now.men.last.kind)) }
 {
     let _class = table.class();
@@ -60,7 +64,8 @@ fn put_lanes(
 /// The squares at which the zeroing column, which is put with the mate column, is not due to these scores.
 fn wrong_clocks(table: &Found, part: Part, shelf: &Shelf, clocks: Row) -> SquareSet
     requires shelf { IsShelf table.now.class shelf.now }
-    ensures { (digit : ℕ) → digit < kind_digits shelf.now.men.last.kind → bit_at result.bits (digit + kind_less shelf.now.men.last.kind) ≡ 0 →
+    ensures { (digit : ℕ) → digit < kind_digits shelf.now.men.last.kind →
+        bit_at result.bits (digit + kind_less shelf.now.men.last.kind) ≡ 0 →
         part ≡ parts.Values → score_at table.now Zeroing (code_of table.now.class (number_in table.now.class shelf.now.number shelf.now.side digit)) ≡ slice_index clocks (digit + kind_less shelf.now.men.last.kind) }
 {
     codes_tell_turned_men();
@@ -79,8 +84,8 @@ fn wrong_clocks(table: &Found, part: Part, shelf: &Shelf, clocks: Row) -> Square
     }
 }
 
-/// Sees that the code's position, with the last man on the square of this digit, is checkmate or stalemate, and puts the entries
-/// that tell it. False where it has a move.
+/// Sees that the code's position, with the last man on the square of this digit, is checkmate or stalemate, and puts
+/// the entries that tell it. False where it has a move.
 fn see_end(
     table: &mut Found,
     part: Part,
@@ -108,8 +113,8 @@ fn see_end(
     put_lanes(table, part, shelf, lanes, scores, scores)
 }
 
-/// Sees that the entries tell checkmate and stalemate at the shelf's codes with the last man on these squares, and puts those of checkmate where they do not.
-/// False where some position there has a move.
+/// Sees that the entries tell checkmate and stalemate at the shelf's codes with the last man on these squares, and puts
+/// those of checkmate where they do not. False where some position there has a move.
 fn see_ends(table: &mut Found, part: Part, shelf: &Shelf, ends: SquareSet) -> bool
     requires shelf { IsShelf table.old.class shelf.now }
     requires there { HasColumn (column_of part) table.old }
@@ -145,8 +150,8 @@ pub(crate) enum Mended {
     Untold,
 }
 
-/// The last man's squares at which the entries of a row are not due to the greatest scores of the moves, and those at which
-/// there is no move and that `ended` lacks.
+/// The last man's squares at which the entries of a row are not due to the greatest scores of the moves, and those at
+/// which there is no move and that `ended` lacks.
 fn row_seen(
     table: &Found,
     part: Part,
@@ -167,7 +172,8 @@ fn row_seen(
         shelf.side,
         shelf.passed,
     );
-    // Each comparison of rows becomes a set at once: LLVM takes one that it keeps across a branch apart, square by square.
+    // Each comparison of rows becomes a set at once: LLVM takes one that it keeps across a branch apart, square by
+    // square.
     let there = lanes_of(own);
     let moving = there.common(lanes_of(scores));
     let mates = lanes_of(unlike(own, due_in(part, scores), Row::splat(1)));
@@ -175,8 +181,8 @@ fn row_seen(
     (wrong.common(moving), there.without(moving).without(ended))
 }
 
-/// Puts what is due to the greatest scores of the moves at the shelf's codes that are indexes. Where there is no move, the entries tell checkmate or stalemate
-/// from the first look on, and `ended` has the last man's square.
+/// Puts what is due to the greatest scores of the moves at the shelf's codes that are indexes. Where there is no move,
+/// the entries tell checkmate or stalemate from the first look on, and `ended` has the last man's square.
 pub(crate) fn mend_row(
     table: &mut Found,
     part: Part,
@@ -223,8 +229,9 @@ pub(crate) fn mend_row(
     }
 }
 
-/// Puts what is due to the greatest scores of the moves at the codes of the shelves of these men from this one on, one for each digit of the first man; `ended`
-/// has for each of his squares those of the last man at which there is no move.
+/// Puts what is due to the greatest scores of the moves at the codes of the shelves of these men from this one on, one
+/// for each digit of the first man; `ended` has for each of his squares those of the last man at which there is no
+/// move.
 pub(crate) fn mend_shelves(
     table: &mut Found,
     part: Part,
@@ -240,9 +247,11 @@ pub(crate) fn mend_shelves(
     requires ended { AllEnded part table.old shelves.now ended.old }
     ensures mended { IsMendedAt part (IsCodeIn table.old.class shelves.now) table.old table.new }
     ensures due { result ≡ mends.Due → table.new ≡ table.old }
-    ensures shelves { result ≢ mends.Untold → AreShelvesOf shelves.now.passed table.old.class shelves.now.men shelves.now.number }
+    ensures shelves { result ≢ mends.Untold →
+        AreShelvesOf shelves.now.passed table.old.class shelves.now.men shelves.now.number }
     ensures ended { result ≢ mends.Untold → AllEnded part table.new shelves.now ended.new }
-    ensures right { result ≢ mends.Untold → AreRightRows part table.new shelves.now scores.now zeroing.now (kind_digits shelves.now.men.one.kind) }
+    ensures right { result ≢ mends.Untold →
+        AreRightRows part table.new shelves.now scores.now zeroing.now (kind_digits shelves.now.men.one.kind) }
 {
     numbers_stand_for_codes();
     if !begin_with(table.class(), &shelves.men, shelves.passed, shelves.number) {

@@ -37,13 +37,14 @@ fn solved(alloc: Global, table: Table, library: &Library) -> Result<Table, (Tabl
     }
 }
 
-/// The table with the column of the nearest mates, and its other columns as before. `check` accepts it beside the library before and
-/// after.
+/// The table with the column of the nearest mates, and its other columns as before. `check` accepts it beside the
+/// library before and after.
 ///
 /// # Errors
 ///
-/// The table comes back with `HasReach` where it has the column; else with `NoReach` with the least child whose table lacks it; else with `NoMemory` where a
-/// growth was refused, and `TooDeep` where the nearest mate of some position is farther away than 32,000 plies.
+/// The table comes back with `HasReach` where it has the column; else with `NoReach` with the least child whose table
+/// lacks it; else with `NoMemory` where a growth was refused, and `TooDeep` where the nearest mate of some position is
+/// farther away than 32,000 plies.
 pub fn migrate(
     alloc: Global,
     table: Table,

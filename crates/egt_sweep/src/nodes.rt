@@ -79,7 +79,8 @@ pub(crate) fn exits(
     requires node { IsFalse (not (is_some (position_at class index))) }
     requires knows { Knows (table_at library.now) class objective.now }
     requires children { HasChildren (table_at library.now) class }
-    ensures { result.items ≡ exits_at (known (table_at library.now) class objective.now) (metric_of objective.now) class index }
+    ensures { result.items ≡ exits_at (known (table_at library.now) class objective.now)
+        (metric_of objective.now) class index }
 {
     laws();
     let position = node(class, index);

@@ -9,11 +9,11 @@ use egt_graph::Ranks;
 pub(crate) enum Objective<'l> {
     /// Checkmate. Moves that stay in the class go on, and the others leave the game.
     Mate,
-    /// The next zeroing move or checkmate. Moves that do not zero go on, and the others leave the game; where one of them stays in the
-    /// class, these mate ranks of the class tell what it reaches.
+    /// The next zeroing move or checkmate. Moves that do not zero go on, and the others leave the game; where one of
+    /// them stays in the class, these mate ranks of the class tell what it reaches.
     Zeroing(&'l Ranks),
-    /// The nearest checkmate of either side. Moves that stay in the class go on, and the others leave the game: as a loss in as many plies as the nearest
-    /// checkmate is away from where they lead, or as a draw where there is none.
+    /// The nearest checkmate of either side. Moves that stay in the class go on, and the others leave the game: as a
+    /// loss in as many plies as the nearest checkmate is away from where they lead, or as a draw where there is none.
     Reach,
 }
 

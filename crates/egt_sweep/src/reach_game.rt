@@ -12,8 +12,9 @@ use egt_class::Class;
 use egt_graph::{Exit, Game};
 use egt_index::size;
 
-/// The game whose nodes are the indexes of a class, whose edges are the moves that stay in it, and whose exits are the others: a win in as many plies as
-/// the nearest checkmate is away from where they lead, or a draw where there is none (FIDE Laws of Chess 2023, article 5.2.2).
+/// The game whose nodes are the indexes of a class, whose edges are the moves that stay in it, and whose exits are the
+/// others: a win in as many plies as the nearest checkmate is away from where they lead, or a draw where there is none
+/// (FIDE Laws of Chess 2023, article 5.2.2).
 #[derive(Drop)]
 pub struct ReachGame<'l> {
     pub(crate) class: Class,
@@ -26,11 +27,13 @@ impl<'l> ReachGame<'l> {
     ghost use Rattle.std.specs.Prelude.{◌≡◌, ◌↔◌, IsOk, IfOk, IfErr};
     ghost use Rattle.egt_sweep.specs.Built.{IsNoGame};
 
-    /// The game over a class whose children have their tables in the library, each with the column of the nearest mates. It takes no memory.
+    /// The game over a class whose children have their tables in the library, each with the column of the nearest
+    /// mates. It takes no memory.
     ///
     /// # Errors
     ///
-    /// `Missing` with the least child that has no table; else `NoReach` with the least child whose table lacks the column.
+    /// `Missing` with the least child that has no table; else `NoReach` with the least child whose table lacks the
+    /// column.
     pub fn new(class: Class, library: &'l Library) -> Result<ReachGame<'l>, BuildFault>
         ensures exact { IsOk result ↔ (HasChildren (table_at library.now) class × HasReachChildren (table_at library.now) class) }
         ensures class { IfOk result (λ g. g.class ≡ class) }

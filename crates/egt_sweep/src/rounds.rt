@@ -30,8 +30,9 @@ enum Visited {
     Untold,
 }
 
-/// Looks at the item where something that it reads has changed since it was looked at; where entries were put, that is stamped, and what was read from them is
-/// forgotten. Blocks are kept of positions with the other side to move, which are read, and of those with the item's own.
+/// Looks at the item where something that it reads has changed since it was looked at; where entries were put, that is
+/// stamped, and what was read from them is forgotten. Blocks are kept of positions with the other side to move, which
+/// are read, and of those with the item's own.
 fn visit_with(
     f: &Filling,
     table: &mut Found,
@@ -48,7 +49,8 @@ fn visit_with(
     requires read { AreAllKept f.now table.old (other_side item.old.side) read.old }
     requires own { AreAllKept f.now table.old item.old.side own.old }
     ensures mended { IsMended f.now.part item.old.white item.old.black item.old.side table.old table.new }
-    ensures left { result ≡ visits.Left → IsUntouched table.old table.new item.old item.new marks.old marks.new × IsFreshItem f.now marks.old item.old }
+    ensures left { result ≡ visits.Left →
+        IsUntouched table.old table.new item.old item.new marks.old marks.new × IsFreshItem f.now marks.old item.old }
     ensures looked { result ≡ visits.Looked → IsLookedAt f.now table.old table.new item.old item.new marks.old.tick }
     ensures stamped { result ≡ visits.Looked → IsStamped item.old table.old table.new marks.old marks.new }
     ensures read { result ≢ visits.Untold → AreAllKept f.now table.new (other_side item.old.side) read.new }
@@ -94,7 +96,8 @@ fn visit(
     requires long { length marks.old.stamps.items ≡ 8192 }
     requires kept { AreBothKept f.now table.old kept.old }
     ensures mended { IsMended f.now.part item.old.white item.old.black item.old.side table.old table.new }
-    ensures left { result ≡ visits.Left → IsUntouched table.old table.new item.old item.new marks.old marks.new × IsFreshItem f.now marks.old item.old }
+    ensures left { result ≡ visits.Left →
+        IsUntouched table.old table.new item.old item.new marks.old marks.new × IsFreshItem f.now marks.old item.old }
     ensures looked { result ≡ visits.Looked → IsLookedAt f.now table.old table.new item.old item.new marks.old.tick }
     ensures stamped { result ≡ visits.Looked → IsStamped item.old table.old table.new marks.old marks.new }
     ensures kept { result ≢ visits.Untold → AreBothKept f.now table.new kept.new }

@@ -1,6 +1,7 @@
 //! Entries that are put until all are due.
 ghost use Rattle.std.specs.Prelude.{◌≡◌, ◌*◌, ◌<◌, ◌≤◌, ℕ, length, IfOk, IfSome};
-ghost use Rattle.egt_sweep.specs.FillPrelude.{size_of, HasColumn, Column, beside, table_at, IsOwnTable, table_in, KeepsPart};
+ghost use Rattle.egt_sweep.specs.FillPrelude.{size_of, HasColumn, Column, beside, table_at, IsOwnTable, table_in};
+ghost use Rattle.egt_sweep.specs.FillPrelude.{KeepsPart};
 ghost use Rattle.egt_sweep.specs.FillPrelude.{HasBytes, IsMendedAt, AreBothKept, IsFilling, IsUnderWay};
 ghost use Rattle.egt_check.specs.declared.part.Part.TheVariants as parts;
 
@@ -26,8 +27,8 @@ pub struct Looks {
     pub taken: usize,
 }
 
-/// How many blocks are kept of the positions with one side to move: one for each pair of kings and column. The white king stands on one of the first five files,
-/// and in a class without pawns on one of the first five ranks.
+/// How many blocks are kept of the positions with one side to move: one for each pair of kings and column. The white
+/// king stands on one of the first five files, and in a class without pawns on one of the first five ranks.
 fn places_for(class: Class) -> usize
     ensures { 12 < result }
 {
@@ -64,8 +65,8 @@ fn settle_all(
     }
 }
 
-/// Puts what is due at all codes of the part, until all entries are. `None` where that is not told by bytes, and where so
-/// many rounds of looks are too few.
+/// Puts what is due at all codes of the part, until all entries are. `None` where that is not told by bytes, and where
+/// so many rounds of looks are too few.
 pub(crate) fn settle(
     alloc: Global,
     f: &Filling,

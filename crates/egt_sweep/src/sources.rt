@@ -28,7 +28,8 @@ fn add_source(metric: Metric, class: Class, unmove: &Unmove, list: &mut ArrayVec
     requires ascending { IsStrictlyIncreasing list.old.items }
     requires room { array_vec_len list.old < 128 }
     ensures ascending { IsStrictlyIncreasing list.new.items }
-    ensures members { (k : ℕ) → Contains list.new.items k ↔ (Contains list.old.items k ⊎ ComesFrom metric class unmove.now k) }
+    ensures members { (k : ℕ) → Contains list.new.items k ↔
+        (Contains list.old.items k ⊎ ComesFrom metric class unmove.now k) }
     ensures few { array_vec_len list.new ≤ array_vec_len list.old + 1 }
 {
     laws();
@@ -43,7 +44,8 @@ pub(crate) fn sources(metric: Metric, class: Class, position: &Position) -> Arra
     requires of { (flipped : Bool) × IsOf class flipped position.now }
     requires settled { IsSettled position.now }
     ensures ascending { IsStrictlyIncreasing result.items }
-    ensures exact { (j : ℕ) → IsAt class j position.now → (k : ℕ) → Contains result.items k ↔ Connects metric class k j }
+    ensures exact { (j : ℕ) → IsAt class j position.now → (k : ℕ) →
+        Contains result.items k ↔ Connects metric class k j }
 {
     laws();
     let _number = class.number();

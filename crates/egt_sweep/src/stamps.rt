@@ -1,6 +1,7 @@
 //! Stamps: for each pair of kings' squares and side to move, when entries of such positions last changed.
 ghost use Rattle.std.specs.Prelude.{◌≡◌, ◌<◌, ◌≤◌, ◌/◌, ◌%◌, ◌==◌, ℕ, false, length, slice_index, IfOk};
-ghost use Rattle.egt_sweep.specs.FillPrelude.{turned_square, Side, material_of, IsTurnWith, has_pawns, IsFresh, stamp_place};
+ghost use Rattle.egt_sweep.specs.FillPrelude.{turned_square, Side, material_of, IsTurnWith, has_pawns, IsFresh};
+ghost use Rattle.egt_sweep.specs.FillPrelude.{stamp_place};
 ghost use Rattle.egt_sweep.specs.FillPrelude.{TurnsTo};
 
 use crate::turns::turns_of;
@@ -62,7 +63,8 @@ fn changed_after(
     stamps[place] > looked
 }
 
-/// Whether entries changed since `looked` with the kings where some turn of the class that exchanges colours so takes these squares, and that side to move.
+/// Whether entries changed since `looked` with the kings where some turn of the class that exchanges colours so takes
+/// these squares, and that side to move.
 fn any_changed(
     class: Class,
     flips: bool,
@@ -73,7 +75,8 @@ fn any_changed(
     looked: u32,
 ) -> bool
     requires { length stamps.now ≡ 8192 }
-    ensures { result ≡ false → (t : ℕ) → IsTurnWith (has_pawns (material_of class)) flips t → slice_index stamps.now (stamp_place side (turned_square (t % 8) flips white) (turned_square (t % 8) flips black)) ≤ looked }
+    ensures { result ≡ false → (t : ℕ) → IsTurnWith (has_pawns (material_of class)) flips t → slice_index stamps.now
+        (stamp_place side (turned_square (t % 8) flips white) (turned_square (t % 8) flips black)) ≤ looked }
 {
     let (first, end) = turns_of(class, flips);
     for turn in first..end {
@@ -84,7 +87,8 @@ fn any_changed(
     false
 }
 
-/// Whether entries changed since `looked` of positions that some turn of the class makes of those with the kings on these squares and that side to move.
+/// Whether entries changed since `looked` of positions that some turn of the class makes of those with the kings on
+/// these squares and that side to move.
 fn turned_since(
     class: Class,
     white: Square,
@@ -94,7 +98,8 @@ fn turned_since(
     looked: u32,
 ) -> bool
     requires { length stamps.now ≡ 8192 }
-    ensures { result ≡ false → (w b : ℕ) (s : Side) → TurnsTo class white black side w b s → slice_index stamps.now (stamp_place s w b) ≤ looked }
+    ensures { result ≡ false → (w b : ℕ) (s : Side) → TurnsTo class white black side w b s →
+        slice_index stamps.now (stamp_place s w b) ≤ looked }
 {
     if any_changed(class, false, white, black, side, stamps, looked) {
         return true;
@@ -102,7 +107,8 @@ fn turned_since(
     has_equal_sides(class) && any_changed(class, true, black, white, side.other(), stamps, looked)
 }
 
-/// Whether a block is to be looked at: entries that are read for these men and that side changed since `looked`, its last look, or it had none and that is 0.
+/// Whether a block is to be looked at: entries that are read for these men and that side changed since `looked`, its
+/// last look, or it had none and that is 0.
 pub(crate) fn needs_look(
     class: Class,
     men: &ShelfMen,

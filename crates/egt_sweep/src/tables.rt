@@ -91,9 +91,9 @@ fn values_by_rows(
     Ok(Some((table, looks)))
 }
 
-/// The table of a class with two men or a piece beside the kings, whose children have their tables in the library, without
-/// the column of the nearest mates; and the looks that it took. `None` of another class, where bytes do not tell its
-/// entries or those of a child, and where more than `rounds` rounds of looks are needed (`ROUNDS` are enough).
+/// The table of a class with two men or a piece beside the kings, whose children have their tables in the library,
+/// without the column of the nearest mates; and the looks that it took. `None` of another class, where bytes do not
+/// tell its entries or those of a child, and where more than `rounds` rounds of looks are needed (`ROUNDS` are enough).
 ///
 /// # Errors
 ///

@@ -12,8 +12,8 @@ use egt_class::Class;
 use egt_graph::{Exit, Game, Ranks};
 use egt_index::size;
 
-/// The game whose nodes are the indexes of a class, whose edges are the moves that do not zero, and whose exits are the others: a win or
-/// a loss in 0 or a draw, as where they lead is won, lost or drawn for the side to move there.
+/// The game whose nodes are the indexes of a class, whose edges are the moves that do not zero, and whose exits are the
+/// others: a win or a loss in 0 or a draw, as where they lead is won, lost or drawn for the side to move there.
 #[derive(Drop)]
 pub struct ZeroGame<'l> {
     pub(crate) class: Class,
@@ -28,8 +28,8 @@ impl<'l> ZeroGame<'l> {
     ghost use Rattle.egt_entries.specs.Library.{IsFirstMissing};
     ghost use Rattle.egt_sweep.specs.MateColumn.{AreMateRanks};
 
-    /// The game over a class whose children have their tables in the library. `mates` are the ranks of its game of mates, by which
-    /// moves of pawns that stay in the class are judged.
+    /// The game over a class whose children have their tables in the library. `mates` are the ranks of its game of
+    /// mates, by which moves of pawns that stay in the class are judged.
     ///
     /// # Errors
     ///
@@ -39,7 +39,8 @@ impl<'l> ZeroGame<'l> {
         library: &'l Library,
         mates: &'l Ranks,
     ) -> Result<ZeroGame<'l>, Missing>
-        requires ranks { HasChildren (table_at library.now) class → AreMateRanks (table_at library.now) class mates.now }
+        requires ranks { HasChildren (table_at library.now) class →
+            AreMateRanks (table_at library.now) class mates.now }
         ensures exact { IsOk result ↔ HasChildren (table_at library.now) class }
         ensures class { IfOk result (λ g. g.class ≡ class) }
         ensures library { IfOk result (λ g. g.library.now ≡ library.now) }

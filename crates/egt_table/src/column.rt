@@ -1,7 +1,7 @@
 //! What a table tells of a position.
 
-/// A table has one entry a code in each of its columns. The first two are there in each table, the third in some. Files hold
-/// the columns in this order.
+/// A table has one entry a code in each of its columns. The first two are there in each table, the third in some. Files
+/// hold the columns in this order.
 #[derive(Clone, Copy, Debug, PartialEq, Eq)]
 pub enum Column {
     /// The plies to checkmate.

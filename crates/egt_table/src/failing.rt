@@ -61,11 +61,13 @@ impl<S: Source> Source for FailingSource<S> {
         ensures falls { IfOk result (λ n. 0 < n → S.turns self.new.inner < S.turns self.old.inner) }
         ensures failures { CountsFailure result self.old.failures self.new.failures }
 
-        // The call whose turn it is fails and leaves the source within as it is; any other fails only where that one fails.
+        // The call whose turn it is fails and leaves the source within as it is; any other fails only where that one
+        // fails.
         ensures turn { self.new.calls_to_failure ≡ self.old.calls_to_failure - 1 }
         ensures fails { self.old.calls_to_failure ≡ 1 → IsErr result }
         ensures apart { self.old.calls_to_failure ≡ 1 → self.new.inner ≡ self.old.inner }
-        ensures within { self.old.calls_to_failure ≢ 1 → CountsFailure result (S.failures self.old.inner) (S.failures self.new.inner) }
+        ensures within { self.old.calls_to_failure ≢ 1 →
+            CountsFailure result (S.failures self.old.inner) (S.failures self.new.inner) }
     {
         let pull_fails = self.calls == 1;
         self.calls = self.calls.saturating_sub(1);
@@ -142,11 +144,13 @@ impl<S: Sink> Sink for FailingSink<S> {
         ensures bytes { WriteAppends (S.written self.old.inner) (S.written self.new.inner) result piece.now }
         ensures failures { CountsFailure result self.old.failures self.new.failures }
 
-        // The call whose turn it is fails and leaves the sink within as it is; any other fails only where that one fails.
+        // The call whose turn it is fails and leaves the sink within as it is; any other fails only where that one
+        // fails.
         ensures turn { self.new.calls_to_failure ≡ self.old.calls_to_failure - 1 }
         ensures fails { self.old.calls_to_failure ≡ 1 → IsErr result }
         ensures apart { self.old.calls_to_failure ≡ 1 → self.new.inner ≡ self.old.inner }
-        ensures within { self.old.calls_to_failure ≢ 1 → CountsFailure result (S.failures self.old.inner) (S.failures self.new.inner) }
+        ensures within { self.old.calls_to_failure ≢ 1 →
+            CountsFailure result (S.failures self.old.inner) (S.failures self.new.inner) }
     {
         let push_fails = self.calls == 1;
         self.calls = self.calls.saturating_sub(1);

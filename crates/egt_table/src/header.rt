@@ -1,7 +1,8 @@
 //! The header of a table's file.
 ghost use Rattle.std.specs.Prelude.{◌≡◌, ◌≤◌, length, drop, None, Some, OnOk, IfErr};
 ghost use Rattle.egt_table.specs.Prelude.{little_number};
-ghost use Rattle.egt_table.specs.File.{columns_in as number_of_columns, first_fault, header_fields, header_of, stated_version};
+ghost use Rattle.egt_table.specs.File.{columns_in as number_of_columns, first_fault, header_fields, header_of};
+ghost use Rattle.egt_table.specs.File.{stated_version};
 
 use crate::fault::FileFault;
 use byteorder::{ByteOrder, LittleEndian};

@@ -34,5 +34,6 @@ pub fn numbers_stand_at_their_offsets(class: Class)
 
 /// Two tables with the same file are the same.
 pub fn a_file_is_of_one_table()
-    ensures { (t u : TableValue) → IsTable t → IsTable u → EntriesFit t → EntriesFit u → bytes_of t ≡ bytes_of u → t ≡ u }
+    ensures { (t u : TableValue) → IsTable t → IsTable u → EntriesFit t → EntriesFit u → bytes_of t ≡ bytes_of u →
+        t ≡ u }
 {}

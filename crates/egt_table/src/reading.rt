@@ -140,15 +140,15 @@ fn table_of(version: u16, class: Class, mate: Vec<u16>, zeroing: Vec<u16>, reach
 }
 
 impl Table {
-    /// The table of the class whose file the bytes are that the source has left. Nothing is reserved before the header is
-    /// right, and room for the column of the nearest mates only where the header says that it is there. How much of the
-    /// source was read after a fault is not said.
+    /// The table of the class whose file the bytes are that the source has left. Nothing is reserved before the header
+    /// is right, and room for the column of the nearest mates only where the header says that it is there. How much of
+    /// the source was read after a fault is not said.
     ///
     /// # Errors
     ///
     /// The first fault of the bytes, in the order `Short` where there are fewer than 16, `Magic`, `Version`, `Layout`,
-    /// `Class`, `Columns`, `Count`, and then `Short` or `Trailing` where the file ends early or late. `Device` where the
-    /// source failed, and `NoMemory`, only for bytes with a right header, where there is no memory for the entries.
+    /// `Class`, `Columns`, `Count`, and then `Short` or `Trailing` where the file ends early or late. `Device` where
+    /// the source failed, and `NoMemory`, only for bytes with a right header, where there is no memory for the entries.
     pub fn read<S: Source>(alloc: Global, class: Class, source: &mut S) -> Result<Table, FileFault>
         ensures class { IfOk result (λ t. t.class ≡ class) }
         ensures reads { IfSome (S.left source.old) (λ bytes. Reads class bytes result) }

@@ -15,8 +15,8 @@ pub trait Source {
     // What each pull of a byte or more lowers, so that loops over pulls end.
     ghost turns: { Self → ℕ };
 
-    /// Takes bytes off the front of those that are left, into the front of the buffer, and gives their number, which may be
-    /// less than the buffer has room for. Where there is room, 0 says that nothing is left.
+    /// Takes bytes off the front of those that are left, into the front of the buffer, and gives their number, which
+    /// may be less than the buffer has room for. Where there is room, 0 says that nothing is left.
     ///
     /// # Errors
     ///

@@ -11,12 +11,12 @@ use std::marker::Model;
 
 /// The table of a class: in each column one entry a code. What the entries say is not judged here.
 ///
-/// An entry of the columns of mates and of zeroing moves is 0 for a code that spells no position, 1 for a draw, `2 + 2n` for a
-/// win in n plies and `3 + 2n` for a loss in n plies.
+/// An entry of the columns of mates and of zeroing moves is 0 for a code that spells no position, 1 for a draw, `2 +
+/// 2n` for a win in n plies and `3 + 2n` for a loss in n plies.
 ///
-/// The column of the nearest mates may be there or not. An entry of it is 0 for a code that spells no position, 1 for a dead
-/// position, from which no moves of both sides end in checkmate (FIDE Laws of Chess 2023, article 5.2.2), and `2 + n` where n
-/// plies of both sides lead to a checkmate and no fewer do.
+/// The column of the nearest mates may be there or not. An entry of it is 0 for a code that spells no position, 1 for a
+/// dead position, from which no moves of both sides end in checkmate (FIDE Laws of Chess 2023, article 5.2.2), and `2 +
+/// n` where n plies of both sides lead to a checkmate and no fewer do.
 #[derive(Drop)]
 pub struct Table {
     class: Class,
@@ -39,8 +39,8 @@ impl Model for Table {
 }
 
 impl Table {
-    /// The table with these two columns, which are moved into it. Both come back exactly where one of them has not as many
-    /// entries as the class has codes.
+    /// The table with these two columns, which are moved into it. Both come back exactly where one of them has not as
+    /// many entries as the class has codes.
     pub fn from_ranks(class: Class, mate: Ranks, zeroing: Ranks) -> Result<Table, (Ranks, Ranks)>
         ensures table { IfOk result (λ t. t ≡ record { class = class; mate = mate; zeroing = zeroing; reach = None }) }
         ensures back { IfErr result (λ columns. columns ≡ (mate, zeroing)) }
@@ -59,8 +59,9 @@ impl Table {
         })
     }
 
-    /// The table with the column of the nearest mates beside the two that it has. It takes no memory. Both come back exactly
-    /// where the table has such a column already, or where this one has not as many entries as the class has codes.
+    /// The table with the column of the nearest mates beside the two that it has. It takes no memory. Both come back
+    /// exactly where the table has such a column already, or where this one has not as many entries as the class has
+    /// codes.
     pub fn with_reach(self, nears: Nears) -> Result<Table, (Table, Nears)>
         ensures table { IfOk result (λ t. t ≡ record { class = self.class; mate = self.mate; zeroing = self.zeroing; reach = Some nears }) }
         ensures back { IfErr result (λ both. both ≡ (self, nears)) }

@@ -1,5 +1,5 @@
-//! Tests over the public calls of games, tables, their files and the checker; apart from those of the rules, so that both are proved side by side.
-//! Games are worked out by hand, and plain forms stand beside what is fast.
+//! Tests over the public calls of games, tables, their files and the checker; apart from those of the rules, so that
+//! both are proved side by side. Games are worked out by hand, and plain forms stand beside what is fast.
 #![tactic(auto)]
 
 #[cfg(test)]

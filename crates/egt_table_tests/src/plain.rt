@@ -18,7 +18,8 @@ fn code(men: &[(Man, Square)], side: Side) -> Result<Option<(usize, usize)>, Fai
     Ok(plain_code(&Position::new(men, side, None)?))
 }
 
-// White: king b6, queen d1, Black: king a8; the same with colours exchanged; and White: king f7, pawn g7, Black: king h7.
+// White: king b6, queen d1, Black: king a8; the same with colours exchanged; and White: king f7, pawn g7, Black: king
+// h7.
 #[test]
 fn worked_codes(rt: HostRuntime) -> Result<(), Fail> {
     let queen = [
@@ -43,7 +44,8 @@ fn worked_codes(rt: HostRuntime) -> Result<(), Fail> {
     Ok(())
 }
 
-// Of the 4,096 pairs of squares 3,612 are of kings that do not touch (each with either side to move), and all are drawn.
+// Of the 4,096 pairs of squares 3,612 are of kings that do not touch (each with either side to move), and all are
+// drawn.
 #[test]
 fn two_kings_are_drawn(rt: HostRuntime) -> Result<(), Fail> {
     let tables = PlainTables::solve(rt.alloc(), 1)?;
@@ -72,7 +74,8 @@ fn decided(entries: &[u16]) -> usize {
     entries.iter().filter(|entry| **entry > 1).count()
 }
 
-// The longest wins of the literature: a queen mates in 10 moves, a rook in 16, and a pawn in 28 from any position that is won.
+// The longest wins of the literature: a queen mates in 10 moves, a rook in 16, and a pawn in 28 from any position that
+// is won.
 #[test]
 fn longest_wins(rt: HostRuntime) -> Result<(), Fail> {
     let tables = PlainTables::solve(rt.alloc(), 6)?;

@@ -101,11 +101,12 @@ fn explain<O: Sink, E: Sink>(said: &clap::Error, out: &mut O, err: &mut E) -> St
     }
 }
 
-/// Runs the program on its words, of which the first is its name, and answers its status: 0 where all was done, 1 where an
-/// input or a table was refused, 2 for words that are no use of it, 3 where a file or a stream failed, 4 for want of memory.
+/// Runs the program on its words, of which the first is its name, and answers its status: 0 where all was done, 1 where
+/// an input or a table was refused, 2 for words that are no use of it, 3 where a file or a stream failed, 4 for want of
+/// memory.
 ///
-/// `input` is the standard input, `out` the standard output and `err` the standard error, to which go the text of `clap` on
-/// wrong words and the line of an error. What becomes of a text on `err` changes no status.
+/// `input` is the standard input, `out` the standard output and `err` the standard error, to which go the text of
+/// `clap` on wrong words and the line of an error. What becomes of a text on `err` changes no status.
 pub fn run<R: Files + AllocGlobal, I: Source, O: Sink, E: Sink>(
     rt: &R,
     words: &[&str],

@@ -35,7 +35,8 @@ impl ToolFault {
         requires { fault ≢ migrate_faults.HasReach }
         ensures memory { fault ≡ migrate_faults.NoMemory → result ≡ faults.Run run_faults.NoMemory }
         ensures deep { fault ≡ migrate_faults.TooDeep → result ≡ faults.Build (build_faults.TooDeep 32000) }
-        ensures lacking { (child : ℕ) → fault ≡ migrate_faults.NoReach child → result ≡ faults.Build (build_faults.NoReach child) }
+        ensures lacking { (child : ℕ) → fault ≡ migrate_faults.NoReach child →
+            result ≡ faults.Build (build_faults.NoReach child) }
     {
         match fault {
             MigrateFault::NoMemory => ToolFault::Run(RunFault::NoMemory),

@@ -11,7 +11,8 @@ use egt_moves::laws::{images_keep_steps, moves_lead_to_one};
 /// The unmoves of an image of a position are the images of the position's unmoves: each unmove, turned as the position
 /// is, is one of the image's. Since a position is an image of its image, there are no others.
 pub fn images_have_like_unmoves()
-    ensures turns { (n : ℕ) (flipped : Bool) (q q' : Setup) (u : Unmove) → n < 8 → KeepsPlay n q.men → IsTurnedBy n flipped q q' → IsUnmove q u →
+    ensures turns { (n : ℕ) (flipped : Bool) (q q' : Setup) (u : Unmove) → n < 8 → KeepsPlay n q.men →
+        IsTurnedBy n flipped q q' → IsUnmove q u →
         (w : Unmove) × IsUnmove q' w × IsTurnedBy n flipped u.before w.before × (w.pawn ≡ u.pawn) }
     ensures images { (q q' : Setup) (u : Unmove) → IsAdmissible q → AreImages q q' → IsUnmove q u →
         (w : Unmove) × IsUnmove q' w × AreImages u.before w.before × (w.pawn ≡ u.pawn) }

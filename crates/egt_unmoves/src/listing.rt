@@ -25,7 +25,8 @@ fn push_before(
     requires may { MayComeFrom position.now man to from }
     requires board { board.now ≡ men_before position.now.men man to from }
     requires comes { ComesBy (setup_before position.now man to from target) (plain from to) position.now }
-    requires only { (b : Setup) → ComesBy b (plain from to) position.now → target_place b.target ≡ target_place target → b.target ≡ target }
+    requires only { (b : Setup) → ComesBy b (plain from to) position.now → target_place b.target ≡ target_place target →
+        b.target ≡ target }
     requires room { array_vec_len list.old < 128 }
     requires listed { ListsBelow position.now ((to * 64 + from) * 2 + target_place target) list.old.items }
     ensures listed { ListsBelow position.now ((to * 64 + from) * 2 + target_place target + 1) list.new.items }

@@ -21,7 +21,8 @@ fn attackers(left: &Board, man: Man, square: Square) -> SquareSet
 fn pawn_sources(left: &Board, man: Man, to: Square) -> SquareSet
     requires not_first { 0 < rank_of to }
     requires not_last { rank_of to < 7 }
-    ensures sources { (s : ℕ) → s < 64 → IsFree left.now s → Advances (IsFree (map.insert left.now s man)) man.side s to → Has result s }
+    ensures sources { (s : ℕ) → s < 64 → IsFree left.now s →
+        Advances (IsFree (map.insert left.now s man)) man.side s to → Has result s }
     ensures few { size_of result ≤ 4 }
 {
     let back = man.side.other();
@@ -34,7 +35,8 @@ fn pawn_sources(left: &Board, man: Man, to: Square) -> SquareSet
 fn quiet(position: &Position, left: &Board, man: Man) -> SquareSet
     requires theirs { man.side ≡ other_side position.now.side }
     requires king { (k : ℕ) → IsKingOn position.now.men position.now.side k → IsKingOn left.now position.now.side k }
-    ensures { (s : ℕ) → s < 64 → IsFree left.now s → Has result s ↔ ¬ IsInCheck (map.insert left.now s man) position.now.side }
+    ensures { (s : ℕ) → s < 64 → IsFree left.now s →
+        Has result s ↔ ¬ IsInCheck (map.insert left.now s man) position.now.side }
 {
     let king = position.king(position.side());
     left.shelter(king, man.side)

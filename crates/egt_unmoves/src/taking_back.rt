@@ -26,7 +26,8 @@ fn target_left(position: &Position, man: Man, from: Square, to: Square) -> Optio
     requires pawn { man.kind ≡ P }
     requires theirs { man.side ≡ other_side position.now.side }
     requires advances { Advances (λ _. Unit {0}) man.side from to }
-    ensures { SettlesTo (led_to position.now man to from) (record { men = position.now.men; side = position.now.side; target = result }) }
+    ensures { SettlesTo (led_to position.now man to from)
+        (record { men = position.now.men; side = position.now.side; target = result }) }
 {
     let target = passed(man, from, to)?;
     if position.board().has_pawn_beside(position.side(), to) {
@@ -75,7 +76,8 @@ pub(crate) fn went(position: &Position, board: &Board, man: Man, from: Square, t
 
 /// The square of that side's king once the man on `to` is back on `from`.
 fn king_before(position: &Position, from: Square, to: Square, side: Side) -> Square
-    ensures { (man : Man) → MayComeFrom position.now man to from → IsKingOn (men_before position.now.men man to from) side result }
+    ensures { (man : Man) → MayComeFrom position.now man to from →
+        IsKingOn (men_before position.now.men man to from) side result }
 {
     let king = position.king(side);
     if king == to { from } else { king }

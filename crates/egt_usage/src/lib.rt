@@ -1,4 +1,5 @@
-//! The words that the program `egtb` understands, and its help; apart, so that the long proof of the parser of `clap` runs beside others.
+//! The words that the program `egtb` understands, and its help; apart, so that the long proof of the parser of `clap`
+//! runs beside others.
 #![tactic(auto)]
 
 use clap::builder::ValueParser;

@@ -1,4 +1,5 @@
-//! The program `egtb`: hands its words and the standard streams to the library and ends with the status that it answers.
+//! The program `egtb`: hands its words and the standard streams to the library and ends with the status that it
+//! answers.
 #![tactic(auto)]
 
 use egt_table::{FromStd, ToStd};

@@ -207,8 +207,8 @@ fn taken(men: &[(Man, u8)], man: Man, last: bool, left: &mut [bool; 4]) -> Optio
     found
 }
 
-/// The square after a turn: mirrors of files, of ranks and of the long diagonal, and behind them an exchange of colours,
-/// by its bits.
+/// The square after a turn: mirrors of files, of ranks and of the long diagonal, and behind them an exchange of
+/// colours, by its bits.
 fn turned(square: u8, turn: u8) -> u8 {
     let (mut file, mut rank) = (square % 8, square / 8 % 8);
     if turn % 2 == 1 {

@@ -116,7 +116,8 @@ impl Numbers {
     }
 }
 
-/// The index of a position of the class that the move with this number leads to, if the code's position has such a move.
+/// The index of a position of the class that the move with this number leads to, if the code's position has such a
+/// move.
 fn successor(class: Class, code: u32, number: u32) -> Option<u32> {
     let Spelled::Position(position) = spelling(class, code) else {
         return None;
@@ -131,7 +132,8 @@ fn successor(class: Class, code: u32, number: u32) -> Option<u32> {
     }
 }
 
-/// A change of one entry or, half of the time, of that of a successor too by the same amount, so that one may hide the other.
+/// A change of one entry or, half of the time, of that of a successor too by the same amount, so that one may hide the
+/// other.
 fn change_at_random<'l>(
     library: &'l Library,
     class: Class,

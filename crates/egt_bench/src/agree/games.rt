@@ -19,7 +19,8 @@ use std::alloc::Global;
 /// What no game tells.
 const UNKNOWN: Exit = Exit::Win(u16::MAX);
 
-/// The game of mates or of zeroing moves over a class, as plain play has it, beside the children's tables and the class's own mate entries.
+/// The game of mates or of zeroing moves over a class, as plain play has it, beside the children's tables and the
+/// class's own mate entries.
 #[derive(Clone, Copy)]
 struct Plain<'l> {
     metric: Metric,
@@ -28,7 +29,8 @@ struct Plain<'l> {
     mates: &'l [u16],
 }
 
-/// What is to be told of a node: where moves go on to, each once, what the other moves bring, and whether the mover is checkmated.
+/// What is to be told of a node: where moves go on to, each once, what the other moves bring, and whether the mover is
+/// checkmated.
 #[derive(Drop)]
 struct Node {
     nodes: ArrayVec<u32, 64>,
@@ -153,7 +155,8 @@ fn lead(plain: &Plain<'_>, sources: &[u32], node: u32) -> bool {
     ascends(sources)
 }
 
-/// Whether the game's nodes before this one are those from which moves lead to it, and it is one before those to which moves lead.
+/// Whether the game's nodes before this one are those from which moves lead to it, and it is one before those to which
+/// moves lead.
 fn sources_agree<G: Game>(game: &G, plain: &Plain<'_>, code: u32, nodes: &[u32]) -> bool {
     for next in nodes {
         if !comes_from(game, *next, code) {
@@ -207,7 +210,8 @@ fn codes_agree<G: Game>(game: &G, plain: &Plain<'_>, step: u32) -> Result<u32, u
     Ok(codes)
 }
 
-/// At how many codes at these steps the class's game of mates tells right; the first where it does not, and 0 where there is no game.
+/// At how many codes at these steps the class's game of mates tells right; the first where it does not, and 0 where
+/// there is no game.
 pub fn mate_game_agrees(class: Class, library: &Library, step: u32) -> Result<u32, u32> {
     let plain = Plain {
         metric: Metric::Mate,
@@ -234,7 +238,8 @@ pub(crate) fn mate_ranks(alloc: Global, class: Class, library: &Library) -> Resu
     }
 }
 
-/// At how many codes at these steps the game of zeroing moves over these mate ranks tells right; the first where it does not.
+/// At how many codes at these steps the game of zeroing moves over these mate ranks tells right; the first where it
+/// does not.
 fn zero_game_over<'x>(
     class: Class,
     library: &'x Library,
@@ -255,8 +260,8 @@ fn zero_game_over<'x>(
     }
 }
 
-/// At how many codes the class's game of zeroing moves is the plain one, over the ranks of its game of mates, which is solved for it; the first
-/// code at which it differs, and 0 where there is no game.
+/// At how many codes the class's game of zeroing moves is the plain one, over the ranks of its game of mates, which is
+/// solved for it; the first code at which it differs, and 0 where there is no game.
 pub fn zero_game_agrees(
     alloc: Global,
     class: Class,

@@ -55,7 +55,8 @@ fn plies_of(shown: Option<Value>, lost: bool) -> Option<u16> {
     }
 }
 
-/// The codes whose entries a change at this code can make wrong: its own, and those of the class from which a legal move leads there.
+/// The codes whose entries a change at this code can make wrong: its own, and those of the class from which a legal
+/// move leads there.
 fn around(class: Class, code: u32) -> ArrayVec<u32, 129> {
     let mut codes = ArrayVec::new();
     let _ = codes.try_push(code);
@@ -231,7 +232,8 @@ impl Changed<'_> {
         }
     }
 
-    /// The least code whose entry breaks a rule, and the first that it breaks, where the table is true but for the changes.
+    /// The least code whose entry breaks a rule, and the first that it breaks, where the table is true but for the
+    /// changes.
     pub fn first_broken(&self) -> Result<Option<(u32, Rule)>, SpelledOtherwise> {
         let mut first: Option<(u32, Rule)> = None;
         for change in &self.changes {

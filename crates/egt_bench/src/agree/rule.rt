@@ -81,8 +81,8 @@ pub fn best(successors: &[Value], in_check: bool) -> Value {
     }
 }
 
-/// The entry of the nearest mate by those of the successors: one more than the least that tells of a mate, or that of a dead position where none
-/// does; without a move in check, that of checkmate.
+/// The entry of the nearest mate by those of the successors: one more than the least that tells of a mate, or that of a
+/// dead position where none does; without a move in check, that of checkmate.
 pub fn nearest(successors: &[u16], in_check: bool) -> u16 {
     if successors.is_empty() && in_check {
         return 2;

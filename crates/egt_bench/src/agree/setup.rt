@@ -147,7 +147,8 @@ impl Setup {
             || (from / 8 == first && stepped(next, step) == Some(to) && self.at(to).is_none())
     }
 
-    /// Whether the man goes from the one square, from which he attacks these, to the other, where his king is left aside.
+    /// Whether the man goes from the one square, from which he attacks these, to the other, where his king is left
+    /// aside.
     pub fn goes(&self, man: Man, from: u8, to: u8, attacked: &[bool; 64]) -> bool {
         if let Some(other) = self.at(to) {
             return other.side != man.side && has(attacked, to);

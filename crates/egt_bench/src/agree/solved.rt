@@ -46,8 +46,8 @@ fn zeroing_ranks<'x>(
     }
 }
 
-/// How many indexes both games, solved by `solve`, have the ranks at that the class's table shows; the first at which one has another, and 0
-/// where there is no game.
+/// How many indexes both games, solved by `solve`, have the ranks at that the class's table shows; the first at which
+/// one has another, and 0 where there is no game.
 pub fn solved_agrees(alloc: Global, class: Class, library: &Library) -> Result<u32, u32> {
     let mates = mate_ranks(alloc, class, library)?;
     column_agrees(library, Column::Mate, class, &mates)?;

@@ -20,8 +20,8 @@ pub fn mate_value(library: &Library, step: &Step) -> Option<Value> {
     said_by(entry_at(library, Column::Mate, step.class, step.index)?)
 }
 
-/// What the zeroing entry says of where a move leads, with no plies left where the move has zeroed; none where the mate entry says
-/// another outcome.
+/// What the zeroing entry says of where a move leads, with no plies left where the move has zeroed; none where the mate
+/// entry says another outcome.
 fn zeroing_value(library: &Library, step: &Step) -> Option<Value> {
     let mate = mate_value(library, step)?;
     let zeroing = said_by(entry_at(library, Column::Zeroing, step.class, step.index)?)?;
@@ -73,7 +73,8 @@ fn wanted(library: &Library, column: Column, position: &Position) -> Option<u16>
     }
 }
 
-/// Whether the code's entry of each column of the class's table is what those of the successors give, and 0 where it spells no position.
+/// Whether the code's entry of each column of the class's table is what those of the successors give, and 0 where it
+/// spells no position.
 pub fn entries_agree(library: &Library, class: Class, code: u32) -> bool {
     let Some(table) = library.get(class) else {
         return false;

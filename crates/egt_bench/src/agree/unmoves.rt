@@ -41,8 +41,8 @@ fn may_have_been_passed(setup: &Setup, target: u8) -> bool {
         && setup.at(arrived) == Some(pawn)
 }
 
-/// Whether it is a settled position: no pawn stands on the first rank or the last, the king of the side that waits is not attacked, and
-/// a target is one that a pawn may take.
+/// Whether it is a settled position: no pawn stands on the first rank or the last, the king of the side that waits is
+/// not attacked, and a target is one that a pawn may take.
 pub(crate) fn is_settled_position(setup: &Setup) -> bool {
     let edges = (0..8u8).chain(56..64u8);
     for square in edges {

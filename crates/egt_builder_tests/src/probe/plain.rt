@@ -1,4 +1,5 @@
-//! The verdicts of all positions of the first six classes, against plain tables, with the column of the nearest mates and without.
+//! The verdicts of all positions of the first six classes, against plain tables, with the column of the nearest mates
+//! and without.
 use egt_board::{Position, Side};
 use egt_check::Library;
 use egt_plain::shelf::{library_of, whole_library_of};
@@ -36,8 +37,9 @@ fn is_judged(library: &Library, position: &Position, class: u8, outcome: Outcome
     }
 }
 
-/// How many positions of the class have another verdict than the plain tables give, as they stand or with colours exchanged, and
-/// how many there are. Dead positions are told where the library's tables have the column of the nearest mates.
+/// How many positions of the class have another verdict than the plain tables give, as they stand or with colours
+/// exchanged, and how many there are. Dead positions are told where the library's tables have the column of the nearest
+/// mates.
 fn compared(library: &Library, tables: &PlainTables, class: u8, whole: bool) -> (u32, u32) {
     let mates = tables.entries(usize::from(class), Column::Mate);
     let zeroings = tables.entries(usize::from(class), Column::Zeroing);

@@ -117,11 +117,11 @@ fn the_least_child_is_missing(rt: HostRuntime) -> Result<(), Fail> {
     Ok(())
 }
 
-/// The bytes of the queen's file at codes 41022 and 41023: king b6, queen d1 and king a8, in the image king c2, queen h4
-/// and king a1, ((5 * 64 + 0) * 64 + 31) * 2, and 1 more with Black to move. White wins in one ply, d1d8: 4. Black has
-/// a8b8 alone, and d1d8 mates again, so he loses in two plies: 7. Nothing zeroes before the mate, so the second column
-/// has the same; and no mate is nearer: 3 and 4 in the third. The columns, of 81,920 entries each, begin at byte 16,
-/// 163,840 bytes further and as many more.
+/// The bytes of the queen's file at codes 41022 and 41023: king b6, queen d1 and king a8, in the image king c2, queen
+/// h4 and king a1, ((5 * 64 + 0) * 64 + 31) * 2, and 1 more with Black to move. White wins in one ply, d1d8: 4. Black
+/// has a8b8 alone, and d1d8 mates again, so he loses in two plies: 7. Nothing zeroes before the mate, so the second
+/// column has the same; and no mate is nearer: 3 and 4 in the third. The columns, of 81,920 entries each, begin at byte
+/// 16, 163,840 bytes further and as many more.
 const QUEEN_BYTES: [(usize, &[u8]); 3] = [
     (82_060, &[4, 0, 7, 0]),
     (245_900, &[4, 0, 7, 0]),

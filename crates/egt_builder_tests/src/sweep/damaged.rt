@@ -12,7 +12,7 @@ use std::test::*;
 /// Black to move, kings b1 and h8, rooks c4 and e2: an index of two rooks.
 const ROOKS: u32 = 1_041_973;
 
-/// The same with the rooks in the other order, which no position has for its index.
+/// A code with both rooks in the order that no position has for its index.
 const ROOKS_EXCHANGED: u32 = 1_043_737;
 
 /// All men on the last squares.

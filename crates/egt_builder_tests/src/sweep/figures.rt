@@ -10,8 +10,9 @@ use egt_table::{Column, Table};
 use std::alloc::Global;
 use std::test::*;
 
-/// With a rook and Black to move: how many positions are drawn, each with all its images counted once, and how many White wins in 0, 1,
-/// 2 moves and so on. The figures are those of the data set "Chess (King-Rook vs. King)" of the UCI repository (Bain and Hoff 1994).
+/// With a rook and Black to move: how many positions are drawn, each with all its images counted once, and how many
+/// White wins in 0, 1, 2 moves and so on. The figures are those of the data set "Chess (King-Rook vs. King)" of the UCI
+/// repository (Bain and Hoff 1994).
 const ROOK_DRAWS: u32 = 2796;
 
 const ROOK_LOSSES: [u32; 17] = [
@@ -131,7 +132,8 @@ fn looks_and_moves_backward_tell_the_same(rt: HostRuntime) -> Result<(), Fail> {
     Ok(())
 }
 
-/// Whether the file of the class, of the first six, is the same where it is built as where it is made by sweeps forward.
+/// Whether the file of the class, of the first six, is the same where it is built as where it is made by sweeps
+/// forward.
 fn is_swept(alloc: Global, tables: &PlainTables, number: u8) -> Result<bool, Fail> {
     let class = Class::new(number).ok_or("no class")?;
     let library = whole_library_of(alloc, tables, number)?;

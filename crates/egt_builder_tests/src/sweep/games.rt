@@ -51,7 +51,7 @@ fn solved_zeroing(
     zeroing_over(alloc, class, library, &ranks, limit)
 }
 
-/// The same over these ranks of its game of mates.
+/// What solving its game of zeroing moves over these ranks of its game of mates answers.
 fn zeroing_over<'x>(
     alloc: Global,
     class: Class,

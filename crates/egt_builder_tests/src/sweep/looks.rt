@@ -36,8 +36,8 @@ fn blocks_are_looked_at_where_something_changed(rt: HostRuntime) -> Result<(), F
     Ok(())
 }
 
-// One king stands on ten squares, which turns and mirrors leave of the board, the other on any. A round for each of the 32
-// plies of the longest mate with a rook would do, beside the first and the last.
+// One king stands on ten squares, which turns and mirrors leave of the board, the other on any. A round for each of the
+// 32 plies of the longest mate with a rook would do, beside the first and the last.
 #[test]
 fn rows_are_looked_at_in_few_rounds(rt: HostRuntime) -> Result<(), Fail> {
     let looks = looks_at(rt.alloc(), &["KK"], "KRK")?;

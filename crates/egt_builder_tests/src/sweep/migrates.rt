@@ -78,7 +78,8 @@ fn a_table_that_has_the_column(rt: HostRuntime) -> Result<(), Fail> {
     Ok(())
 }
 
-// A library that has the class's own table without the column refuses nothing: only the children's columns are asked for.
+// A library that has the class's own table without the column refuses nothing: only the children's columns are asked
+// for.
 #[test]
 fn the_own_table_is_not_asked(rt: HostRuntime) -> Result<(), Fail> {
     let library = library_below(rt.alloc(), 1)?;

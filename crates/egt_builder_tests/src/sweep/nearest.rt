@@ -6,7 +6,8 @@ use egt_plain::shelf::{library_below, named, whole_library_below};
 use egt_sweep::{BuildFault, ReachGame};
 use std::test::*;
 
-// Two kings go round for ever, and a queen mates in a ply or two from two worked positions. Nobody is mated once she is taken.
+// Two kings go round for ever, and a queen mates in a ply or two from two worked positions. Nobody is mated once she is
+// taken.
 #[test]
 fn kings_and_a_queen(rt: HostRuntime) -> Result<(), Fail> {
     let library = whole_library_below(rt.alloc(), 1)?;
@@ -52,8 +53,8 @@ fn count_leaving<G: Game>(game: &G) -> (u32, u32) {
     (leaving, losing)
 }
 
-// White to move, king f7, pawn g7, black king h7. With a queen on g8, h7h6 and g8g6 lead to mate; with a rook there h7h6,
-// g8g1, h6h7 and g1h1. A bishop or a knight mates nobody.
+// White to move, king f7, pawn g7, black king h7. With a queen on g8, h7h6 and g8g6 lead to mate; with a rook there
+// h7h6, g8g1, h6h7 and g1h1. A bishop or a knight mates nobody.
 #[test]
 fn a_pawn_that_promotes(rt: HostRuntime) -> Result<(), Fail> {
     let library = whole_library_below(rt.alloc(), 5)?;

@@ -22,7 +22,8 @@ const DOWN: [u32; 20] = [
     19, 18, 17, 16, 15, 14, 13, 12, 11, 10, 9, 8, 7, 6, 5, 4, 3, 2, 1, 0,
 ];
 
-// In the first round block 7 is posted twice, and a batch of block 3 is held until the second; the last block is block 0.
+// In the first round block 7 is posted twice, and a batch of block 3 is held until the second; the last block is block
+// 0.
 #[test]
 fn from_the_last_block_to_the_first(rt: HostRuntime) -> Result<(), Fail> {
     let library = built(rt.alloc(), &["KK"])?;

@@ -3,8 +3,8 @@ use crate::men::{move_of, position_of};
 use egt_class::{Class, by_name, children, of};
 use egt_moves::play;
 
-// Each row has a class, a child of it and a move from the one to the other, and the men before the move, White's in capitals,
-// with the side to move. The rows stand in order of the classes' numbers and then of the children's.
+// Each row has a class, a child of it and a move from the one to the other, and the men before the move, White's in
+// capitals, with the side to move. The rows stand in order of the classes' numbers and then of the children's.
 
 /// One man beside the kings.
 const LONE_MEN: [(&str, &str); 9] = [
@@ -187,7 +187,8 @@ const ROWS: [&[(&str, &str)]; 7] = [
     &TWO_PAWNS,
 ];
 
-/// The numbers of the row's class and child, where it leads from the one to the other and stands behind a row with the numbers given.
+/// The numbers of the row's class and child, where it leads from the one to the other and stands behind a row with the
+/// numbers given.
 fn led_behind(last: (u8, u8), row: (&str, &str)) -> Option<(u8, u8)> {
     let (class, child) = led(row)?;
     let numbers = (class.number(), child.number());

@@ -54,7 +54,8 @@ fn has_pawns(number: u8) -> bool {
     number == 5 || number >= 26
 }
 
-/// One of the sixteen turns: mirrors of files, of ranks and of the long diagonal, and an exchange of colours, by its bits.
+/// One of the sixteen turns: mirrors of files, of ranks and of the long diagonal, and an exchange of colours, by its
+/// bits.
 fn turned(turn: u8, man: Man, square: Square) -> (Man, u8) {
     let mut file = square.file();
     let mut rank = square.rank();
@@ -343,7 +344,7 @@ fn spelled_plainly(number: u8, code: u32) -> Option<Position> {
     Position::new(men.as_slice(), side, target).ok()
 }
 
-/// The same, if the code is its plain index.
+/// The position that the code spells plainly, if the code is its plain index.
 fn spelled_by_index(number: u8, code: u32) -> Option<Position> {
     let spelled = spelled_plainly(number, code)?;
     if plain(number, &spelled) == Some(code) {
@@ -410,7 +411,7 @@ fn bishop_and_knight_have_the_plain_positions(rt: HostRuntime) -> Result<(), Fai
 
 #[test]
 fn index_is_the_plain_index(rt: HostRuntime) -> Result<(), Fail> {
-    // Those with Black to move and those with White to move, as they are counted by hand in `index.rt`.
+    // Positions with Black to move and with White to move, as they are counted by hand in `index.rt`.
     assert!(rt; agree(0, 1)? == 462);
     assert!(rt; agree(1, 1)? == 28_056 + 18_081);
     assert!(rt; agree(5, 1)? == 84_012 + 81_664);
@@ -420,7 +421,8 @@ fn index_is_the_plain_index(rt: HostRuntime) -> Result<(), Fail> {
     Ok(())
 }
 
-// The step is odd, so that either side moves, with a target and without, and a prime, so that no digit keeps to few values.
+// The step is odd, so that either side moves, with a target and without, and a prime, so that no digit keeps to few
+// values.
 #[test]
 fn index_of_four_men_is_the_plain_index(rt: HostRuntime) -> Result<(), Fail> {
     for number in 6..36 {

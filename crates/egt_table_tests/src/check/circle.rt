@@ -29,8 +29,8 @@ fn all_decided(alloc: Global, reference: &Reference<'_>, size: u32) -> Result<Ve
     Ok(entries)
 }
 
-/// Whether the entry of an index leans on others as a circle wants: a win on some loss, and a loss on wins alone, of which there
-/// is one.
+/// Whether the entry of an index leans on others as a circle wants: a win on some loss, and a loss on wins alone, of
+/// which there is one.
 fn leans(reference: &Reference<'_>, entries: &[u16], index: u32) -> bool {
     let Some(position) = reference.position(index) else {
         return true;
@@ -64,8 +64,8 @@ fn thinned(reference: &Reference<'_>, entries: &mut [u16]) -> bool {
     thins
 }
 
-// A knight and a king cannot mate, but they can stay on the board: of the positions where they can, each win in 2 has a move to a
-// loss in 1, and each loss in 1 leads to wins in 2 alone.
+// A knight and a king cannot mate, but they can stay on the board: of the positions where they can, each win in 2 has a
+// move to a loss in 1, and each loss in 1 leads to wins in 2 alone.
 #[test]
 fn wins_in_a_circle(rt: HostRuntime) -> Result<(), Fail> {
     let alloc = rt.alloc();

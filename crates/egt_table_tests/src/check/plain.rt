@@ -65,7 +65,8 @@ fn tried(entry: u16) -> [u16; 15] {
     ]
 }
 
-/// Whether the checker answers as the plain rules do, where no other entries than those of some indexes can be bad, and takes the table where it is true.
+/// Whether the checker answers as the plain rules do, where no other entries than those of some indexes can be bad, and
+/// takes the table where it is true.
 fn answers_alike(
     alloc: Global,
     number: u8,
@@ -79,7 +80,7 @@ fn answers_alike(
     Some(answer == expected && answer.is_ok() == is_true)
 }
 
-/// The same with each entry tried in one place.
+/// Whether the checker answers as the reference does, with each entry tried in one place.
 fn answers_tried(
     alloc: Global,
     number: u8,
@@ -100,7 +101,7 @@ fn answers_tried(
     Some(true)
 }
 
-/// The same in each of these places of a column.
+/// Whether it does with each entry tried in each of these places of a column.
 fn answers_everywhere(
     alloc: Global,
     number: u8,
@@ -210,8 +211,8 @@ fn is_refused(
     Some(column == Column::Mate && found <= index)
 }
 
-// Index 41022 has the white king on c2, the queen on h4, the black king on a1 and White to move, who mates at once; 41023 is the
-// same with Black to move. The others are spread over the table, the first of them void: both kings on a1.
+// Index 41022 has the white king on c2, the queen on h4, the black king on a1 and White to move, who mates at once;
+// 41023 is the same with Black to move. The others are spread over the table, the first of them void: both kings on a1.
 #[test]
 fn entries_of_a_queen_changed(rt: HostRuntime) -> Result<(), Fail> {
     let tables = PlainTables::solve(rt.alloc(), 2)?;
@@ -231,7 +232,8 @@ fn entries_of_a_queen_changed(rt: HostRuntime) -> Result<(), Fail> {
     Ok(())
 }
 
-// Index 164434 has the white king on c7, the pawn on b7, the black king on a7 and White to move, who mates in three plies.
+// Index 164434 has the white king on c7, the pawn on b7, the black king on a7 and White to move, who mates in three
+// plies.
 #[test]
 fn entries_of_a_pawn_changed(rt: HostRuntime) -> Result<(), Fail> {
     let tables = PlainTables::solve(rt.alloc(), 6)?;

@@ -13,7 +13,7 @@ fn mate_with(alloc: Global, code: u32, entry: u16) -> Result<Result<(), Reject>,
     Ok(check(&table, &Library::new(alloc)?))
 }
 
-/// The same with this entry in the zeroing column.
+/// What the checker answers with this entry in the zeroing column.
 fn zeroing_with(alloc: Global, code: u32, entry: u16) -> Result<Result<(), Reject>, Fail> {
     let table = table_with(alloc, &[], &[(code, entry)])?;
     Ok(check(&table, &Library::new(alloc)?))

@@ -7,9 +7,9 @@ use egt_graph::{Exit, Game, NoMemory, Ranks};
 use std::alloc::Global;
 use std::cell::Cell;
 
-/// Nodes in steps. Those of the lowest have no move, and each other has one, to the node one step below. Nodes may leave the game besides: an exit is a
-/// node and what it leads to. Those of the lowest step that do not leave are checkmates where `mates`, and stalemates where not. The last `voids` numbers
-/// are no nodes.
+/// Nodes in steps. Those of the lowest have no move, and each other has one, to the node one step below. Nodes may
+/// leave the game besides: an exit is a node and what it leads to. Those of the lowest step that do not leave are
+/// checkmates where `mates`, and stalemates where not. The last `voids` numbers are no nodes.
 #[derive(Drop)]
 pub(super) struct Stairs<'a> {
     pub(super) nodes: u32,

@@ -3,10 +3,11 @@ use super::games::{Stairs, plain_stairs};
 use egt_graph::{Exit, SolveFault, solve};
 use std::test::*;
 
-// 0 leaves for a position lost in 3: a win in 4, found late and through the exit alone. 3 leads to it, and leaves for positions won in 0, twice, and in 2:
-// a loss in 5, which waits for the move. 6 leads to 3, and leaves for one lost in 1, which wins at once; an exit that falls due late changes nothing.
-// 1 leaves for positions won in 1 and in 6: a loss in 7, which waits for the last. 4 leads to it: a win in 8. 7 leads to 4: a loss in 9.
-// 2 leaves for a position won in 1 and for a draw, which saves it. 5 and 8 lead there: draws. 9 is void.
+// 0 leaves for a position lost in 3: a win in 4, found late and through the exit alone. 3 leads to it, and leaves for
+// positions won in 0, twice, and in 2: a loss in 5, which waits for the move. 6 leads to 3, and leaves for one lost in
+// 1, which wins at once; an exit that falls due late changes nothing. 1 leaves for positions won in 1 and in 6: a loss
+// in 7, which waits for the last. 4 leads to it: a win in 8. 7 leads to 4: a loss in 9. 2 leaves for a position won in
+// 1 and for a draw, which saves it. 5 and 8 lead there: draws. 9 is void.
 const WITH_EXITS: Stairs<'static> = Stairs {
     nodes: 9,
     voids: 1,
@@ -105,7 +106,8 @@ fn no_nodes(rt: HostRuntime) -> Result<(), Fail> {
     Ok(())
 }
 
-// Node i is i moves from the checkmate: lost where i is even, won where it is odd. The last stands in a block of its own.
+// Node i is i moves from the checkmate: lost where i is even, won where it is odd. The last stands in a block of its
+// own.
 #[test]
 fn one_node_more_than_a_block(rt: HostRuntime) -> Result<(), Fail> {
     let ranks = solve(rt.alloc(), &plain_stairs(4097, 1), 4096)?;

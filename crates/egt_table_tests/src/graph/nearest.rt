@@ -15,8 +15,9 @@ fn a_ply_a_step(rt: HostRuntime) -> Result<(), Fail> {
     Ok(())
 }
 
-// 0 is a stalemate, and 1 leads to it: nobody is ever mated. 2 leads there too, and leaves for a position lost in 5: 6 plies. 3 leads to 2, and leaves for
-// one won in 2, which is nearer: 3 plies. 4 leads to 3: 4 plies. 5 leads to 4, and leaves for a draw, which brings nothing nearer. 6 is void.
+// 0 is a stalemate, and 1 leads to it: nobody is ever mated. 2 leads there too, and leaves for a position lost in 5: 6
+// plies. 3 leads to 2, and leaves for one won in 2, which is nearer: 3 plies. 4 leads to 3: 4 plies. 5 leads to 4, and
+// leaves for a draw, which brings nothing nearer. 6 is void.
 #[test]
 fn exits_of_either_kind(rt: HostRuntime) -> Result<(), Fail> {
     let game = Stairs {

@@ -166,7 +166,8 @@ fn targets_are_the_moves_into_a_node(rt: HostRuntime) -> Result<(), Fail> {
     Ok(())
 }
 
-/// Works a block off, and looks at what each call asks: `expand` for the moves into each node that it lists, `post` for nothing.
+/// Works a block off, and looks at what each call asks: `expand` for the moves into each node that it lists, `post` for
+/// nothing.
 fn work_block(
     rt: &impl Abort,
     alloc: Global,

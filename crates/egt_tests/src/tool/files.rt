@@ -89,7 +89,8 @@ fn files_of_another_length(rt: HostRuntime) -> Result<(), Fail> {
     Ok(())
 }
 
-/// Classes, and the least of those that they rest on of which the folder has no file: where it has none, and where it has that of two kings.
+/// Classes, and the least of those that they rest on of which the folder has no file: where it has none, and where it
+/// has that of two kings.
 const MISSING: [(&str, &str); 3] = [
     ("KK", "error check 11 Missing KK\n"),
     ("KPKP", "error check 11 Missing KK\n"),

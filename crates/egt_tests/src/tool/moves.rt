@@ -61,8 +61,8 @@ fn lists_the_moves_that_an_engine_lists(rt: HostRuntime) -> Result<(), Fail> {
     Ok(())
 }
 
-/// Positions, and the text that is printed: a capture in passing that takes the checking pawn, a king beside a rook's line, a pawn that promotes, and a
-/// pawn at home.
+/// Positions, and the text that is printed: a capture in passing that takes the checking pawn, a king beside a rook's
+/// line, a pawn that promotes, and a pawn at home.
 const PRINTED: [(&str, &str); 5] = [
     ("k7/8/1K6/8/8/8/8/3Q4 b - - 0 1", "a8b8\n"),
     (
@@ -194,7 +194,8 @@ fn prints_its_help(rt: HostRuntime) {
     }
 }
 
-/// Whether a failing push to the standard output is told on the standard error, where that takes the line, and ends with status 3 in any case.
+/// Whether a failing push to the standard output is told on the standard error, where that takes the line, and ends
+/// with status 3 in any case.
 fn tells_failure(rt: &HostRuntime, words: &[&str]) -> Option<bool> {
     let (status, err) = run_failing(rt, words, 1, 1)?;
     let silent = status == 3 && err.bytes() != b"error device\n".as_slice();

@@ -27,7 +27,7 @@ const EN_PASSANT: [&str; 31] = [
     "8/8/8/5k2/4Pp2/8/8/7K b - e3 0 1: f4e3 f5e4 f5g4 f5e5 f5g5 f5e6 f5f6 f5g6",
     "7k/8/8/3Pp3/3K4/8/8/8 w - e6 0 1: d4c3 d4d3 d4e3 d4c4 d4e4 d4c5 d4e5 d5e6",
     "7k/8/8/4pP2/3K4/8/8/8 w - e6 0 1: d4c3 d4d3 d4e3 d4c4 d4e4 d4c5 d4d5 d4e5 f5e6",
-    // The same men without the target, as a move later: no en passant.
+    // These men without the target, as a move later: no en passant.
     "4k3/8/8/3pP3/8/8/8/4K3 w - - 0 2: e1d1 e1f1 e1d2 e1e2 e1f2 e5e6",
     "8/8/8/3k4/3pP3/8/8/7K b - - 0 1: d5c4 d5e4 d5c5 d5e5 d5c6 d5d6 d5e6",
     // A target that no pawn can use: none is beside the advanced pawn, or it is on another rank or another file.

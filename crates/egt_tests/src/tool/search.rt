@@ -3,7 +3,8 @@ use super::{is_wrong, prints};
 use egt_commands::search_text;
 use std::test::Fail;
 
-/// How many plies are searched, and a row: a FEN, and behind the colon what is found, as the line has it before ` plies`.
+/// How many plies are searched, and a row: a FEN, and behind the colon what is found, as the line has it before `
+/// plies`.
 const WORKED: [(u8, &str); 10] = [
     (1, "k7/8/1K6/8/8/8/8/3Q4 b - - 0 1: no mate within 1"),
     (2, "k7/8/1K6/8/8/8/8/3Q4 b - - 0 1: white mates in 2"),
