@@ -36,7 +36,7 @@
  * - No call aborts, waits, prints or keeps a pointer that it was given. Memory is taken by malloc and given back by free, by egtb_open,
  *   egtb_share, egtb_add and egtb_close alone. Calls are not made from a signal handler, nor from the child of a fork where the process has
  *   threads.
- * - egtb_add needs 192 KB of stack; the threads of some C libraries have less (musl: 128 KB) unless the program asks for more. The other
+ * - egtb_add needs 320 KB of stack; the threads of some C libraries have less (musl: 128 KB) unless the program asks for more. The other
  *   calls need 16 KB.
  */
 #ifndef EGTB_H
