@@ -83,6 +83,7 @@ header_is version class header b l e = fields_right (header_fields version class
 -- what came before a cut
 pub cut_more : (left mid : Option (List ℕ)) (done : List ℕ) (n m : ℕ) (fault : FileFault) → Consumes left mid done → IsCut n mid fault → length done + n ≤ m → IsCut m left fault
 cut_more left mid done n m faults.Device p q h = tt
+cut_more left mid done n m faults.NoMemory p q h = tt
 cut_more None mid done n m faults.Short p q h = tt
 cut_more (Some xs) None done n m faults.Short p q h = absurd p
 cut_more (Some xs) (Some ys) done n m faults.Short p q h = omega (arith, ap length p, length-append {A = ℕ})
@@ -94,6 +95,7 @@ misfit_of_cut n left fault q = grind arith
 -- what came before the end
 pub misfit_more : (left mid : Option (List ℕ)) (done : List ℕ) (n : ℕ) (fault : FileFault) → Consumes left mid done → IsMisfit 0 mid fault → length done ≡ n → IsMisfit n left fault
 misfit_more left mid done n faults.Device p q h = tt
+misfit_more left mid done n faults.NoMemory p q h = tt
 misfit_more None mid done n faults.Short p q h = tt
 misfit_more (Some xs) None done n faults.Short p q h = absurd p
 misfit_more (Some xs) (Some ys) done n faults.Short p q h = absurd (omega arith)
@@ -103,17 +105,10 @@ misfit_more (Some xs) (Some ys) done n faults.Trailing p q h = omega (arith, ap 
 misfit_more left mid done n fault p q h = absurd q
 
 too_short : (class : ℕ) (bytes : List ℕ) → HasHeader class bytes → length bytes < file_length (stated_version bytes) class → file_fault class bytes ≡ Some faults.Short
-too_short class bytes h l =
-    let long : nat_lt (length bytes) 16 ≡ false = le-ltb (length bytes) 16 h.0 in
-    let short : nat_lt (length bytes) (file_length (stated_version bytes) class) ≡ true = lt-ltb (length bytes) (file_length (stated_version bytes) class) l in
-    rw (long, h.1, short) refl
+too_short class bytes h l = grind (arith, nat_lt, length, le-ltb)
 
 too_long : (class : ℕ) (bytes : List ℕ) → HasHeader class bytes → file_length (stated_version bytes) class < length bytes → file_fault class bytes ≡ Some faults.Trailing
-too_long class bytes h l =
-    let long : nat_lt (length bytes) 16 ≡ false = le-ltb (length bytes) 16 h.0 in
-    let not_short : nat_lt (length bytes) (file_length (stated_version bytes) class) ≡ false = le-ltb (length bytes) (file_length (stated_version bytes) class) (omega arith) in
-    let more : nat_lt (file_length (stated_version bytes) class) (length bytes) ≡ true = lt-ltb (file_length (stated_version bytes) class) (length bytes) l in
-    rw (long, h.1, not_short, more) refl
+too_long class bytes h l = grind (arith, nat_lt, length, le-ltb)
 
 -- what the columns tell of all bytes
 pub columns_answer : (version class : ℕ) (left mid : Option (List ℕ)) (header : List ℕ) (n : ℕ) (fault : FileFault)
@@ -122,6 +117,7 @@ pub columns_answer : (version class : ℕ) (left mid : Option (List ℕ)) (heade
 columns_answer version class None mid header n fault p l s h q = tt
 columns_answer version class (Some bytes) None header n fault p l s h q = absurd p
 columns_answer version class (Some bytes) (Some rest) header n faults.Device p l s h q = tt
+columns_answer version class (Some bytes) (Some rest) header n faults.NoMemory p l s h q = h.0
 columns_answer version class (Some bytes) (Some rest) header n faults.Short p l s h q =
     let whole : length bytes ≡ 16 + length rest = omega (arith, ap length p, length-append {A = ℕ}) in
     let here : length bytes < file_length version class = omega arith in
@@ -154,10 +150,4 @@ written_length t h =
 
 -- the file of a table has no fault
 pub written_right : (t : TableValue) → IsTable t → size_of t.class < 2 ^ 32 → file_fault t.class (bytes_of t) ≡ None
-written_right t h s =
-    let header = header_right t h s in
-    let is = written_length t h in
-    let long : nat_lt (length (bytes_of t)) 16 ≡ false = le-ltb (length (bytes_of t)) 16 (omega arith) in
-    let not_short : nat_lt (length (bytes_of t)) (file_length (stated_version (bytes_of t)) t.class) ≡ false = le-ltb (length (bytes_of t)) (file_length (stated_version (bytes_of t)) t.class) (omega arith) in
-    let not_long : nat_lt (file_length (stated_version (bytes_of t)) t.class) (length (bytes_of t)) ≡ false = le-ltb (file_length (stated_version (bytes_of t)) t.class) (length (bytes_of t)) (omega arith) in
-    rw (long, header, not_short, not_long) refl
+written_right t h s = grind (arith, header_right, written_length, nat_lt)

@@ -27,5 +27,4 @@ pub entries_more : (x y : List ℕ) → entries_bytes (x ++ y) ≡ entries_bytes
 entries_more x y = flat_map-append (little_bytes 2) x y
 
 pub entries_split : (w x y z : List ℕ) → w ≡ x ++ (y ++ z) → entries_bytes w ≡ entries_bytes x ++ (entries_bytes y ++ entries_bytes z)
-entries_split w x y z e =
-    ap (λ (v : List ℕ). entries_bytes v) e ∙ entries_more x (y ++ z) ∙ ap (λ (v : List ℕ). entries_bytes x ++ v) (entries_more y z)
+entries_split w x y z e = grind (arith, entries_bytes, entries_more)

@@ -1,5 +1,5 @@
 -- A header's fields: what bytes have no fault, and that no byte behind the fields matters.
-use Rattle.std.proofs.Common.{◌≡◌, ℕ, ◌+◌, ◌^◌, ◌<◌, ◌≤◌, ◌==◌, Bool, true, false, List, [], ◌∷◌, ◌++◌, length, take}
+use Rattle.std.proofs.Common.{◌≡◌, ℕ, ◌+◌, ◌^◌, ◌<◌, ◌≤◌, ◌==◌, Bool, true, List, [], ◌∷◌, ◌++◌, length, take}
 use Rattle.std.proofs.Common.{drop, Option, Some, None, refl, sym, ap, ◌∙◌, arith, length-drop, append_assoc, eq-eqb}
 use Rattle.std.proofs.Common.{if◌then◌else◌}
 use Rattle.egt_table.specs.Prelude.{flat_map, little_bytes, little_number, little_from-append, little_number-reads_back}

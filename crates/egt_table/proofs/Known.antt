@@ -14,8 +14,7 @@ appends_more a b c x y z p q e = subst (Appends a c) (sym e) (Appends-trans a b 
 
 -- the front of what was put behind the first a
 pub take_across : (a n : ℕ) (us vs ws : List ℕ) → length us ≡ a → n ≤ length vs → take (a + n) (us ++ (vs ++ ws)) ≡ us ++ take n vs
-take_across a n us vs ws e h =
-    ap (λ (m : ℕ). take (m + n) (us ++ (vs ++ ws))) (sym e) ∙ take-append-add us (vs ++ ws) n ∙ ap (λ (w : List ℕ). us ++ w) (take-append-le n vs ws h)
+take_across a n us vs ws e h = grind (arith, take, take-append-add, take-append-le)
 
 -- a call that failed left a beginning of the piece
 pub front_kept : (a b c : Option (List ℕ)) (taken rest piece : List ℕ) → Appends a b taken → Keeps b c → piece ≡ taken ++ rest → AppendsFront a c piece

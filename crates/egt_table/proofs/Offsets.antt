@@ -1,6 +1,6 @@
 -- Where the numbers of a table's file stand, and that they determine the table.
 use Rattle.std.proofs.Common.{◌≡◌, ℕ, zero, suc, ◌+◌, ◌*◌, ◌^◌, ◌<◌, ◌≤◌, List, [], ◌∷◌, ◌++◌, length, drop, get_or}
-use Rattle.std.proofs.Common.{Option, Some, None, IsSome, refl, sym, ap, subst, ◌∙◌, arith}
+use Rattle.std.proofs.Common.{Option, Some, IsSome, refl, sym, ap, subst, ◌∙◌, arith}
 use Rattle.egt_table.specs.Prelude.{flat_map, slice_get, drop-append-add, ext_get_or, little_number}
 use Rattle.egt_table.specs.Prelude.{little_number-reads_back, size_of, Column, Mate, Zeroing, Reach, bytes_of}
 use Rattle.egt_table.specs.Prelude.{column_bytes, columns_in, entries_bytes, field_bytes, header_fields, header_of}
@@ -79,11 +79,7 @@ third_is_there reach j c e = grind arith
 
 -- a column of a table is there
 is_there : (t : TableValue) (j : ℕ) (c : Column) → slice_get (columns_of t) j ≡ Some c → HasColumn c t
-is_there t zero c e = subst (λ (d : Column). HasColumn d t) (same_column Mate c e) tt
-is_there t (suc zero) c e = subst (λ (d : Column). HasColumn d t) (same_column Zeroing c e) tt
-is_there t (suc (suc j)) c e =
-    let third = third_is_there t.reach j c e in
-    subst (λ (d : Column). HasColumn d t) (sym third.0) third.1
+is_there t j c e = grind (arith, same_column, third_is_there)
 
 pub entries_in_place : (t : TableValue) → IsTable t → EntriesFit t → EntriesStand t (bytes_of t)
 entries_in_place t h fit k i column e l =
@@ -111,21 +107,14 @@ same_entries t u ht hu ft fu same class k column et eu =
     ∙ entries_in_place u hu fu k i column eu iu)
 
 same_class : (t u : TableValue) → IsTable t → IsTable u → bytes_of t ≡ bytes_of u → t.class ≡ u.class
-same_class t u ht hu same =
-    sym (class_stands (version_of t.reach) t.class (flat_map (column_bytes t) (columns_of t)) ht.class_in)
-    ∙ ap (λ (w : List ℕ). number_at 2 8 w) same
-    ∙ class_stands (version_of u.reach) u.class (flat_map (column_bytes u) (columns_of u)) hu.class_in
+same_class t u ht hu same = grind (arith, class_stands, version_of, flat_map)
 
 same_reach : (a b : Option (List ℕ)) → version_of a ≡ version_of b
     → (slice_get (reach_columns a) 0 ≡ Some Reach → slice_get (reach_columns b) 0 ≡ Some Reach → entries_or_none a ≡ entries_or_none b) → a ≡ b
 same_reach a b v e = grind arith
 
 same_parts : (t u : TableValue) → t.class ≡ u.class → t.mate ≡ u.mate → t.zeroing ≡ u.zeroing → t.reach ≡ u.reach → t ≡ u
-same_parts t u c m z r =
-    ap (λ (n : ℕ). record t { class = n }) c
-    ∙ ap (λ (w : List ℕ). record t { class = u.class; mate = w }) m
-    ∙ ap (λ (w : List ℕ). record u { zeroing = w; reach = t.reach }) z
-    ∙ ap (λ (w : Option (List ℕ)). record u { reach = w }) r
+same_parts t u c m z r = grind arith
 
 -- a file is of one table
 pub one_table : (t u : TableValue) → IsTable t → IsTable u → EntriesFit t → EntriesFit u → bytes_of t ≡ bytes_of u → t ≡ u

@@ -30,8 +30,7 @@ told_of_table t =
 -- the bytes of the columns, by name
 third_bytes : (f : Column → List ℕ) (reach : Option (List ℕ)) → f Reach ≡ entries_bytes (entries_or_none reach)
     → flat_map f (reach_columns reach) ≡ entries_bytes (entries_or_none reach)
-third_bytes f None e = refl
-third_bytes f (Some entries) e = append-nil (f Reach) ∙ e
+third_bytes f reach e = grind (arith, append-nil)
 
 pub body_is : (t : TableValue) → flat_map (column_bytes t) (columns_of t) ≡ entries_bytes t.mate ++ (entries_bytes t.zeroing ++ entries_bytes (entries_or_none t.reach))
 body_is t = ap (λ (w : List ℕ). entries_bytes t.mate ++ (entries_bytes t.zeroing ++ w)) (third_bytes (column_bytes t) t.reach refl)
@@ -59,11 +58,4 @@ body_length t h =
 -- how many bytes a file of the version has
 pub length_of_file : (version class mate zeroing reach : ℕ) → IsVersion version → mate ≡ size_of class → zeroing ≡ size_of class → reach ≡ length_in version class
     → 16 + (2 * mate + 2 * zeroing + 2 * reach) ≡ file_length version class
-length_of_file version class mate zeroing reach (inl one) m z r =
-    let none : length_in version class ≡ 0 = rw one refl in
-    let columns : columns_in version * (2 * size_of class) ≡ 4 * size_of class = rw one (omega arith) in
-    omega arith
-length_of_file version class mate zeroing reach (inr two) m z r =
-    let all : length_in version class ≡ size_of class = rw two refl in
-    let columns : columns_in version * (2 * size_of class) ≡ 6 * size_of class = rw two (omega arith) in
-    omega arith
+length_of_file version class mate zeroing reach h m z r = grind (arith, length_in, columns_in, size_of)

@@ -13,16 +13,18 @@ CountsFault fault old new = new ≡ old
 abbrev pub CountsDevice : {A : Type 0} → Result A FileFault → ℕ → ℕ → Type 0
 CountsDevice result old new = MatchResult result (λ _. new ≡ old) (λ fault. CountsFault fault old new)
 
--- the device failed, or fewer than n bytes were left
+-- the device failed, or there was no memory, or fewer than n bytes were left
 abbrev pub IsCut : ℕ → Option (List ℕ) → FileFault → Type 0
 IsCut n left faults.Device = Unit {0}
+IsCut n left faults.NoMemory = Unit {0}
 IsCut n None faults.Short = Unit {0}
 IsCut n (Some bytes) faults.Short = length bytes < n
 IsCut n left fault = ⊥
 
--- the device failed, or fewer than n bytes were left, or more
+-- the device failed, or there was no memory, or fewer than n bytes were left, or more
 abbrev pub IsMisfit : ℕ → Option (List ℕ) → FileFault → Type 0
 IsMisfit n left faults.Device = Unit {0}
+IsMisfit n left faults.NoMemory = Unit {0}
 IsMisfit n None faults.Short = Unit {0}
 IsMisfit n (Some bytes) faults.Short = length bytes < n
 IsMisfit n None faults.Trailing = Unit {0}

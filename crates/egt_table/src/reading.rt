@@ -13,12 +13,14 @@ use byteorder::{ByteOrder, LittleEndian};
 use egt_class::Class;
 use egt_graph::{Nears, Ranks};
 use egt_index::size;
-use std::alloc::{AllocError, Global};
+use std::alloc::Global;
 
 /// Takes the header off the source, and gives the version that it tells.
 fn read_header<S: Source>(class: Class, source: &mut S) -> Result<u16, FileFault>
-    ensures header { IfOk result (λ version. Consumes (S.left source.old) (S.left source.new) (header_of version class)) }
-    ensures right { IfOk result (λ version. IfSome (S.left source.old) (λ bytes. HasHeader class bytes × (stated_version bytes ≡ version))) }
+    ensures header { IfOk result (λ version. Consumes (S.left source.old) (S.left source.new)
+        (header_of version class)) }
+    ensures right { IfOk result (λ version. IfSome (S.left source.old)
+        (λ bytes. HasHeader class bytes × (stated_version bytes ≡ version))) }
     ensures version { IfOk result IsVersion }
     ensures fault { IfErr result (λ fault. IfSome (S.left source.old) (λ bytes. IsAnswer class bytes fault)) }
     ensures failures { CountsDevice result (S.failures source.old) (S.failures source.new) }
@@ -53,18 +55,25 @@ fn read_piece<S: Source>(
     Ok(())
 }
 
-/// Takes the bytes of as many entries off the source as there are.
-fn read_entries<S: Source>(source: &mut S, entries: &mut [u16]) -> Result<(), FileFault>
-    ensures bytes { OnOk result (Consumes (S.left source.old) (S.left source.new) (entries_bytes entries.new)) }
-    ensures fault { IfErr result (λ fault. IsCut (2 * length entries.old) (S.left source.old) fault) }
+/// Takes the bytes of so many entries off the source, and puts the entries into the column, which is empty. They come
+/// in pieces that the processor's cache holds, and memory is written once.
+fn read_entries<S: Source>(
+    source: &mut S,
+    column: &mut Vec<u16>,
+    len: usize,
+) -> Result<(), FileFault>
+    requires { column.old.items ≡ [] }
+    ensures long { OnOk result (length column.new.items ≡ len) }
+    ensures bytes { OnOk result (Consumes (S.left source.old) (S.left source.new) (entries_bytes column.new.items)) }
+    ensures fault { IfErr result (λ fault. IsCut (2 * len) (S.left source.old) fault) }
     ensures failures { CountsDevice result (S.failures source.old) (S.failures source.new) }
 {
     let mut buffer = [0; PIECE_BYTES];
-    let mut at = 0;
-    while at < entries.len() {
-        let end = at + (entries.len() - at).min(PIECE);
-        read_piece(source, &mut entries[at..end], &mut buffer)?;
-        at = end;
+    let mut piece = [0; PIECE];
+    'pieces: while column.len() < len {
+        let n = (len - column.len()).min(PIECE);
+        read_piece(source, &mut piece[..n], &mut buffer)?;
+        column.extend_from_slice(&piece[..n])?;
     }
     Ok(())
 }
@@ -82,20 +91,28 @@ fn read_end<S: Source>(source: &mut S) -> Result<(), FileFault>
     Ok(())
 }
 
-/// Takes the columns off the source, with which it ends.
+/// Takes the columns off the source, with which it ends, into empty ones: two of `len` entries, the last of `reach_len`.
 fn read_columns<S: Source>(
     source: &mut S,
-    mate: &mut [u16],
-    zeroing: &mut [u16],
-    reach: &mut [u16],
+    mate: &mut Vec<u16>,
+    zeroing: &mut Vec<u16>,
+    reach: &mut Vec<u16>,
+    len: usize,
+    reach_len: usize,
 ) -> Result<(), FileFault>
-    ensures bytes { OnOk result (IsAll (S.left source.old) (entries_bytes mate.new ++ (entries_bytes zeroing.new ++ entries_bytes reach.new))) }
-    ensures fault { IfErr result (λ fault. IsMisfit (2 * length mate.old + 2 * length zeroing.old + 2 * length reach.old) (S.left source.old) fault) }
+    requires mate { mate.old.items ≡ [] }
+    requires zeroing { zeroing.old.items ≡ [] }
+    requires reach { reach.old.items ≡ [] }
+    ensures long { OnOk result ((length mate.new.items ≡ len) × (length zeroing.new.items ≡ len)) }
+    ensures reach_long { OnOk result (length reach.new.items ≡ reach_len) }
+    ensures bytes { OnOk result (IsAll (S.left source.old)
+        (entries_bytes mate.new.items ++ (entries_bytes zeroing.new.items ++ entries_bytes reach.new.items))) }
+    ensures fault { IfErr result (λ fault. IsMisfit (2 * len + 2 * len + 2 * reach_len) (S.left source.old) fault) }
     ensures failures { CountsDevice result (S.failures source.old) (S.failures source.new) }
 {
-    read_entries(source, mate)?;
-    read_entries(source, zeroing)?;
-    read_entries(source, reach)?;
+    read_entries(source, mate, len)?;
+    read_entries(source, zeroing, len)?;
+    read_entries(source, reach, reach_len)?;
     read_end(source)
 }
 
@@ -110,19 +127,17 @@ fn reach_len(version: u16, class: Class) -> usize
     }
 }
 
-/// Room for a column.
-fn room(alloc: Global, len: usize) -> Result<Vec<u16>, AllocError>
-    ensures { IfOk result (λ entries. length entries.items ≡ len) }
-{
-    vec![in alloc; 0; len]
-}
-
 /// The table of the columns of a file of the version.
 fn table_of(version: u16, class: Class, mate: Vec<u16>, zeroing: Vec<u16>, reach: Vec<u16>) -> Table
     requires mate { length mate.items ≡ size_of class }
     requires zeroing { length zeroing.items ≡ size_of class }
     requires reach { length reach.items ≡ length_in version class }
-    ensures { result ≡ record { class = class; mate = mate.items; zeroing = zeroing.items; reach = reach_in version reach.items } }
+    ensures { result ≡ record {
+      class = class;
+      mate = mate.items;
+      zeroing = zeroing.items;
+      reach = reach_in version reach.items;
+    } }
 {
     let mate = Ranks::from_entries(mate);
     let zeroing = Ranks::from_entries(zeroing);
@@ -156,10 +171,18 @@ impl Table {
     {
         let version = read_header(class, source)?;
         let size = size(class) as usize;
-        let mut mate = room(alloc, size)?;
-        let mut zeroing = room(alloc, size)?;
-        let mut reach = room(alloc, reach_len(version, class))?;
-        read_columns(source, &mut mate, &mut zeroing, &mut reach)?;
+        let reach_size = reach_len(version, class);
+        let mut mate = Vec::with_capacity(alloc, size)?;
+        let mut zeroing = Vec::with_capacity(alloc, size)?;
+        let mut reach = Vec::with_capacity(alloc, reach_size)?;
+        read_columns(
+            source,
+            &mut mate,
+            &mut zeroing,
+            &mut reach,
+            size,
+            reach_size,
+        )?;
         Ok(table_of(version, class, mate, zeroing, reach))
     }
 }

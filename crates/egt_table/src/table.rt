@@ -63,7 +63,8 @@ impl Table {
     /// exactly where the table has such a column already, or where this one has not as many entries as the class has
     /// codes.
     pub fn with_reach(self, nears: Nears) -> Result<Table, (Table, Nears)>
-        ensures table { IfOk result (λ t. t ≡ record { class = self.class; mate = self.mate; zeroing = self.zeroing; reach = Some nears }) }
+        ensures table { IfOk result (λ t. t ≡ record
+            { class = self.class; mate = self.mate; zeroing = self.zeroing; reach = Some nears }) }
         ensures back { IfErr result (λ both. both ≡ (self, nears)) }
         ensures exact { IsOk result ↔ ((self.reach ≡ None) × (length nears ≡ size_of self.class)) }
     {
