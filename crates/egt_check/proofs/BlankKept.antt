@@ -1,5 +1,5 @@
 -- Entries without scores: no position has their code, so they are right.
-use Rattle.std.proofs.Common.{◌≡◌, ℕ, ◌⊎◌, ◌∙◌, None, arith, inl, inr, refl, sym}
+use Rattle.std.proofs.Common.{◌≡◌, ℕ, ◌⊎◌, ◌∙◌, None, arith, inl, inr, sym}
 use Rattle.egt_check.specs.Prelude.{Setup, Spells, IsIndex, IsVoid, IsTable, TableValue, Mate, Part, Values, Reach}
 use Rattle.egt_check.specs.Prelude.{IsBlank, column_of, table_in, KeepsPart, Tables, entry_at, HasBytes, column_score}
 use Rattle.egt_check.specs.Prelude.{score_at}
@@ -12,8 +12,7 @@ use Rattle.egt_check.proofs.QuietGiven.{low_score}
 module _ (part : Part) (t : TableValue) (is_table : IsTable (table_in part t)) (bytes : HasBytes (table_in part t))
     (or_void : (i : ℕ) → ((p : Setup) × Spells t.class i p × IsIndex t.class p i) ⊎ IsVoid t.class i) (i : ℕ) (blank : IsBlank t (column_of part) i) where
   part_score : (part : Part) → IsTable (table_in part t) → HasBytes (table_in part t) → column_score t (column_of part) i ≡ score_at (table_in part t) Mate i
-  part_score Values is bytes = refl
-  part_score Reach is bytes = near_scores t is bytes or_void i
+  part_score part is bytes = grind (arith, near_scores)
 
   is_void : IsVoid t.class i
   is_void = elim (or_void i) [

@@ -23,21 +23,11 @@ module _ (column : Column) (own : TableValue) (first : Bool) (men : ShelfMen) (s
   }
 
   nothing_advanced : (score : ℕ) → ¬ ((men.last.kind ≡ P) × (men.last.side ≡ side)) → AreAdvanceScores column own first men side a b score → score ≡ 0
-  nothing_advanced score none s =
-      let stepped : s.stepped ≡ 0 = elim s.stepped_raised.reached [ inl zero ↦ zero | inr h ↦ absurd (none (h.1.1.pawn, h.1.1.mine)) ] in
-      let leapt : s.leapt ≡ 0 = elim s.leapt_raised.reached [ inl zero ↦ zero | inr h ↦ absurd (none (h.1.1.pawn, h.1.1.mine)) ] in
-      let is = s.is in
-      omega (arith, is, stepped, leapt)
+  nothing_advanced score none s = grind arith
 
   -- raised from a greater number
   raised_more : (promotion : Promotion) (more low high : ℕ) → IsPromotionScore column promotion men side a b low high → IsPromotionScore column promotion men side a b (max more low) (max more high)
-  raised_more promotion more low high s = record {
-    advanced = s.advanced;
-    taken = s.taken;
-    advanced_raised = s.advanced_raised;
-    taken_raised = s.taken_raised;
-    is = let is = s.is in omega (arith, is);
-  }
+  raised_more promotion more low high s = grind arith
 
   of_pawn : (kinds : Promotions) (advanced promoted : ℕ) → AreAdvanceScores column own first men side a b advanced → ArePromotionScores column kinds men side a b 0 promoted → ArePawnScores column own first kinds men side a b (max advanced promoted)
   of_pawn kinds advanced promoted s p = record {
@@ -92,17 +82,7 @@ zeroing_of column four men side a b exits own score e o is =
 pub zeroed_alone : (column : Column) (four : FourMen) (men : ShelfMen) (side : Side) (a b exits : ℕ)
     → ¬ ((men.last.kind ≡ P) × (men.last.side ≡ side)) → ¬ ((men.one.kind ≡ P) × (men.one.side ≡ side))
     → AreExits column four.children men side a b exits → AreZeroingMoves column four men side a b exits
-zeroed_alone column four men side a b exits last one e =
-    zeroing_of column four men side a b exits 0 exits e own (omega arith)
-  where
-    own : AreOwnPawnMoves column four.own men side a b 0
-    own = record {
-      by_last = 0;
-      by_first = 0;
-      last_is = no_advances column four.own false men side a b last;
-      first_is = no_advances column four.own true (men_swapped men) side b a one;
-      is = refl;
-    }
+zeroed_alone column four men side a b exits last one e = grind (arith, zeroing_of, no_advances, men_swapped)
 
 -- raised to one score and then to another
 pub raised_twice : (low one two middle high : ℕ) → middle ≡ max low one → high ≡ max middle two

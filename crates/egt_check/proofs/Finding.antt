@@ -1,5 +1,5 @@
 -- In which table the entry of a position is found.
-use Rattle.std.proofs.Common.{◌≡◌, ℕ, ◌<◌, ◌⊎◌, inl, inr, Bool, false, eqb, Option, Some, None, refl, sym, subst, ◌∙◌}
+use Rattle.std.proofs.Common.{◌≡◌, ℕ, ◌<◌, ◌⊎◌, inl, inr, Bool, false, eqb, Option, Some, refl, sym, subst, ◌∙◌}
 use Rattle.std.proofs.Common.{arith, IsSome, IfSome}
 use Rattle.egt_check.specs.Prelude.{option_map, Contains, eq-eqb, eqb_tells, Setup, IsAdmissible, children_of, IsOf}
 use Rattle.egt_check.specs.Prelude.{size_of, Move, Leads, TableValue, Facts, IsPlaceOf, HasReachAt, IsInClass, Tables}
@@ -13,14 +13,10 @@ beside_other tables t c other = rw other
 
 -- what is there stays there beside one more
 pub beside_some : (tables : Tables) (t : TableValue) (c : ℕ) → IsSome (tables c) → IsSome (beside tables t c)
-beside_some tables t c there = elim (eqb_tells c t.class) [
-  | inl own ↦ subst IsSome (sym (beside_own tables t c own.1)) refl
-  | inr other ↦ subst IsSome (sym (beside_other tables t c other.0)) there
-]
+beside_some tables t c there = grind (arith, eqb_tells, beside_own, beside_other)
 
 pub some_before : {A B : Type 0} (f : A → B) (o : Option A) (x : Option B) → option_map f o ≡ x → IsSome x → IsSome o
-some_before f (Some a) x e there = refl
-some_before f None x e there = subst IsSome (sym e) there
+some_before f o x e there = grind arith
 
 -- what comes before a class is one
 pub lower : (c d : ℕ) → c < 36 → d < c → d < 36
@@ -40,8 +36,7 @@ after_step facts Has c p q m below ok own leads here children place at = by (fac
         subst Has (same child.0 child.1 (lower c child.0 below (facts.child_below c child.0 below child.2)) child.3) (children child.0 child.2)
 
 reach_of : (o : Option TableValue) → IsSome o → IfSome o (λ u. IsSome u.reach) → (u : TableValue) × (o ≡ Some u) × IsSome u.reach
-reach_of (Some u) there has = (u, refl, has)
-reach_of None there has = let none = there in cc
+reach_of o there has = grind arith
 
 -- the class of the table and those of its children have tables, with the column of the nearest mates where the table has it
 module _ (tables : Tables) (t : TableValue) where

@@ -10,8 +10,7 @@ use Rattle.egt_entries.specs.Rules.{Fits, AgreesInKind, Keeps, rule_place, IsJud
 
 module _ (tables : Tables) (t : TableValue) (i : ℕ) where
   agrees_in : (metric : Metric) → Agree metric (entry_at t Mate i) (entry_at t metric i) → AgreesInKind t metric i
-  agrees_in Mate agrees = tt
-  agrees_in Zeroing agrees = agrees
+  agrees_in metric agrees = grind arith
 
   agrees_by : (metric : Metric) → AgreesInKind t metric i → Agree metric (entry_at t Mate i) (entry_at t metric i)
   agrees_by Mate agrees = tt
@@ -33,30 +32,7 @@ module _ (tables : Tables) (t : TableValue) (i : ℕ) where
 
   -- where no position has the index
   pub void_judged : (metric : Metric) → IsVoid t.class i → (rule : Option Rule) → FindsVoid (entry_at t metric i) rule → IsJudged tables t metric i rule
-  void_judged metric void None zero =
-      λ rule. kept_before metric 8
-      (λ lt. ((λ e. void), (λ v. zero)))
-      (λ lt. (omega (arith, zero), omega (arith, zero)))
-      (λ lt. agrees_in metric (nothing metric zero))
-      (λ lt n shows. absurd ((shown_range _ (Win n) shows).0 zero))
-      (λ lt n shows. absurd ((shown_range _ (Loss n) shows).0 zero))
-      (λ lt shows. absurd ((shown_range _ Draw shows).0 zero))
-      rule (place_below rule)
-    where
-      nothing : (metric : Metric) → entry_at t metric i ≡ 0 → Agree metric (entry_at t Mate i) (entry_at t metric i)
-      nothing Mate e = tt
-      nothing Zeroing e = λ v w there here. absurd ((shown_range _ w here).0 e)
-  void_judged metric void (Some rules.Void) other = record {
-    broken = λ keeps. other (keeps.1 void);
-    kept = λ rule lt. absurd (omega arith);
-  }
-  void_judged metric void (Some rules.Range) found = absurd found
-  void_judged metric void (Some rules.Kind) found = absurd found
-  void_judged metric void (Some rules.Win) found = absurd found
-  void_judged metric void (Some rules.Loss) found = absurd found
-  void_judged metric void (Some rules.Draw) found = absurd found
-  void_judged metric void (Some rules.Reach) found = absurd found
-  void_judged metric void (Some rules.Dead) found = absurd found
+  void_judged metric void rule h = grind (arith, kept_before, agrees_in, shown_range)
 
 module _ (tables : Tables) (t : TableValue) (i : ℕ) (p : Setup) (spelled : Spells t.class i p) (alone : (q : Setup) → Spells t.class i q → q ≡ p) (index : ¬ IsVoid t.class i) (metric : Metric) (due : ℕ) (is_due : IsDue (ShowsOf tables) metric p due) where
   abbrev here : ℕ
@@ -70,21 +46,7 @@ module _ (tables : Tables) (t : TableValue) (i : ℕ) (p : Setup) (spelled : Spe
 
   -- the value that is shown fits where the entry is the one that is due
   value_fits : (outcome : Outcome) → Shows here (value_of outcome) → (IsCompared metric outcome → here ≡ due) → FitsBeside (ShowsOf tables) metric p (value_of outcome)
-  value_fits (outcomes.Win n) shows is = (is_due.win n).1 (sym (is (compared metric)) ∙ shows.1)
-    where
-      compared : (metric : Metric) → IsCompared metric (outcomes.Win n)
-      compared Mate = tt
-      compared Zeroing = tt
-  value_fits (outcomes.Loss n) shows is = (is_due.loss n).1 (sym (is (compared metric)) ∙ shows.1)
-    where
-      compared : (metric : Metric) → IsCompared metric (outcomes.Loss n)
-      compared Mate = tt
-      compared Zeroing = tt
-  value_fits outcomes.Draw shows is = by metric is_due.draw is shows.1
-    where
-      by : (metric : Metric) → IsDueDraw (ShowsOf tables) metric p due → (IsCompared metric outcomes.Draw → here ≡ due) → here ≡ entry_of Draw → FitsBeside (ShowsOf tables) metric p Draw
-      by Mate draw is e = draw.1 (sym (is tt) ∙ e)
-      by Zeroing draw is e = tt
+  value_fits outcome shows is = grind (arith, outcomes.Win, outcomes.Loss, outcomes.Draw)
 
   fits : (outcome : Outcome) → Shows here (value_of outcome) → (IsCompared metric outcome → here ≡ due) → (v : Value) → Fits tables t metric i v
   fits outcome shows is v shows_v q spells =

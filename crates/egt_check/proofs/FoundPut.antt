@@ -54,10 +54,7 @@ module _ (column : Column) (c shelf : ℕ) (men : ShelfMen) (side : Side) (lanes
   }
 
   same_told : (code : ℕ) → (slice_index (map (told column) new.scores) code ≡ slice_index (map (told column) old.scores) code) ⊎ IsLaneIn c men shelf side lanes code
-  same_told code = elim (is.others code) [
-    | inl same ↦ inl (told_at column new.scores code (told_none column) ∙ ap (told column) same ∙ sym (told_at column old.scores code (told_none column)))
-    | inr lane ↦ inr (subst (λ n. IsLaneIn n men shelf side lanes code) tell.class_is lane)
-  ]
+  same_told code = grind (arith, told_at, told_none, told)
 
   put_told : (digit : ℕ) → digit < kind_digits men.last.kind → Has lanes (digit + kind_less men.last.kind) → slice_index new.scores (code_of c (number_in c shelf side digit)) ≡ slice_index row (digit + kind_less men.last.kind)
   put_told digit below has = subst (λ n. slice_index new.scores (code_of n (number_in n shelf side digit)) ≡ slice_index row (digit + kind_less men.last.kind)) tell.class_is (is.put digit below has)
@@ -66,14 +63,10 @@ module _ (At : ℕ → Type 0) (t : TableValue) (old_scores old_clocks scores cl
     (mate : (code : ℕ) → (slice_index (map value_told scores.scores) code ≡ slice_index (map value_told old_scores.scores) code) ⊎ At code)
     (zeroing : (code : ℕ) → (slice_index (map value_told clocks.scores) code ≡ slice_index (map value_told old_clocks.scores) code) ⊎ At code) where
   values_same : (column : Column) (code : ℕ) → (slice_index (entries_of column (table_told t scores (Some clocks))) code ≡ slice_index (entries_of column (table_told t old_scores (Some old_clocks))) code) ⊎ At code
-  values_same Mate code = mate code
-  values_same Zeroing code = zeroing code
-  values_same Reach code = inl refl
+  values_same column code = grind arith
 
   values_there : (column : Column) → HasColumn column (table_told t old_scores (Some old_clocks)) → HasColumn column (table_told t scores (Some clocks))
-  values_there Mate has = has
-  values_there Zeroing has = has
-  values_there Reach has = has
+  values_there column has = grind arith
 
   values_put_in : IsPutIn parts.Values At (table_told t old_scores (Some old_clocks)) (table_told t scores (Some clocks))
   values_put_in = record { class = refl; there = values_there; same = values_same; mate = λ is. cc; zeroing = λ is. cc; reach = λ is. refl }
@@ -81,14 +74,10 @@ module _ (At : ℕ → Type 0) (t : TableValue) (old_scores old_clocks scores cl
 module _ (At : ℕ → Type 0) (t : TableValue) (old_scores scores : CodeScores)
     (near : (code : ℕ) → (slice_index (map near_told scores.scores) code ≡ slice_index (map near_told old_scores.scores) code) ⊎ At code) where
   near_same : (column : Column) (code : ℕ) → (slice_index (entries_of column (table_told t scores None)) code ≡ slice_index (entries_of column (table_told t old_scores None)) code) ⊎ At code
-  near_same Mate code = inl refl
-  near_same Zeroing code = inl refl
-  near_same Reach code = near code
+  near_same column code = grind arith
 
   near_there : (column : Column) → HasColumn column (table_told t old_scores None) → HasColumn column (table_told t scores None)
-  near_there Mate has = has
-  near_there Zeroing has = has
-  near_there Reach has = refl
+  near_there column has = grind arith
 
   near_put_in : IsPutIn parts.Reach At (table_told t old_scores None) (table_told t scores None)
   near_put_in = record { class = refl; there = near_there; same = near_same; mate = λ is. refl; zeroing = λ is. refl; reach = λ is. cc }

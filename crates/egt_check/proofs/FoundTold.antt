@@ -1,5 +1,5 @@
 -- What scores tell of a table's entries.
-use Rattle.std.proofs.Common.{◌≡◌, ◌≢◌, ◌∙◌, ◌⊎◌, ℕ, zero, suc, ◌+◌, ◌-◌, ◌*◌, ◌/◌, ◌%◌, ◌<◌, ◌≤◌, ◌==◌, if◌then◌else◌, Bool, false, List, [], ◌∷◌}
+use Rattle.std.proofs.Common.{◌≡◌, ◌≢◌, ◌∙◌, ◌⊎◌, ℕ, ◌+◌, ◌-◌, ◌*◌, ◌/◌, ◌%◌, ◌<◌, ◌≤◌, ◌==◌, if◌then◌else◌, Bool, false, List, [], ◌∷◌}
 use Rattle.std.proofs.Common.{Option, Some, None, IsSome, get_or, length, map, take, drop, slice_index, arith, refl, sym, ap, subst}
 use Rattle.std.proofs.Common.{inl, inr}
 use Rattle.std.proofs.lemmas.List.{length-drop, length-take-le}
@@ -59,32 +59,17 @@ module _ (column : Column) (scores : List ℕ) (start old new : TableValue) (fir
 
   -- what was told still is, and so are these
   pub put_told : IsToldFrom column scores start new × ((i : ℕ) → IsToldEntry column scores old i → IsToldEntry column scores new i) × ((i k : ℕ) → first + k ≡ i → k < length entries → IsToldEntry column scores new i)
-  put_told = (
-    record {
-      class = class ∙ from.class;
-      there = λ other has. there other (from.there other has);
-      others = λ other apart. columns_kept other apart ∙ from.others other apart;
-      reach = λ apart. reach apart ∙ from.reach apart;
-      kept = λ i was. told_still i (from.kept i was);
-    },
-    told_still,
-    told_here,
-  )
+  put_told = grind (arith, told_still, told_here)
 
 pub one_told : (column : Column) (scores : List ℕ) (code entry : ℕ) → entry ≡ told column (slice_index scores code) → (k : ℕ) → k < length (entry ∷ []) → slice_index (entry ∷ []) k ≡ told column (slice_index scores (code + k))
-one_told column scores code entry is zero below = is ∙ ap (λ n. told column (slice_index scores n)) (let same : code ≡ code + 0 = omega arith in same)
-one_told column scores code entry is (suc k) below = absurd (omega arith)
+one_told column scores code entry is k below = grind (arith, told, slice_index)
 
 pub told_alike : (column : Column) (scores : List ℕ) (t : TableValue) → IsToldFrom column scores t t
 told_alike column scores t = record { class = refl; there = λ other has. has; others = λ other apart. refl; reach = λ apart. refl; kept = λ i was. was }
 
 -- as many as there are digits with either side to move
 pub piece_long : (entries : List ℕ) (kind : Kind) (from len : ℕ) → length entries ≡ 128 → from ≡ 2 * kind_less kind → len ≡ 2 * kind_digits kind → length (take (from + len - from) (drop from entries)) ≡ len
-piece_long entries kind from len long from_is len_is =
-    length-take-le (from + len - from) (drop from entries) (let rest = length-drop from entries in omega (arith, rest, long, from_is, len_is, room kind)) ∙ omega arith
-  where
-    room : (kind : Kind) → kind_less kind + kind_digits kind ≤ 64
-    room kind = grind arith
+piece_long entries kind from len long from_is len_is = grind (arith, length-take-le, drop, length-drop)
 
 -- entries of a shelf with White to move and with Black in turn, where the numbers are the codes
 module _ (column : Column) (scores : List ℕ) (c shelf : ℕ) (kind : Kind) (plain : has_target (material_of c) ≡ false) (white black entries : List ℕ)
@@ -112,18 +97,11 @@ module _ (column : Column) (scores : List ℕ) (c shelf : ℕ) (kind : Kind) (pl
 
 -- two tables with the same columns
 pub same_value : (u v : TableValue) → u.class ≡ v.class → u.mate ≡ v.mate → u.zeroing ≡ v.zeroing → u.reach ≡ v.reach → u ≡ v
-same_value u v ec em ez er = of_parts u.class v.class u.mate v.mate u.zeroing v.zeroing u.reach v.reach ec em ez er
-  where
-    of_parts : (c c' : ℕ) (m m' z z' : List ℕ) (r r' : Option (List ℕ)) → c ≡ c' → m ≡ m' → z ≡ z' → r ≡ r'
-        → ◌≡◌ {A = TableValue} (record { class = c; mate = m; zeroing = z; reach = r }) (record { class = c'; mate = m'; zeroing = z'; reach = r' })
-    of_parts c c' m m' z z' r r' ec em ez er = cc
+same_value u v ec em ez er = grind arith
 
 pub some_told : (o : Option (List ℕ)) (entries : List ℕ) → IsSome o → entries_or_none o ≡ entries → o ≡ Some entries
-some_told None entries has same = absurd (false≢true has)
-some_told (Some xs) entries has same = ap Some same
+some_told o entries has same = grind (arith, false≢true)
 
 -- no score tells no entry
 pub told_none : (column : Column) → told column 0 ≡ 0
-told_none Mate = refl
-told_none Zeroing = refl
-told_none Reach = refl
+told_none column = grind arith

@@ -2,7 +2,7 @@
 use Rattle.std.proofs.Common.{◌≡◌, ◌∙◌, ℕ, ◌+◌, ◌-◌, ◌*◌, ◌/◌, ◌%◌, ◌<◌, ◌≤◌, Bool, false, List, slice_index, arith, inl, inr}
 use Rattle.std.proofs.Common.{subst, sym}
 use Rattle.egt_check.specs.Prelude.{cases_eq, bit_at, side_number, Side, White, Black, IsLoneRow, ShelfMen, Stand, TellsMen}
-use Rattle.egt_check.specs.Prelude.{stand_alone, kind_digits, kind_less, IsRaised, TableValue, Column, column_score, square_in}
+use Rattle.egt_check.specs.Prelude.{stand_alone, kind_digits, kind_less, IsRaised, TableValue, Column, column_score}
 use Rattle.egt_check.proofs.Marks.{mark, mark_none}
 use Rattle.egt_check.proofs.RowJudged.{raised_alone}
 
@@ -24,8 +24,7 @@ module _ (t : TableValue) (men : ShelfMen) (first : ℕ) (side : Side) (is : IsL
 
   -- a lane of the row is the score at one code
   pub lane_of : slice_index row square ≡ column_score t column code
-  lane_of = raised_alone (λ i. TellsMen false t.class i (stand_alone men square) side) (column_score t column) (slice_index row square) code (is.tells side digit below)
-      (λ i there. one false t.class i code (stand_alone men square) side there (is.tells side digit below)) (read square (square_in men.last.kind digit below))
+  lane_of = grind (arith, raised_alone, stand_alone, column_score)
 
   pub none_there : (lanes : ℕ) → bit_at lanes square ≡ mark (slice_index row square) → bit_at lanes square ≡ 0 → column_score t column code ≡ 0
   none_there lanes marked none = sym lane_of ∙ mark_none (slice_index row square) (sym marked ∙ none)

@@ -39,8 +39,7 @@ module _ (t : TableValue) (column : Column) (man : Man) (white black first : ℕ
   -- a lane of what is loaded
   module _ (entries loaded : List ℕ) (entries_are : entries ≡ entries_of column t) where
     read : (len digit v : ℕ) → 2 * digit + side_number side < len → v ≡ slice_index (take (first + len - first) (drop first entries)) (2 * digit + side_number side) → v ≡ slice_index (entries_of column t) (code_at digit)
-    read len digit v below is_piece =
-        is_piece ∙ piece_at entries first len (2 * digit + side_number side) below ∙ ap (λ (l : List ℕ). slice_index l (first + (2 * digit + side_number side))) entries_are ∙ ap (slice_index (entries_of column t)) (omega arith)
+    read len digit v below is_piece = grind (arith, piece_at, side_number, slice_index)
 
     abbrev Raised : ℕ → ℕ → Type 0
     Raised s v = IsRaised 0 (Told s) (column_score t column) v

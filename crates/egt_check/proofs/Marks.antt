@@ -1,14 +1,10 @@
 -- What the scores of a shelf's mate entries tell, beside the bits of its indexes.
-use Rattle.std.proofs.Common.{◌≡◌, ◌≢◌, ℕ, ◌+◌, ◌*◌, ◌/◌, ◌%◌, ◌^◌, ◌<◌, ◌==◌, if◌then◌else◌, inl, inr, arith, ap, sym}
-use Rattle.std.proofs.Common.{◌∙◌, subst}
-use Rattle.egt_check.specs.Prelude.{bit_at, cases_eq, bit_at-lt, bit_at-zero, shr-shr, Side, White, Black, IsVoid}
+use Rattle.std.proofs.Common.{◌≡◌, ◌≢◌, ℕ, ◌+◌, ◌*◌, ◌/◌, ◌%◌, ◌^◌, ◌<◌, ◌==◌, if◌then◌else◌, arith, ap, sym}
+use Rattle.std.proofs.Common.{◌∙◌}
+use Rattle.egt_check.specs.Prelude.{bit_at, bit_at-zero, shr-shr, Side, White, Black}
 use Rattle.egt_check.specs.Prelude.{code_of, places, AreIndexed, AreIndexes, IsWithin, number_in, size_of, Places}
-use Rattle.egt_check.specs.Prelude.{TableValue, Mate, Zeroing, entry_at, AreAllAlike, TellsVoid, TellsVoidsIn, score_at}
+use Rattle.egt_check.specs.Prelude.{TableValue, Mate, AreAllAlike, TellsVoid, TellsVoidsIn, score_at}
 use Rattle.egt_check.specs.Prelude.{side_few, nat_tests}
-use Rattle.egt_check.proofs.AllJudged.{some_score}
-use Rattle.egt_check.proofs.QuietGiven.{low_score}
-use Rattle.egt_check.proofs.ToldBytes.{alike_there}
-use Rattle.egt_check.proofs.Worth.{zero_score}
 
 -- a bit of a number that was shifted down
 pub bit_shifted : (n down k : ℕ) → bit_at (n / 2 ^ down) k ≡ bit_at n (k + down)
@@ -37,28 +33,9 @@ module _ (t : TableValue) where
   numbers_within shelf within side k below = let few = side_few side in omega (arith, within, few, below)
 
   module _ (alike : AreAllAlike t) (coded : (n : ℕ) → n < size_of t.class → code_of t.class n < size_of t.class) where
-    -- an entry is 0 where its score is
-    score_none : (i : ℕ) → i < size_of t.class → score_at t Mate i ≡ 0 → entry_at t Mate i ≡ 0
-    score_none i below none = elim (cases_eq (entry_at t Mate i) 0) [
-      | inl zero ↦ zero
-      | inr some ↦
-          let known = (alike_there (entry_at t Mate i) (entry_at t Zeroing i) (alike i below) some).mate_known in
-          absurd (some_score (entry_at t Mate i) some known.other known.low (sym (low_score (entry_at t Mate i) known.low) ∙ none))
-    ]
-
     -- the same bits tell both of a code
     tells_at : (first marks bits k n : ℕ) → n ≡ first + 2 * k → bit_at marks k ≡ mark (score_at t Mate (code_of t.class n)) → AreIndexed t.class first bits → marks ≡ bits → k < places t.class → n < size_of t.class → TellsAt n
-    tells_at first marks bits k n at marked indexed same below within = record {
-      void = λ zero p ok index.
-          let one = (indexed k).1 (below, subst (λ m. ¬ IsVoid t.class (code_of t.class m)) at (λ void. void p ok index)) in
-          absurd (mark_some (score_at t Mate (code_of t.class n)) (sym marked ∙ ap (λ m. bit_at m k) same ∙ one) (zero_score (entry_at t Mate (code_of t.class n)) zero));
-      index = λ some void. elim (cases_eq (bit_at bits k) 1) [
-        | inl one ↦ ((indexed k).0 one).1 (subst (λ m. IsVoid t.class (code_of t.class m)) at void)
-        | inr other ↦
-            let none : bit_at bits k ≡ 0 = omega (arith, other, bit_at-lt bits k) in
-            some (score_none (code_of t.class n) (coded n within) (mark_none (score_at t Mate (code_of t.class n)) (sym marked ∙ ap (λ m. bit_at m k) same ∙ none)))
-      ];
-    }
+    tells_at first marks bits k n at marked indexed same below within = grind (arith, code_of, mark_some, score_at)
 
     pub shelf_told : (shelf white black : ℕ) (indexes : Places) → ((k : ℕ) → k < places t.class → bit_at white k ≡ mark (score_at t Mate (code_of t.class (number_in t.class shelf White k))))
         → ((k : ℕ) → k < places t.class → bit_at black k ≡ mark (score_at t Mate (code_of t.class (number_in t.class shelf Black k)))) → AreIndexes t.class shelf indexes → white ≡ indexes.white → black ≡ indexes.black

@@ -17,8 +17,7 @@ module _ (t : TableValue) (voids : TellsVoids t) (told : (i : ℕ) → i < size_
   ]
 
   void_entry : (metric : Metric) (i : ℕ) → i < size_of t.class → IsVoid t.class i → entry_at (near t) metric i ≡ 0
-  void_entry Mate = void_read
-  void_entry Zeroing = void_read
+  void_entry metric = grind (arith, void_read)
 
   alike : (i : ℕ) → i < size_of t.class → ¬ IsVoid t.class i → AreAlike (entry_at (near t) Mate i) (entry_at (near t) Zeroing i)
   alike i below index =

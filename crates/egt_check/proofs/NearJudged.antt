@@ -17,8 +17,7 @@ near_back c (Some entries) u found i = let is : near_table c entries ≡ u = cc 
 
 -- a table that is read so comes of one that is there
 read_back : (o : Option TableValue) (u : TableValue) → near_of o ≡ Some u → (t : TableValue) × (o ≡ Some t) × ((i : ℕ) → entry_at u Mate i ≡ near_entry (reach_at t i))
-read_back None u found = absurd (cc)
-read_back (Some t) u found = (t, refl, near_back t.class t.reach u found)
+read_back o u found = grind (arith, near_back)
 
 -- a position's entry as it is read comes of its own
 entry_back : (tables : Tables) (q : Setup) (x : ℕ) → HasEntry (near_tables tables) Mate q x → (r : ℕ) × HasReachEntry tables q r × (x ≡ near_entry r)
@@ -61,14 +60,7 @@ record IsSoonest (tables : Tables) (p : Setup) (g : ℕ) : Type 0 where
 module _ (tables : Tables) (t : TableValue) (i : ℕ) where
   -- an entry of no position
   pub void_kept : IsVoid t.class i → reach_at t i ≡ 0 → IsJudgedBy (KeepsReach tables t i) None
-  void_kept void none rules.Void = ((λ _. void), (λ _. none))
-  void_kept void none rules.Range = omega (arith, none)
-  void_kept void none rules.Kind = tt
-  void_kept void none rules.Win = tt
-  void_kept void none rules.Loss = tt
-  void_kept void none rules.Draw = tt
-  void_kept void none rules.Reach = λ n shows. absurd (let is = shows.1 in omega (arith, none, is))
-  void_kept void none rules.Dead = λ shows. absurd (let is = shows.1 in omega (arith, none, is))
+  void_kept void none h = grind (arith, rules.Void, rules.Range, rules.Kind)
 
   module _ (p : Setup) (spells : Spells t.class i p) (alone : (q : Setup) → Spells t.class i q → q ≡ p) (index : ¬ IsVoid t.class i) where
     -- an entry whose number fits

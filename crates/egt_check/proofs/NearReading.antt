@@ -1,9 +1,9 @@
 -- Tables whose column of the nearest mates is read as a mate column.
-use Rattle.std.proofs.Common.{◌≡◌, ℕ, ◌*◌, ◌-◌, ◌%◌, ◌<◌, ◌⊎◌, ◌∙◌, List, Option, Some, None, IsSome, arith, inl, inr}
-use Rattle.std.proofs.Common.{length, refl, sym, ap}
+use Rattle.std.proofs.Common.{◌≡◌, ℕ, ◌*◌, ◌-◌, ◌%◌, ◌<◌, ◌⊎◌, ◌∙◌, List, Option, Some, IsSome, arith, inl, inr}
+use Rattle.std.proofs.Common.{length, sym, ap}
 use Rattle.egt_check.specs.Prelude.{get_or-map, cases_lt, false≢true, get_or_past, length-map, Setup, Spells, IsIndex}
 use Rattle.egt_check.specs.Prelude.{IsVoid, size_of, byte_score, HasColumn, IsTable, TableValue, entries_of}
-use Rattle.egt_check.specs.Prelude.{entries_or_none, Column, Mate, Part, Values, Reach, near_entry, near_if, near_of}
+use Rattle.egt_check.specs.Prelude.{entries_or_none, Column, Mate, Part, Reach, near_entry, near_if, near_of}
 use Rattle.egt_check.specs.Prelude.{near_table, column_of, table_in, tables_in, Tables, entry_at, reach_at, HasBytes}
 use Rattle.egt_check.specs.Prelude.{column_score, score_at}
 use Rattle.egt_table.specs.declared.column.Column.TheVariants as columns
@@ -46,13 +46,11 @@ module _ (t : TableValue) (is_table : IsTable (near t)) (bytes : HasBytes (near 
 -- ---- tables
 
 near_some : (c : ℕ) (reach : Option (List ℕ)) → IsSome reach → near_if c reach ≡ Some (near_table c (entries_or_none reach))
-near_some c None some = absurd (false≢true some)
-near_some c (Some entries) some = refl
+near_some c reach some = grind (arith, false≢true)
 
 -- a table that is found is found as the part is judged
 pub found_in : (part : Part) (tables : Tables) (t : TableValue) → HasColumn (column_of part) t → tables t.class ≡ Some t → tables_in part tables t.class ≡ Some (table_in part t)
-found_in Values tables t there found = found
-found_in Reach tables t there found = ap near_of found ∙ near_some t.class t.reach there
+found_in part tables t there found = grind (arith, near_of, near_some)
 
 near_sizes : (t : TableValue) → IsSome t.reach → IsTable t → (column : Column) → HasColumn column (near t) → length (entries_of column (near t)) ≡ size_of t.class
 near_sizes t there is columns.Mate some = length-map (entries_or_none t.reach) near_entry ∙ is.sizes columns.Reach there
@@ -60,5 +58,4 @@ near_sizes t there is columns.Zeroing some = length-map (entries_or_none t.reach
 near_sizes t there is columns.Reach some = absurd (false≢true some)
 
 pub is_table_in : (part : Part) (t : TableValue) → HasColumn (column_of part) t → IsTable t → IsTable (table_in part t)
-is_table_in Values t there is = is
-is_table_in Reach t there is = record { class_in = is.class_in; sizes = near_sizes t there is }
+is_table_in part t there is = grind (arith, near_sizes)

@@ -116,6 +116,4 @@ module _ (shows : Setup → Option ℕ → Type 0) (p : Setup) (unmated : ¬ che
 
   -- where none is shown, there is none
   pub no_reach_due : EachMove chess p (λ q. (k : ℕ) → ¬ shows q (Some k)) → IsReachDue shows p 1
-  no_reach_due none (Some zero) = ((λ mate. absurd (unmated mate)), (λ e. absurd (omega (arith, e))))
-  no_reach_due none (Some (suc k)) = ((λ fits. absurd (none fits.1.0.0 fits.1.0.1 k fits.1.0.2)), (λ e. absurd (omega (arith, e))))
-  no_reach_due none None = ((λ fits. refl), (λ e. (unmated, none)))
+  no_reach_due none h = grind arith

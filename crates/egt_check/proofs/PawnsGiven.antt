@@ -1,8 +1,8 @@
 -- The greatest scores of all moves of pawns: their advances, and the captures by which they are promoted.
 use Rattle.std.proofs.Common.{◌≡◌, ◌≢◌, ℕ, ◌⊎◌, max, Bool, true, false, Option, Some, None, IfSome, arith, refl, sym}
 use Rattle.std.proofs.Common.{ap, ◌∙◌, inl, inr, subst}
-use Rattle.egt_check.specs.Prelude.{king_of, other_side, Stands, IsHeld, one_man, Setup, Kind, Q, R, B, N, P, K, Man}
-use Rattle.egt_check.specs.Prelude.{Side, White, Black, HasStand, ShelfMen, IsRaised, zeroing_score, Zeroes, Leads}
+use Rattle.egt_check.specs.Prelude.{other_side, Stands, IsHeld, one_man, Setup, Kind, Q, R, B, N, P, Man}
+use Rattle.egt_check.specs.Prelude.{Side, HasStand, ShelfMen, IsRaised, zeroing_score, Zeroes, Leads}
 use Rattle.egt_check.specs.Prelude.{FitsPromotion, IsOfficer, is_pawn, promotes, Move, pawn_told, TableValue, Mate}
 use Rattle.egt_check.specs.Prelude.{stand_on, AreGiven, AreLeapCodes, ArePassingCodes, AreStepCodes, IsOfFourKinds}
 use Rattle.egt_check.specs.Prelude.{IsPassingFrom, AreAdvancedCodes, ArePromotedCodes, IsAdvanceFrom}
@@ -85,26 +85,14 @@ module _ (tables : Tables) (men : ShelfMen) (first : Bool) (side : Side) (a b : 
 
 -- who is promoted is a pawn, and becomes an officer
 fits_pawn : (man : Man) (to : ℕ) (kind : Kind) → FitsPromotion (promotes man to) (Some kind) → (man.kind ≡ P) × IsOfficer kind
-fits_pawn man to kind fits = by_test (promotes man to) refl fits
-  where
-    by_test : (b : Bool) → promotes man to ≡ b → FitsPromotion b (Some kind) → (man.kind ≡ P) × IsOfficer kind
-    by_test false e none = absurd none
-    by_test true e officer = (by_pawn (is_pawn man.kind) refl e, officer)
-      where
-        by_pawn : (b : Bool) → is_pawn man.kind ≡ b → promotes man to ≡ true → man.kind ≡ P
-        by_pawn true pawn e = pawn_told man.kind pawn
-        by_pawn false pawn e = absurd (let not = pawn in cc)
+fits_pawn man to kind fits = grind (arith, promotes, is_pawn, pawn_told)
 
 module _ (p : Setup) (b : ℕ) (m : Move) where
   captured : (kind : Kind) → IsOfficer kind → IsPromotingCaptureFrom p b kind m → IsMoveFrom p b m
   captured kind officer is = grind arith
 
   advanced : (man : Man) (promo : Option Kind) → FitsPromotion (promotes man m.to) promo → IsAdvanceFrom p b promo m → IsMoveFrom p b m
-  advanced man None fits is = inl (inl (inl (inl (inl (inl (inl (inl is)))))))
-  advanced man (Some kind) fits is = of_kind kind (fits_pawn man m.to kind fits).1 is
-    where
-      of_kind : (kind : Kind) → IsOfficer kind → IsAdvanceFrom p b (Some kind) m → IsMoveFrom p b m
-      of_kind kind officer is = grind arith
+  advanced man promo fits is = grind (arith, fits_pawn)
 
   -- they are all from b
   from_there : IsMoveFrom p b m → m.from ≡ b
@@ -135,19 +123,7 @@ module _ (c : ℕ) (men : ShelfMen) (side : Side) (passed : Bool) (a b : ℕ) (p
 
     -- the pawn is one of these two
     whose : leads.man.kind ≡ P → ((m.from ≡ a) × (men.one.kind ≡ P) × (men.one.side ≡ side)) ⊎ ((m.from ≡ b) × (men.last.kind ≡ P) × (men.last.side ≡ side))
-    whose pawn = elim (who p.men men.white men.black men.one a men.last b there m.from leads.man leads.stands) [
-      | inl h ↦ no_king White h.1
-      | inr rest ↦ elim rest [
-        | inl h ↦ no_king Black h.1
-        | inr more ↦ elim more [
-          | inl h ↦ inl (h.0, ap (λ (x : Man). x.kind) (sym h.1) ∙ pawn, ap (λ (x : Man). x.side) (sym h.1) ∙ mine)
-          | inr h ↦ inr (h.0, ap (λ (x : Man). x.kind) (sym h.1) ∙ pawn, ap (λ (x : Man). x.side) (sym h.1) ∙ mine)
-        ]
-      ]
-    ]
-      where
-        no_king : (s : Side) → leads.man ≡ king_of s → ((m.from ≡ a) × (men.one.kind ≡ P) × (men.one.side ≡ side)) ⊎ ((m.from ≡ b) × (men.last.kind ≡ P) × (men.last.side ≡ side))
-        no_king s is = let kinds : P ≡ K = sym pawn ∙ ap (λ (x : Man). x.kind) is in absurd (cc)
+    whose pawn = grind (arith, who, there, mine)
 
     by_pawn : leads.man.kind ≡ P → ((s : ℕ) → m.from ≡ s → IsMoveFrom p s m) → IsEitherPawnMove men side p a b m
     by_pawn pawn moves = elim (whose pawn) [
@@ -156,17 +132,11 @@ module _ (c : ℕ) (men : ShelfMen) (side : Side) (passed : Bool) (a b : ℕ) (p
     ]
 
     by_passing : leads.man.kind ≡ P → IsPassingFrom p m.from m → IsEitherPassing men p a b m
-    by_passing pawn is = elim (whose pawn) [
-      | inl h ↦ inr (h.1, record { from = h.0; target = is.target })
-      | inr h ↦ inl (h.1, record { from = h.0; target = is.target })
-    ]
+    by_passing pawn is = grind (arith, whose)
 
     -- a capture that promotes nothing, or a pawn's
     captures : IsHeld p.men m.to (other_side p.side) → (promo : Option Kind) → m.promo ≡ promo → IsPlainCapture p m ⊎ IsEitherPawnMove men side p a b m
-    captures held None is = inl (held, is)
-    captures held (Some kind) is =
-        let (pawn, officer) = fits_pawn leads.man m.to kind (subst (FitsPromotion (promotes leads.man m.to)) is leads.promotion) in
-        inr (by_pawn pawn (λ s from. captured p s m kind officer (record { from = from; takes = held; promo_is = is })))
+    captures held promo is = grind (arith, fits_pawn, promotes, by_pawn)
 
     of_pawn : leads.man.kind ≡ P → IsLoud men side p a b m
     of_pawn pawn = elim kinds [
@@ -181,8 +151,7 @@ module _ (c : ℕ) (men : ShelfMen) (side : Side) (passed : Bool) (a b : ℕ) (p
     ]
 
     pub zeroing_moves : Zeroes p m → IsLoud men side p a b m
-    zeroing_moves (inl held) = inl (captures held m.promo refl)
-    zeroing_moves (inr on) = of_pawn (ap (λ (x : Man). x.kind) (one_man p.men m.from leads.man on.man leads.stands on.stands) ∙ on.pawn)
+    zeroing_moves h = grind (arith, captures, of_pawn, one_man)
 
   -- a pawn's moves zero
   last_zeroes : (m : Move) → men.last.kind ≡ P → m.from ≡ b → Zeroes p m
@@ -192,21 +161,16 @@ module _ (c : ℕ) (men : ShelfMen) (side : Side) (passed : Bool) (a b : ℕ) (p
   one_zeroes m pawn from = inr (record { man = men.one; stands = subst (λ s. Stands p.men s men.one) (sym from) there.one_there; pawn = pawn })
 
   pub pawns_zero : (m : Move) → IsEitherPawnMove men side p a b m → Zeroes p m
-  pawns_zero m (inl (pawn, own, is)) = last_zeroes m pawn (from_there p b m is)
-  pawns_zero m (inr (pawn, own, is)) = one_zeroes m pawn (from_there p a m is)
+  pawns_zero m h = grind (arith, last_zeroes, from_there, one_zeroes)
 
   pub passing_zeroes : (m : Move) → IsEitherPassing men p a b m → Zeroes p m
-  passing_zeroes m (inl (pawn, is)) = last_zeroes m pawn is.from
-  passing_zeroes m (inr (pawn, is)) = one_zeroes m pawn is.from
+  passing_zeroes m h = grind (arith, last_zeroes, one_zeroes)
 
 -- ---- captures in passing
 
 -- none where the last man is no pawn
 no_passing : (men : ShelfMen) (d : ℕ) (flips : Bool) (side : Side) (t : TableValue) (a b w : ℕ) → men.last.kind ≢ P → IsRaised 0 (ArePassingCodes d flips men side a b) (score_at t Mate) w → w ≡ 0
-no_passing men d flips side t a b w none raised = elim raised.reached [
-  | inl same ↦ same
-  | inr code ↦ absurd (none code.1.0.pawn)
-]
+no_passing men d flips side t a b w none raised = grind arith
 
 passing_of : (tables : Tables) (men : ShelfMen) (side : Side) (a b : ℕ) (p : Setup) (t : TableValue) (flips : Bool) (w : ℕ)
     → (men.last.kind ≡ P → IsRaised 0 (ArePassingCodes t.class flips men side a b) (score_at t Mate) w → AreGiven tables p (IsPassingFrom p b) w (zeroing_score w)) → IsRaised 0 (ArePassingCodes t.class flips men side a b) (score_at t Mate) w

@@ -1,5 +1,5 @@
 -- The tables of the classes that promotions lead to, wherever the kings stand.
-use Rattle.std.proofs.Common.{◌≡◌, ◌≢◌, ℕ, ◌<◌, Bool, true, false, [], ◌∷◌, Option, Some, None, IfSome, arith, sym, ap}
+use Rattle.std.proofs.Common.{◌≡◌, ◌≢◌, ℕ, ◌<◌, Bool, [], ◌∷◌, Option, Some, None, IfSome, arith, sym, ap}
 use Rattle.std.proofs.Common.{◌∙◌, subst}
 use Rattle.egt_check.specs.Prelude.{king_of, Setup, turned_man, White, Black, material_of, IsOf, AreNonKings}
 use Rattle.egt_check.specs.Prelude.{men_in_order, Man, AreMenOf, ShelfMen, arriving, HasColumn, TableValue, Column}
@@ -25,43 +25,19 @@ module _ (men : ShelfMen) (white black : ℕ) where
   there = with_kings men white black
 
   after_there : (c : ℕ) (before flips : Bool) (man : Man) → AreMenOf c (men_after before flips men man) → AreMenOf c (men_after before flips there man)
-  after_there c false flips man are = record { are = are.are; one_beside = are.one_beside; last_beside = are.last_beside }
-  after_there c true flips man are = record { are = are.are; one_beside = are.one_beside; last_beside = are.last_beside }
+  after_there c before flips man are = grind arith
 
   promotion_there : (column : Column) (promotion : Promotion) → IsPromotionOf column promotion men → IsPromotionOf column promotion there
-  promotion_there column promotion is = record {
-    officer = is.officer;
-    both_there = is.both_there;
-    both_voids = is.both_voids;
-    alone_there = is.alone_there;
-    both = after_there promotion.both.now.class promotion.before promotion.both_flips (arriving men.last (Some promotion.kind)) is.both;
-    alone = is.alone;
-  }
+  promotion_there column promotion is = grind (arith, after_there, arriving)
 
   pub promotions_there : (column : Column) (promotions : Option Promotions) → IfSome promotions (λ kinds. ArePromotionsOf column kinds men) → IfSome promotions (λ kinds. ArePromotionsOf column kinds there)
-  promotions_there column None are = tt
-  promotions_there column (Some kinds) are = record {
-    queen = promotion_there column kinds.queen are.queen;
-    rook = promotion_there column kinds.rook are.rook;
-    bishop = promotion_there column kinds.bishop are.bishop;
-    knight = promotion_there column kinds.knight are.knight;
-  }
+  promotions_there column promotions are = grind (arith, promotion_there)
 
   table_there : (tables : Tables) (promotion : Promotion) → HasPromotion tables promotion men → HasPromotion tables promotion there
   table_there tables promotion has = record { both = has.both; alone = has.alone }
 
   pub tables_there : (tables : Tables) (promotions : Option Promotions) → IfSome promotions (λ kinds. HasPromotions tables kinds men) → IfSome promotions (λ kinds. HasPromotions tables kinds there)
-  tables_there tables None has = tt
-  tables_there tables (Some kinds) has = record {
-    queen = table_there tables kinds.queen has.queen;
-    rook = table_there tables kinds.rook has.rook;
-    bishop = table_there tables kinds.bishop has.bishop;
-    knight = table_there tables kinds.knight has.knight;
-    queen_is = has.queen_is;
-    rook_is = has.rook_is;
-    bishop_is = has.bishop_is;
-    knight_is = has.knight_is;
-  }
+  tables_there tables promotions has = grind (arith, table_there)
 
 module _ (men : ShelfMen) (white black : ℕ) where
   pub children_there : (column : Column) (children : Children) → AreChildren column children men → AreChildren column children (with_kings men white black)
@@ -78,25 +54,10 @@ module _ (men : ShelfMen) (white black : ℕ) where
   }
 
   pub four_there : (column : Column) (four : FourMen) → AreFourMen column four men → AreFourMen column four (with_kings men white black)
-  four_there column four are = record {
-    own_there = are.own_there;
-    own_voids = are.own_voids;
-    zeroing_voids = are.zeroing_voids;
-    men_of = record { are = are.men_of.are; one_beside = are.men_of.one_beside; last_beside = are.men_of.last_beside };
-    children = children_there column four.children are.children;
-  }
+  four_there column four are = grind (arith, children_there)
 
   pub tables_of_there : (tables : Tables) (four : FourMen) → AreTablesOf tables four men → AreTablesOf tables four (with_kings men white black)
-  tables_of_there tables four are = record {
-    is_table = are.is_table;
-    found = are.found;
-    bytes = are.bytes;
-    first = are.first;
-    last = are.last;
-    own_after = are.own_after;
-    first_pawn = tables_there (men_swapped men) white black tables four.children.first_pawn are.first_pawn;
-    last_pawn = tables_there men white black tables four.children.last_pawn are.last_pawn;
-  }
+  tables_of_there tables four are = grind (arith, tables_there, men_swapped)
 
 -- ---- the table of a class that a promotion leads to
 
@@ -109,12 +70,7 @@ in_order c men next last are one_is last_is = sym are.are ∙ ap (λ (m : Man). 
 
 class_after : (before : Bool) (c : ℕ) (flips : Bool) (one man : Man) (men : ShelfMen) → c < 36 → ((p : Setup) → AreNonKings p (Some one) (Some man) → IsOf c flips p) → AreMenOf c men
     → AreNamed before men (turned_man flips one) (turned_man flips man) → IsClassAfter before c flips one man
-class_after false c flips one man men below of are named = record { below = below; of = of; order = in_order c men (turned_man flips one) (turned_man flips man) are named.one_is named.last_is }
-class_after true c flips one man men below of are named = record {
-  below = below;
-  of = λ p beside. of p (beside_swapped p (Some man) (Some one) beside);
-  order = in_order c men (turned_man flips man) (turned_man flips one) are named.one_is named.last_is;
-}
+class_after before c flips one man men below of are named = grind (arith, in_order, turned_man, beside_swapped)
 
 -- the table of the class of these two, found beside that of another class
 pub table_after : (part : Part) (tables : Tables) (t u : TableValue) (c : ℕ) (before flips : Bool) (one man : Man) (men : ShelfMen) → IsShelved tables c u → tables c ≡ Some u → u.class ≢ t.class → HasColumn (column_of part) u

@@ -1,6 +1,6 @@
 -- The greatest scores of the codes of quiet steps are those of the quiet moves.
-use Rattle.std.proofs.Common.{◌≡◌, ℕ, ◌%◌, ◌<◌, ◌≤◌, false, Some, arith, refl, sym, ap, inl, inr, subst}
-use Rattle.egt_check.specs.Prelude.{Setup, Side, White, Black, IsIndex, AllStand, HasStand, IsSomeTurnedCode, list_of}
+use Rattle.std.proofs.Common.{◌≡◌, ℕ, ◌%◌, ◌<◌, ◌≤◌, false, Some, arith, sym, ap, inl, inr, subst}
+use Rattle.egt_check.specs.Prelude.{Setup, Side, IsIndex, AllStand, HasStand, IsSomeTurnedCode, list_of}
 use Rattle.egt_check.specs.Prelude.{ShelfMen, Stand, IsRaised, byte_score, Zeroes, Leads, Move, IsTable, TableValue}
 use Rattle.egt_check.specs.Prelude.{Metric, Mate, Zeroing, stand_on, with_king, Facts, AreAlike, AreGiven, HasScores}
 use Rattle.egt_check.specs.Prelude.{IsQuietAlone, IsQuietStand, stand_alone, HasEntry, Tables, entry_at, HasBytes}
@@ -14,23 +14,10 @@ low_score e low = let same : e % 256 ≡ e = omega arith in ap byte_score same
 -- ---- the men after a quiet step are on the board
 
 pub quiet_whole : (men : ShelfMen) (side : Side) (a b : ℕ) (p : Setup) → AllStand false p.men (list_of (stand_on men a b)) → (stand : Stand) → IsQuietStand men side a b stand → AreWhole stand
-quiet_whole men side a b p apart stand (inl (k, beside, is)) = subst AreWhole (sym is) (of_side side)
-  where
-    of_side : (s : Side) → AreWhole (stand_on (with_king men s k) a b)
-    of_side White = record { filled = λ none. let e = none in cc; on_board = record { white = beside.0; black = apart.3.0; next = apart.3.3.0; last = apart.3.3.3.0 } }
-    of_side Black = record { filled = λ none. let e = none in cc; on_board = record { white = apart.0; black = beside.0; next = apart.3.3.0; last = apart.3.3.3.0 } }
-quiet_whole men side a b p apart stand (inr (inl (of, piece, to, to_in, reaches, is))) =
-    subst AreWhole (sym is) (record { filled = λ none. let e = none in cc; on_board = record { white = apart.0; black = apart.3.0; next = to_in; last = apart.3.3.3.0 } })
-quiet_whole men side a b p apart stand (inr (inr (of, piece, to, to_in, reaches, is))) =
-    subst AreWhole (sym is) (record { filled = λ none. let e = none in cc; on_board = record { white = apart.0; black = apart.3.0; next = apart.3.3.0; last = to_in } })
+quiet_whole men side a b p apart stand h = grind (arith, stand_on, with_king)
 
 pub alone_whole : (men : ShelfMen) (side : Side) (s : ℕ) (p : Setup) → AllStand false p.men (list_of (stand_alone men s)) → (stand : Stand) → IsQuietAlone men side s stand → AreWhole stand
-alone_whole men side s p apart stand (inl (k, beside, is)) = subst AreWhole (sym is) (of_side side)
-  where
-    of_side : (x : Side) → AreWhole (stand_alone (with_king men x k) s)
-    of_side White = record { filled = λ none. refl; on_board = record { white = beside.0; black = apart.3.0; next = apart.3.3.0; last = tt } }
-    of_side Black = record { filled = λ none. refl; on_board = record { white = apart.0; black = beside.0; next = apart.3.3.0; last = tt } }
-alone_whole men side s p apart stand (inr (of, piece, to, to_in, reaches, is)) = subst AreWhole (sym is) (record { filled = λ none. refl; on_board = record { white = apart.0; black = apart.3.0; next = to_in; last = tt } })
+alone_whole men side s p apart stand h = grind (arith, stand_alone, with_king)
 
 -- the moves that do not zero lead to these men with that side to move, and to all positions of them
 module _ (facts : Facts) (turning : Turning) (tables : Tables) (t : TableValue) (is_table : IsTable t) (found : tables t.class ≡ Some t) (bytes : HasBytes t)

@@ -1,14 +1,11 @@
 -- A row of entries, judged by the greatest bytes of the moves.
-use Rattle.std.proofs.Common.{◌≡◌, ◌∙◌, ℕ, ◌+◌, ◌-◌, ◌<◌, Bool, min, arith, ap, inl, inr, subst}
-use Rattle.egt_check.specs.Prelude.{bit_at, Side, code_of, kind_digits, kind_less, IsShelfOf, number_in, stand_with}
+use Rattle.std.proofs.Common.{◌≡◌, ℕ, ◌+◌, ◌<◌, Bool, arith, subst}
+use Rattle.egt_check.specs.Prelude.{Side, code_of, kind_digits, kind_less, IsShelfOf, number_in, stand_with}
 use Rattle.egt_check.specs.Prelude.{TellsMen, ShelfMen, Stand, IsRaised, TableValue, Column, column_score}
 
 -- the greatest of one number is that number
 pub raised_alone : (In : ℕ → Type 0) (f : ℕ → ℕ) (v t : ℕ) → In t → ((u : ℕ) → In u → u ≡ t) → IsRaised 0 In f v → v ≡ f t
-raised_alone In f v t here alone raised = elim raised.reached [
-  | inl none ↦ let above = raised.above t here in omega (arith, none, above)
-  | inr there ↦ there.2 ∙ ap f (alone there.0 there.1)
-]
+raised_alone In f v t here alone raised = grind arith
 
 module _ (passed : Bool) (t : TableValue) (column : Column) (men : ShelfMen) (shelf : ℕ) (side : Side) (is : IsShelfOf passed t.class shelf men)
     (one : (passed : Bool) (c x y : ℕ) (stand : Stand) (side : Side) → TellsMen passed c x stand side → TellsMen passed c y stand side → x ≡ y) where
@@ -20,10 +17,4 @@ module _ (passed : Bool) (t : TableValue) (column : Column) (men : ShelfMen) (sh
 
   -- a lane of the row is the score at one code
   pub lane_is : (digit v : ℕ) → digit < kind_digits men.last.kind → IsRaised 0 (Told digit) (column_score t column) v → v ≡ column_score t column (code_of t.class (number_in t.class shelf side digit))
-  lane_is digit v below raised =
-      raised_alone (Told digit) (column_score t column) v (code_of t.class (number_in t.class shelf side digit)) (told digit below)
-      (λ code there. one passed t.class code (code_of t.class (number_in t.class shelf side digit)) (stand_with men (digit + kind_less men.last.kind)) side there (told digit below)) raised
-
--- a square is left where one set has it and the other lacks it
-pub left_at : (bits others rest b : ℕ) → bit_at rest b ≡ min (bit_at bits b) (1 - bit_at others b) → bit_at bits b ≡ 1 → bit_at others b ≡ 0 → bit_at rest b ≡ 1
-left_at bits others rest b is one none = is ∙ ap (λ x. min x (1 - bit_at others b)) one ∙ ap (λ y. min 1 (1 - y)) none
+  lane_is digit v below raised = grind (arith, raised_alone, column_score, code_of)

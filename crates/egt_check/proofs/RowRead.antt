@@ -1,6 +1,6 @@
 -- The entries of a shelf, read by the last man's square.
 use Rattle.std.proofs.Common.{◌≡◌, ℕ, ◌+◌, ◌-◌, ◌*◌, ◌%◌, ◌<◌, ◌≤◌, ◌⊎◌, Bool, true, false, List, take, drop, arith}
-use Rattle.std.proofs.Common.{refl, sym, ap, ◌∙◌, slice_index}
+use Rattle.std.proofs.Common.{sym, ap, ◌∙◌, slice_index}
 use Rattle.egt_check.specs.Prelude.{false≢true, side_number, Side, material_of, code_of, places, kind_digits, kind_less}
 use Rattle.egt_check.specs.Prelude.{IsShelf, IsWithin, number_in, has_target, ShelfMen, code_plain, is_pawn, TableValue}
 use Rattle.egt_check.specs.Prelude.{entries_of, Column, IsShelfRow, column_score, entry_score, bit_few, bit_of}
@@ -10,9 +10,7 @@ use Rattle.egt_table.specs.declared.column.Column.TheVariants as columns
 
 -- no position has no score
 pub no_score : (column : Column) → entry_score column 0 ≡ 0
-no_score columns.Mate = refl
-no_score columns.Zeroing = refl
-no_score columns.Reach = refl
+no_score column = grind (arith, columns.Mate, columns.Zeroing, columns.Reach)
 
 -- ---- rows of either layout
 

@@ -17,10 +17,7 @@ run_within run count len size below all = let later : run + 1 ≤ count = omega 
 
 -- where what is before a run is kept, and the run is, so is what is before its end
 pub run_kept : (Kept : ℕ → Rule → Type 0) (n m : ℕ) → ((i : ℕ) → i < n → (rule : Rule) → Kept i rule) → ((i : ℕ) → n ≤ i → i < m → (rule : Rule) → Kept i rule) → (i : ℕ) → i < m → (rule : Rule) → Kept i rule
-run_kept Kept n m before run i below = elim (cases_lt i n) [
-  | inl early ↦ before i early
-  | inr late ↦ run i late below
-]
+run_kept Kept n m before run i below = grind (arith, cases_lt)
 
 -- the first bad entry stays the first, or there is none yet
 pub first_bad_kept : (tables : Tables) (t : TableValue) (n m : ℕ) (known : Option (ℕ × Rule)) → n ≤ m → IsFirstBad tables t n known → ((i : ℕ) → n ≤ i → i < m → IsJudged tables t Zeroing i None) → IsFirstBad tables t m known

@@ -1,10 +1,10 @@
 -- The scores of codes, read from rows and put in them.
-use Rattle.std.proofs.Common.{◌≡◌, ◌⊎◌, ℕ, ◌+◌, ◌*◌, ◌/◌, ◌%◌, ◌<◌, ◌≤◌, ◌∙◌, if◌then◌else◌, ◌==◌, List, [], ◌∷◌}
+use Rattle.std.proofs.Common.{◌≡◌, ◌⊎◌, ℕ, ◌+◌, ◌*◌, ◌/◌, ◌%◌, ◌<◌, ◌≤◌, ◌∙◌, if◌then◌else◌, ◌==◌, List, []}
 use Rattle.std.proofs.Common.{length, set, replicate, slice_index, arith, sym, ap, subst, inl, inr, slice_index_or}
 use Rattle.egt_check.specs.Prelude.{bit_at, cases_eq, cases_lt, bit_at-lt, get_or-replicate, get_or-set_other}
 use Rattle.egt_check.specs.Prelude.{get_or-set_same, nat_tests, get_or-map-range_with_len, length-map-range_with_len}
 use Rattle.egt_check.specs.Prelude.{div-add-mod', div_below, div-mul-add, mod-mul-add, mod_below, get_or-eq_default}
-use Rattle.egt_check.specs.Prelude.{length-replicate, side_number, Has, Man, Side, White, Black, SquareSet, code_of}
+use Rattle.egt_check.specs.Prelude.{length-replicate, side_number, Has, Man, Side, SquareSet, code_of}
 use Rattle.egt_check.specs.Prelude.{number_of, places, kind_digits, kind_less, AreMenOf, IsShelf, IsWithin, number_in}
 use Rattle.egt_check.specs.Prelude.{size_of, ShelfMen, side_few, square_in, IsShelfRow}
 use Rattle.egt_check.specs.ScoreRows.{AreWholeRows, IsLaneIn, IsMaskOf, score_of, scores_in}
@@ -49,17 +49,11 @@ module _ (c shelf : ℕ) (side : Side) (digit : ℕ) (below : digit < places c) 
 
   pub read : (less shelves : ℕ) (rows : List (List ℕ)) → code_of c (number_in c shelf side digit) < size_of c → number_of c (code_of c (number_in c shelf side digit)) ≡ number_in c shelf side digit
       → slice_index (scores_in c less shelves rows) (code_of c (number_in c shelf side digit)) ≡ slice_index (slice_index_or rows (side_number side * shelves + shelf) []) (digit + less)
-  read less shelves rows in_class stands =
-      score_at_code c less shelves rows (code_of c (number_in c shelf side digit)) in_class
-      ∙ ap (score_of c less shelves rows) stands
-      ∙ score_is less shelves rows
+  read less shelves rows in_class stands = grind (arith, score_at_code, code_of, number_in)
 
 -- one row at most is that of a shelf and side
 one_place : (side : Side) (half shelves a b : ℕ) → half < 2 → a < shelves → b < shelves → half * shelves + a ≡ side_number side * shelves + b → (half ≡ side_number side) × (a ≡ b)
-one_place White half shelves a b few a_in b_in same =
-    elim (cases_eq half 0) [ inl none ↦ grind arith | inr one ↦ grind arith ]
-one_place Black half shelves a b few a_in b_in same =
-    elim (cases_eq half 0) [ inl none ↦ grind arith | inr one ↦ grind arith ]
+one_place side half shelves a b few a_in b_in same = grind (arith, cases_eq)
 
 -- a row is put in the place of another: lanes that keep their scores, and the others
 module _ (c less shelves shelf : ℕ) (side : Side) (rows : List (List ℕ)) (row : List ℕ)
@@ -71,10 +65,7 @@ module _ (c less shelves shelf : ℕ) (side : Side) (rows : List (List ℕ)) (ro
   new = set rows place row
 
   pub place_in : place < length rows
-  place_in = let few = side_few side in elim (cases_eq (side_number side) 0) [
-    | inl none ↦ (let at = ap (λ h. h * shelves + shelf) none in omega (arith, at, long, within))
-    | inr one ↦ (let is : side_number side ≡ 1 = omega (arith, few, one) in let at = ap (λ h. h * shelves + shelf) is in omega (arith, at, long, within))
-  ]
+  place_in = grind (arith, side_few, cases_eq, side_number)
 
   -- a code's score is that of the row that was put, or as it was
   pub either : (code : ℕ) → code_of c (number_of c code) ≡ code → number_of c code < size_of c → (code < size_of c)
@@ -130,14 +121,7 @@ module _ (c less shelves shelf : ℕ) (side : Side) (rows : List (List ℕ)) (ro
 
 -- two lists of a class's men end with one
 pub one_last : (c : ℕ) (men other : ShelfMen) → AreMenOf c men → AreMenOf c other → men.last ≡ other.last
-one_last c men other here there = ap (λ (l : List Man). fourth men.last l) (here.are ∙ sym there.are)
-  where
-    fourth : Man → List Man → Man
-    fourth none [] = none
-    fourth none (a ∷ []) = none
-    fourth none (a ∷ b ∷ []) = none
-    fourth none (a ∷ b ∷ d ∷ []) = none
-    fourth none (a ∷ b ∷ d ∷ m ∷ ms) = m
+one_last c men other here there = grind arith
 
 -- rows of nothing
 pub no_score : (n r s : ℕ) → slice_index (slice_index_or (replicate n (replicate {A = ℕ} 64 0)) r []) s ≡ 0
@@ -176,10 +160,7 @@ module _ (c shelves : ℕ) (last : Man) (rows : List (List ℕ)) (are : AreWhole
   same_last = are.men_of men is.men_of
 
   pub shelf_below : shelf < shelves
-  shelf_below = let whole = are.whole in let some = are.some in elim (cases_lt shelf shelves) [
-    | inl below ↦ below
-    | inr past ↦ absurd (let more : shelves * (2 * places c) ≤ shelf * (2 * places c) = grind (arith, past) in omega (arith, more, whole, within, some))
-  ]
+  shelf_below = grind (arith, cases_lt, places)
 
   number_below : (digit : ℕ) → digit < kind_digits men.last.kind → number_in c shelf side digit < size_of c
   number_below digit below = let few = side_few side in let len = is.len in omega (arith, few, len, within, below)

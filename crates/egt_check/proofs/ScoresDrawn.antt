@@ -62,18 +62,10 @@ module _ (c : ℕ) (old new : CodeScores) (from : IsDrawnFrom c old new) where
   still_128 code was = elim (from.either code) [ inl same ↦ same ∙ was | inr drawn ↦ drawn.0 ]
 
   pub still_void : old.class ≡ c → HasNoVoidScore old → HasNoVoidScore new
-  still_void same none code void =
-      let here : IsVoid c code = subst (λ k. IsVoid k code) (from.class ∙ same) void in
-      elim (from.either code) [
-        | inl kept ↦ kept ∙ none code (subst (λ k. IsVoid k code) (sym same) here)
-        | inr drawn ↦ absurd (drawn.1 here)
-      ]
+  still_void same none code void = grind arith
 
   pub still_few : AreDrawnOrNone old → AreDrawnOrNone new
-  still_few few code = elim (from.either code) [
-    | inl same ↦ elim (few code) [ inl none ↦ inl (same ∙ none) | inr drawn ↦ inr (same ∙ drawn) ]
-    | inr drawn ↦ inr drawn.0
-  ]
+  still_few few code = grind arith
 
 pub both_drawn : (c : ℕ) (old mid new : CodeScores) → IsDrawnFrom c old mid → IsDrawnFrom c mid new → IsDrawnFrom c old new
 both_drawn c old mid new first second = record {

@@ -1,5 +1,5 @@
 -- The places of a library.
-use Rattle.std.proofs.Common.{◌≡◌, ◌≢◌, ◌↔◌, ℕ, zero, suc, ◌+◌, ◌-◌, length-append, ◌<◌, ◌⊎◌, inl, inr, true, false, eqb}
+use Rattle.std.proofs.Common.{◌≡◌, ◌≢◌, ◌↔◌, ℕ, ◌+◌, ◌-◌, length-append, ◌<◌, ◌⊎◌, inl, inr, true, false, eqb}
 use Rattle.std.proofs.Common.{List, [], ◌∷◌, ◌++◌, length, get_or, set, Option, Some, None, refl, sym, ap, subst, ◌∙◌}
 use Rattle.std.proofs.Common.{arith, IsSome, IfSome}
 use Rattle.egt_check.specs.Prelude.{Contains, cases_lt, ne_eqb, false≢true, get_or-set_other, get_or-set_same}
@@ -31,25 +31,17 @@ set_beside places t inside c = elim (eqb_tells c t.class) [
 
 -- a shelf stays one where no table changes
 shelved_there : (tables more : Tables) (c : ℕ) (t : TableValue) → ((d : ℕ) → IsSome (tables d) → more d ≡ tables d) → IsShelved tables c t → IsShelved more c t
-shelved_there tables more c t stays h = record {
-  class = h.class;
-  table = h.table;
-  true = h.true;
-  children = λ d child. let there = h.children d child in subst IsSome (sym (stays d there)) there;
-  down = λ has d child. subst (λ o. IfSome o (λ u. IsSome u.reach)) (sym (stays d (h.children d (subst (λ k. Contains (children_of k) d) h.class child)))) (h.down has d child);
-}
+shelved_there tables more c t stays h = grind (arith, children_of)
 
 if_shelved_there : (tables more : Tables) (c : ℕ) (o : Option TableValue) → ((d : ℕ) → IsSome (tables d) → more d ≡ tables d) → IfSome o (IsShelved tables c) → IfSome o (IsShelved more c)
-if_shelved_there tables more c (Some t) stays h = shelved_there tables more c t stays h
-if_shelved_there tables more c None stays h = tt
+if_shelved_there tables more c o stays h = grind (arith, shelved_there)
 
 apart : (c d : ℕ) → d < c → eqb d c ≡ false
 apart c d less = ne_eqb d c (λ e. omega arith)
 
 -- the children of an accepted table are true
 true_child : (places : Places) (d : ℕ) (o : Option TableValue) → table_at places d ≡ o → IsSome o → IfSome o (IsShelved (table_at places) d) → (u : TableValue) × (table_at places d ≡ Some u) × (u.class ≡ d) × IsTrueTable u
-true_child places d (Some u) e there shelved = (u, e, shelved.class, shelved.true)
-true_child places d None e there shelved = absurd (false≢true there)
+true_child places d o e there shelved = grind (arith, false≢true)
 
 module _ (lower_child : (c d : ℕ) → c < 36 → Contains (children_of c) d → d < c) (places : Places) (library : IsLibrary places) (t : TableValue) (table : IsTable t) where
   true_children : HasChildren (table_at places) t.class → HasTrueChildren (beside (table_at places) t) t.class
@@ -61,9 +53,7 @@ module _ (lower_child : (c d : ℕ) → c < 36 → Contains (children_of c) d �
 
   -- the children of an accepted table have the column of the nearest mates where it has
   down_beside : ReachesDown (table_at places) t → ReachesDown (beside (table_at places) t) t
-  down_beside down there d child =
-      let other : beside (table_at places) t d ≡ table_at places d = beside_other (table_at places) t d (apart t.class d (lower_child t.class d table.class_in child)) in
-      subst (λ o. IfSome o (λ u. IsSome u.reach)) (sym other) (down there d child)
+  down_beside down there d child = grind (arith, beside, table_at, beside_other)
 
   -- an accepted table is true
   pub accepted_is_true : ((tables : Tables) (u : TableValue) → IsTable u → tables u.class ≡ Some u → HasTrueChildren tables u.class → ReachesDown tables u → KeepsRules tables u ↔ IsTrueTable u) → IsAccepted (table_at places) t → IsTrueTable t
@@ -122,8 +112,7 @@ abbrev one_free : Places
 one_free = None ∷ []
 
 one_is_free : AreFree one_free
-one_is_free zero = refl
-one_is_free (suc k) = refl
+one_is_free h = grind arith
 
 pub free_more : (places longer : Places) (n : ℕ) → AreFreeSoFar places n → longer ≡ places ++ None ∷ [] → AreFreeSoFar longer (n + 1)
 free_more places longer n so_far e = record { count = count; free = free }

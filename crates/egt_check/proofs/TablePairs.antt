@@ -34,10 +34,7 @@ lane_of_48 first many i from below = elim (cases_lt (i % 2) 1) [
 
 -- each code of these shelves is that of a digit of either man, with a side to move
 lane_at : (kind : Kind) (first many i : ℕ) → first * (2 * kind_digits kind) ≤ i → i < (first + many) * (2 * kind_digits kind) → IsLane (kind_digits kind) first many i
-lane_at kind first many i = elim (digits_are kind) [
-  | inl wide ↦ subst (λ w. first * (2 * w) ≤ i → i < (first + many) * (2 * w) → IsLane w first many i) (sym wide) (lane_of_64 first many i)
-  | inr narrow ↦ subst (λ w. first * (2 * w) ≤ i → i < (first + many) * (2 * w) → IsLane w first many i) (sym narrow) (lane_of_48 first many i)
-]
+lane_at kind first many i = grind (arith, digits_are, lane_of_64, lane_of_48)
 
 -- what holds at the codes of all digits of these shelves holds at that of each of their numbers
 pub shelves_keep : (Right : ℕ → Type 0) (c : ℕ) (kind : Kind) (first many n i : ℕ) → places c ≡ kind_digits kind → ((x y : ℕ) (side : Side) → x < many → y < kind_digits kind → Right (code_of c (number_in c (first + x) side y)))

@@ -20,8 +20,7 @@ module _ (t : TableValue) (told : AreAllAlike t) (voids : TellsVoids t) where
   ]
 
   void_entry : (metric : Metric) (i : ℕ) → i < size_of t.class → IsVoid t.class i → entry_at t metric i ≡ 0
-  void_entry Mate i below void = void_mate i below void
-  void_entry Zeroing i below void = none_there (entry_at t Mate i) (entry_at t Zeroing i) (told i below) (void_mate i below void)
+  void_entry metric i below void = grind (arith, void_mate, none_there, entry_at)
 
   pub has_bytes : HasBytes t
   has_bytes = record { void = void_entry; alike = λ i below index. alike_there (entry_at t Mate i) (entry_at t Zeroing i) (told i below) (λ none. index ((voids i below).void none)) }

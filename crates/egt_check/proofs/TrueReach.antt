@@ -85,8 +85,7 @@ module _ (facts : Facts) (tables : Tables) (t : TableValue) (sized : IsTable t) 
   child_tells q child = let s = child_shown q child in subst (HasReach chess q) (sym (reach_shown_told facts tables q s.0 child.0 s.2)) s.1
 
   nothing_told : (number : Option ℕ) → ((k : ℕ) → number ≡ Some k → ⊥) → number ≡ None
-  nothing_told None h = refl
-  nothing_told (Some k) h = absurd (h k refl)
+  nothing_told number h = grind arith
 
   fits_numbers : (p : Setup) (number : Option ℕ) → FitsReachBeside told p number → FitsNumbers chess (number_at facts tables) p number
   unfolding told

@@ -261,15 +261,10 @@ module _ (facts : Facts) (tables : Tables) (t : TableValue) (sized : IsTable t) 
           of_decided (inr not) = absurd ((shown_range (entry_at t Mate i) v mate).0 (truth.void Mate i below (λ p ok is. not (same p ok is))))
 
       not_two : (metric : Metric) (i : ℕ) → i < size_of t.class → entry_at t metric i ≢ 2
-      not_two metric i below two =
-          let void = unshown metric i below (λ v s. (shown_range (entry_at t metric i) v s).1 two) in
-          omega (arith, two, void)
+      not_two metric i below two = grind (arith, unshown, shown_range, entry_at)
 
       not_high : (metric : Metric) (i : ℕ) → i < size_of t.class → (64003 < entry_at t metric i) ⊎ (entry_at t metric i ≤ 64003) → entry_at t metric i ≤ 64003
-      not_high metric i below (inr le) = le
-      not_high metric i below (inl high) =
-          let void = unshown metric i below (λ v s. let le = (shown_range (entry_at t metric i) v s).2 in omega (arith, le, high)) in
-          omega (arith, high, void)
+      not_high metric i below h = grind (arith, unshown, shown_range, entry_at)
 
       pub true_keeps : (metric : Metric) (i : ℕ) → i < size_of t.class → (rule : Rule) → Keeps tables t metric i rule
       true_keeps metric i below rules.Void = (λ zero p ok is. let s = truth.true metric p i ok is in (shown_range (entry_at t metric i) s.0 s.2).0 zero, λ void. truth.void metric i below void)

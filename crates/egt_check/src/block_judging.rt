@@ -33,13 +33,15 @@ pub fn part_scores(
     zeroing: &mut Block,
 ) -> bool
     requires men { AreFourMen (column_of moves.now.part) moves.now.four.now moves.now.men.now }
-    requires leaving { HoldsExits (column_of moves.now.part) moves.now.four.now.children moves.now.men.now moves.now.side leaving.now }
+    requires leaving { HoldsExits (column_of moves.now.part) moves.now.four.now.children moves.now.men.now
+        moves.now.side leaving.now }
     requires kept { AreKept moves.now.four.now.own.class (column_score moves.now.four.now.own) moves.now.men.now
         (other_side moves.now.side) keys.old blocks.old }
     ensures kept { result ≡ true → AreKept moves.now.four.now.own.class
         (column_score moves.now.four.now.own) moves.now.men.now (other_side moves.now.side) keys.new blocks.new }
     ensures scores { result ≡ true → (a b : ℕ) → a < 64 → b < 64 →
-        AreAllScoresOf moves.now.part false moves.now.four.now moves.now.men.now moves.now.side a b (at scores.new a b) (at zeroing.new a b) }
+        AreAllScoresOf moves.now.part false moves.now.four.now moves.now.men.now moves.now.side a b (at scores.new a b)
+        (at zeroing.new a b) }
 {
     match moves.part {
         Part::Values => move_scores(moves, leaving, keys, blocks, scores, zeroing),
@@ -52,11 +54,13 @@ pub fn part_scores(
 /// Raises those to the scores of captures in passing, which are these: then they are of all moves where there is a
 /// target.
 pub fn raise_part_passed(moves: &Moves, passing: &Block, scores: &mut Block, zeroing: &mut Block)
-    requires { HoldsPassing (column_of moves.now.part) moves.now.four.now.children moves.now.men.now moves.now.side passing.now }
+    requires { HoldsPassing (column_of moves.now.part) moves.now.four.now.children moves.now.men.now moves.now.side
+        passing.now }
     ensures { (a b : ℕ) → a < 64 → b < 64 →
         AreAllScoresOf moves.now.part false moves.now.four.now moves.now.men.now moves.now.side a b
         (at scores.old a b) (at zeroing.old a b) →
-        AreAllScoresOf moves.now.part true moves.now.four.now moves.now.men.now moves.now.side a b (at scores.new a b) (at zeroing.new a b) }
+        AreAllScoresOf moves.now.part true moves.now.four.now moves.now.men.now moves.now.side a b (at scores.new a b)
+        (at zeroing.new a b) }
 {
     let (four, men, side) = (moves.four, moves.men, moves.side);
     match moves.part {
@@ -79,9 +83,11 @@ fn shelves_are_right(
     requires room { shelves.now.number + 64 < 4294967296 }
     ensures { result ≡ true → (x y : ℕ) → x < kind_digits shelves.now.men.one.kind →
         y < kind_digits shelves.now.men.last.kind →
-        IsRightLane part shelves.now.passed table.now shelves.now.men shelves.now.side (x + kind_less shelves.now.men.one.kind) (y + kind_less shelves.now.men.last.kind)
+        IsRightLane part shelves.now.passed table.now shelves.now.men shelves.now.side
+        (x + kind_less shelves.now.men.one.kind) (y + kind_less shelves.now.men.last.kind)
         (code_of table.now.class (number_in table.now.class (shelves.now.number + x) shelves.now.side y))
-        (at scores.now (x + kind_less shelves.now.men.one.kind) (y + kind_less shelves.now.men.last.kind)) (at zeroing.now (x + kind_less shelves.now.men.one.kind) (y + kind_less shelves.now.men.last.kind)) }
+        (at scores.now (x + kind_less shelves.now.men.one.kind) (y + kind_less shelves.now.men.last.kind))
+        (at zeroing.now (x + kind_less shelves.now.men.one.kind) (y + kind_less shelves.now.men.last.kind)) }
 {
     numbers_stand_for_codes();
     if !begin_with(table.class(), &shelves.men, shelves.passed, shelves.number) {

@@ -92,7 +92,8 @@ fn judge_run(
     requires zeroing { IsFirstBad (beside (table_at library.now) table.now) table.now first known }
     ensures kept { IfOk result (λ bad. KeepsBelow (beside (table_at library.now) table.now) table.now Mate end) }
     ensures zeroing { IfOk result (IsFirstBad (beside (table_at library.now) table.now) table.now end) }
-    ensures broken { IfErr result (λ bad. IsFirstBreak (beside (table_at library.now) table.now) table.now columns.Mate bad.0 bad.1) }
+    ensures broken { IfErr result (λ bad. IsFirstBreak
+        (beside (table_at library.now) table.now) table.now columns.Mate bad.0 bad.1) }
 {
     let mut bad = known;
     for index in first..end {
@@ -113,9 +114,12 @@ fn judge_table(
 ) -> Result<Option<(u32, Rule)>, (u32, Rule)>
     requires children { HasChildren (table_at library.now) table.now.class }
     requires runs { AreRuns Values (beside (table_at library.now) table.now) table.now runs.now }
-    ensures kept { IfOk result (λ bad. KeepsBelow (beside (table_at library.now) table.now) table.now Mate (size_of table.now.class)) }
-    ensures zeroing { IfOk result (IsFirstBad (beside (table_at library.now) table.now) table.now (size_of table.now.class)) }
-    ensures broken { IfErr result (λ bad. IsFirstBreak (beside (table_at library.now) table.now) table.now columns.Mate bad.0 bad.1) }
+    ensures kept { IfOk result (λ bad. KeepsBelow (beside (table_at library.now) table.now) table.now Mate
+        (size_of table.now.class)) }
+    ensures zeroing { IfOk result (IsFirstBad (beside (table_at library.now) table.now) table.now
+        (size_of table.now.class)) }
+    ensures broken { IfErr result (λ bad. IsFirstBreak
+        (beside (table_at library.now) table.now) table.now columns.Mate bad.0 bad.1) }
 {
     let _size = size(table.class());
     let mut bad = None;
@@ -135,7 +139,8 @@ fn judge_table(
 fn judge_values(table: &Table, library: &Library) -> Result<bool, Reject>
     requires children { HasChildren (table_at library.now) table.now.class }
     requires down { ReachesDown (table_at library.now) table.now }
-    ensures exact { IsOk result ↔ ((metric : Metric) → KeepsBelow (beside (table_at library.now) table.now) table.now metric (size_of table.now.class)) }
+    ensures exact { IsOk result ↔ ((metric : Metric) →
+        KeepsBelow (beside (table_at library.now) table.now) table.now metric (size_of table.now.class)) }
     ensures reason { IfErr result (IsRefused (table_at library.now) table.now) }
     ensures told { IfOk result (λ tells. tells ≡ true → TellsPart Values table.now) }
 {
@@ -163,7 +168,8 @@ fn first_bad_reach_in(table: &Table, library: &Library, first: u32, end: u32) ->
     requires reach_children { HasReachChildren (table_at library.now) table.now.class }
     requires within { (first ≤ end) × (end ≤ size_of table.now.class) }
     requires before { KeepsReachBelow (beside (table_at library.now) table.now) table.now first }
-    ensures some { IfSome result (λ bad. IsFirstBadReach (beside (table_at library.now) table.now) table.now bad.0 bad.1) }
+    ensures some { IfSome result (λ bad. IsFirstBadReach
+        (beside (table_at library.now) table.now) table.now bad.0 bad.1) }
     ensures none { IfNone result (KeepsReachBelow (beside (table_at library.now) table.now) table.now end) }
 {
     for index in first..end {
@@ -180,8 +186,10 @@ fn first_bad_reach(table: &Table, library: &Library, runs: &Runs) -> Option<(u32
     requires children { HasChildren (table_at library.now) table.now.class }
     requires reach_children { HasReachChildren (table_at library.now) table.now.class }
     requires runs { AreRuns Reach (beside (table_at library.now) table.now) table.now runs.now }
-    ensures some { IfSome result (λ bad. IsFirstBadReach (beside (table_at library.now) table.now) table.now bad.0 bad.1) }
-    ensures none { IfNone result (KeepsReachBelow (beside (table_at library.now) table.now) table.now (size_of table.now.class)) }
+    ensures some { IfSome result (λ bad. IsFirstBadReach
+        (beside (table_at library.now) table.now) table.now bad.0 bad.1) }
+    ensures none { IfNone result (KeepsReachBelow (beside (table_at library.now) table.now) table.now
+        (size_of table.now.class)) }
 {
     let _size = size(table.class());
     for run in 0..runs.count {
@@ -222,7 +230,8 @@ fn judge_reaches(table: &Table, library: &Library) -> Result<bool, Reject>
 
 /// Sees that the children's tables have what the judgement reads.
 fn check_children(table: &Table, library: &Library) -> Result<(), Reject>
-    ensures exact { IsOk result ↔ (HasChildren (table_at library.now) table.now.class × ReachesDown (table_at library.now) table.now) }
+    ensures exact { IsOk result ↔ (HasChildren (table_at library.now) table.now.class ×
+        ReachesDown (table_at library.now) table.now) }
     ensures reason { IfErr result (IsRefused (table_at library.now) table.now) }
 {
     if let Some(child) = first_missing(table.class(), library) {

@@ -11,6 +11,7 @@ use crate::part::Part;
 use crate::row_judging::first_of;
 use crate::rows::row_of;
 use crate::score_rows::ScoreRows;
+use crate::shelf::Shelf;
 use crate::told_rows::told_row;
 use egt_blocks::digits::{digits_of, first_square};
 use egt_board::{Side, SquareSet};
@@ -209,30 +210,30 @@ impl Found {
     pub fn put(
         &mut self,
         part: Part,
-        men: &ShelfMen,
-        shelf: u32,
-        side: Side,
+        shelf: &Shelf,
         lanes: SquareSet,
         mask: Row,
         scores: Row,
         clocks: Row,
     ) -> bool
-        requires shelf { IsShelf self.old.class shelf men.now }
-        requires within { IsWithin self.old.class shelf }
+        requires shelf { IsShelf self.old.class shelf.now.number shelf.now.men }
+        requires within { IsWithin self.old.class shelf.now.number }
         requires mask { IsMaskOf lanes mask }
-        ensures { IsPut part men.now shelf side lanes scores clocks self.old self.new result }
+        ensures { IsPut part shelf.now.men shelf.now.number shelf.now.side lanes scores clocks self.old self.new
+            result }
     {
         let _class = self.table.class();
-        let own = self.scores.row(men, shelf, side);
+        let (men, number, side) = (&shelf.men, shelf.number, shelf.side);
+        let own = self.scores.row(men, number, side);
         if !are_told(part, own, lanes, mask, scores, clocks) {
             return false;
         }
         match (part, &mut self.clocks) {
-            (Part::Values, Some(rows)) => rows.put(men, shelf, side, lanes, mask, clocks),
+            (Part::Values, Some(rows)) => rows.put(men, number, side, lanes, mask, clocks),
             (Part::Reach, None) => {}
             _ => return false,
         }
-        self.scores.put(men, shelf, side, lanes, mask, scores);
+        self.scores.put(men, number, side, lanes, mask, scores);
         true
     }
 

@@ -109,13 +109,15 @@ pub fn due_lanes(
 ) -> (SquareSet, SquareSet, Row)
     requires three { AreThreeMen three.now }
     requires there { HasColumn column three.now.table.now }
-    requires row { IsLoneRow three.now.table.now.class first three.now.men.white three.now.men.black three.now.men.last }
+    requires row { IsLoneRow three.now.table.now.class first three.now.men.white three.now.men.black
+        three.now.men.last }
     ensures none { (digit : ℕ) → digit < kind_digits three.now.men.last.kind →
         bit_at result.0.bits (digit + kind_less three.now.men.last.kind) ≡ 0 →
         column_score three.now.table.now column (first + side_number side + 2 * digit) ≡ 0 }
     ensures due { (digit : ℕ) → digit < kind_digits three.now.men.last.kind →
         Has result.1 (digit + kind_less three.now.men.last.kind) →
-        IsDueAlone three.now column side (digit + kind_less three.now.men.last.kind) (first + side_number side + 2 * digit) }
+        IsDueAlone three.now column side (digit + kind_less three.now.men.last.kind)
+        (first + side_number side + 2 * digit) }
 {
     codes_tell_turned_men();
     let men = &three.men;
@@ -138,10 +140,12 @@ pub fn due_lanes(
 #[inline(always)]
 fn clock_lanes(three: &ThreeMen, first: u32, side: Side) -> SquareSet
     requires three { AreThreeMen three.now }
-    requires row { IsLoneRow three.now.table.now.class first three.now.men.white three.now.men.black three.now.men.last }
+    requires row { IsLoneRow three.now.table.now.class first three.now.men.white three.now.men.black
+        three.now.men.last }
     ensures { three.now.part ≡ parts.Values → (digit : ℕ) → digit < kind_digits three.now.men.last.kind →
         Has result (digit + kind_less three.now.men.last.kind) →
-        IsDueAlone three.now columns.Zeroing side (digit + kind_less three.now.men.last.kind) (first + side_number side + 2 * digit) }
+        IsDueAlone three.now columns.Zeroing side (digit + kind_less three.now.men.last.kind)
+        (first + side_number side + 2 * digit) }
 {
     match three.part {
         Part::Values => due_lanes(three, Column::Zeroing, first, side).1,
@@ -153,7 +157,8 @@ fn clock_lanes(three: &ThreeMen, first: u32, side: Side) -> SquareSet
 /// after quiet steps, or keep the rules judged alone: where a move may zero, and where none scores.
 pub fn lone_row_is_right(three: &ThreeMen, first: u32, side: Side) -> bool
     requires three { AreThreeMen three.now }
-    requires row { IsLoneRow three.now.table.now.class first three.now.men.white three.now.men.black three.now.men.last }
+    requires row { IsLoneRow three.now.table.now.class first three.now.men.white three.now.men.black
+        three.now.men.last }
     ensures { result ≡ true → IsJudgedRow three.now first side }
 {
     entries_due_to_quiet_steps_are_right();

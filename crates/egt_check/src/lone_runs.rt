@@ -64,7 +64,8 @@ fn tells_part(table: &Table, part: Part) -> bool
 fn right_run(three: &ThreeMen, side: Side) -> Option<usize>
     requires { AreThreeMen three.now }
     ensures few { IfSome result (λ run. run < 2048) }
-    ensures right { IfSome result (λ run. IsJudgedRow three.now (run * (2 * kind_digits three.now.men.last.kind)) side) }
+    ensures right { IfSome result (λ run. IsJudgedRow three.now
+        (run * (2 * kind_digits three.now.men.last.kind)) side) }
 {
     let men = &three.men;
     let first = lone_row(three.table.class(), men.last, men.white, men.black)?;

@@ -277,7 +277,8 @@ pub fn move_scores(
     zeroing: &mut Block,
 ) -> bool
     requires men { AreFourMen columns.Mate moves.now.four.now moves.now.men.now }
-    requires leaving { HoldsExits columns.Mate moves.now.four.now.children moves.now.men.now moves.now.side leaving.now }
+    requires leaving { HoldsExits columns.Mate moves.now.four.now.children moves.now.men.now moves.now.side
+        leaving.now }
     requires kept { AreKept moves.now.four.now.own.class (column_score moves.now.four.now.own) moves.now.men.now
         (other_side moves.now.side) keys.old blocks.old }
     ensures kept { result ≡ true → AreKept moves.now.four.now.own.class

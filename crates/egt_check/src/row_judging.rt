@@ -111,7 +111,9 @@ fn clock_is_due(table: &Table, part: Part, shelf: &Shelf, zeroing: Row, within: 
     requires within { IsWithin table.now.class shelf.now.number }
     ensures { result ≡ true → part ≡ parts.Values → (digit : ℕ) → digit < kind_digits shelf.now.men.last.kind →
         slice_index within (digit + kind_less shelf.now.men.last.kind) ≢ 0 →
-        score_at table.now Zeroing (code_of table.now.class (number_in table.now.class shelf.now.number shelf.now.side digit)) ≡ due_score (slice_index zeroing (digit + kind_less shelf.now.men.last.kind)) }
+        score_at table.now Zeroing (code_of table.now.class
+        (number_in table.now.class shelf.now.number shelf.now.side digit)) ≡ due_score
+        (slice_index zeroing (digit + kind_less shelf.now.men.last.kind)) }
 {
     codes_tell_turned_men();
     match part {
@@ -145,7 +147,10 @@ pub(crate) fn row_is_right(
     ensures { result ≡ true → (digit : ℕ) → digit < kind_digits shelf.now.men.last.kind →
         column_score table.now (column_of part)
         (code_of table.now.class (number_in table.now.class shelf.now.number shelf.now.side digit)) ≢ 0 →
-        IsRightAtOf part table.now (code_of table.now.class (number_in table.now.class shelf.now.number shelf.now.side digit)) (slice_index scores (digit + kind_less shelf.now.men.last.kind)) (slice_index zeroing (digit + kind_less shelf.now.men.last.kind)) }
+        IsRightAtOf part table.now (code_of table.now.class
+        (number_in table.now.class shelf.now.number shelf.now.side digit))
+        (slice_index scores (digit + kind_less shelf.now.men.last.kind))
+        (slice_index zeroing (digit + kind_less shelf.now.men.last.kind)) }
 {
     codes_tell_turned_men();
     let own = row_of(

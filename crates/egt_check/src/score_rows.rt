@@ -34,7 +34,11 @@ impl Model for ScoreRows {
 
     ghost Value = { CodeScores };
 
-    ghost view = { λ r. record { class = r.class; scores = scores_in r.class (kind_less r.last.kind) r.shelves r.rows.items } };
+    ghost view = { λ r. record {
+      class = r.class;
+      scores = scores_in r.class
+          (kind_less r.last.kind) r.shelves r.rows.items;
+    } };
 
     ghost invariant = { λ r. AreWholeRows r.class r.last r.shelves r.rows.items };
 }
@@ -119,7 +123,8 @@ impl ScoreRows {
     pub fn drawn(alloc: Global, class: Class) -> Result<Option<ScoreRows>, AllocError>
         ensures class { IfOk result (λ some. IfSome some (λ rows. rows.class ≡ class)) }
         ensures void { IfOk result (λ some. IfSome some HasNoVoidScore) }
-        ensures drawn { IfOk result (λ some. IfSome some (λ rows. (code : ℕ) → code < size_of class → IsDrawnIndex rows code)) }
+        ensures drawn { IfOk result (λ some. IfSome some
+            (λ rows. (code : ℕ) → code < size_of class → IsDrawnIndex rows code)) }
         ensures few { IfOk result (λ some. IfSome some AreDrawnOrNone) }
     {
         numbers_stand_for_codes();
@@ -178,8 +183,10 @@ impl ScoreRows {
         ensures long { length self.new.scores ≡ size_of self.old.class }
         ensures put { (digit : ℕ) → digit < kind_digits men.now.last.kind →
             Has lanes (digit + kind_less men.now.last.kind) →
-            slice_index self.new.scores (code_of self.old.class (number_in self.old.class shelf side digit)) ≡ slice_index scores (digit + kind_less men.now.last.kind) }
-        ensures others { (code : ℕ) → (slice_index self.new.scores code ≡ slice_index self.old.scores code) ⊎ IsLaneIn self.old.class men.now shelf side lanes code }
+            slice_index self.new.scores (code_of self.old.class (number_in self.old.class shelf side digit)) ≡
+            slice_index scores (digit + kind_less men.now.last.kind) }
+        ensures others { (code : ℕ) → (slice_index self.new.scores code ≡ slice_index self.old.scores code) ⊎
+            IsLaneIn self.old.class men.now shelf side lanes code }
     {
         numbers_stand_for_codes();
         let _size = size(self.class);

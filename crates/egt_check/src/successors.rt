@@ -141,7 +141,8 @@ fn scores(
         HasEntry (beside (table_at library.now) table.now) metric q (number_at entries metric) }
     requires zeroes { IsTrue zeroes ↔ Zeroes position.now chess_move.now }
     ensures { (metric : Metric) (q : Setup) (leads : Leads position.now chess_move.now q) →
-        Scores (shown_by library.now table.now) metric position.now q (chess_move.now, leads) (number_at result metric) }
+        Scores (shown_by library.now table.now) metric position.now q (chess_move.now, leads)
+        (number_at result metric) }
 {
     facts();
     let _side = position.side();
@@ -167,7 +168,8 @@ fn higher(best: ByMetric, scores: ByMetric) -> ByMetric
 #[inline(always)]
 fn raised(best: Option<ByMetric>, scores: ByMetric) -> ByMetric
     ensures { (metric : Metric) →
-        number_at result metric ≡ greater (option_map (λ numbers. number_at numbers metric) best) (number_at scores metric) }
+        number_at result metric ≡ greater (option_map (λ numbers. number_at numbers metric) best)
+        (number_at scores metric) }
 {
     match best {
         Some(best) => higher(best, scores),
@@ -248,8 +250,10 @@ pub(crate) fn least_reach(table: &Table, library: &Library, position: &Position)
     requires own { IsInClass table.now.class position.now }
     requires children { HasChildren (table_at library.now) table.now.class }
     requires reach_children { HasReachChildren (table_at library.now) table.now.class }
-    ensures some { IfSome result (λ n. (n ≤ 32000) × IsLeast chess position.now (λ q m k. ShowsReachOf (beside (table_at library.now) table.now) q (Some k)) n) }
-    ensures none { IfNone result (EachMove chess position.now (λ q. (k : ℕ) → ¬ ShowsReachOf (beside (table_at library.now) table.now) q (Some k))) }
+    ensures some { IfSome result (λ n. (n ≤ 32000) ×
+        IsLeast chess position.now (λ q m k. ShowsReachOf (beside (table_at library.now) table.now) q (Some k)) n) }
+    ensures none { IfNone result (EachMove chess position.now
+        (λ q. (k : ℕ) → ¬ ShowsReachOf (beside (table_at library.now) table.now) q (Some k))) }
 {
     facts();
     let _side = position.side();
@@ -268,7 +272,8 @@ pub(crate) fn best(table: &Table, library: &Library, position: &Position) -> Opt
     requires own { IsInClass table.now.class position.now }
     requires children { HasChildren (table_at library.now) table.now.class }
     ensures some { IfSome result
-        (λ best. (metric : Metric) → IsBest (shown_by library.now table.now) metric position.now (number_at best metric)) }
+        (λ best. (metric : Metric) → IsBest (shown_by library.now table.now) metric position.now
+        (number_at best metric)) }
     ensures none { IfNone result (NoMove chess position.now) }
 {
     let men = Men::of(position);

@@ -181,7 +181,8 @@ fn promotion<'t>(
     requires officer { IsOfficer kind }
     ensures kind { IfSome result (λ promotion. promotion.kind ≡ kind) }
     ensures of { IfSome result (λ promotion. IsPromotionOf (column_of part) promotion men.now) }
-    ensures has { IfSome result (λ promotion. (t : TableValue) → t.class ≡ class → HasPromotion (tables_in part (beside (table_at library.now) t)) (promotion_in part promotion) men.now) }
+    ensures has { IfSome result (λ promotion. (t : TableValue) → t.class ≡ class →
+        HasPromotion (tables_in part (beside (table_at library.now) t)) (promotion_in part promotion) men.now) }
 {
     let officer = Man {
         side: men.last.side,
@@ -221,7 +222,8 @@ fn promotions<'t>(
     part: Part,
 ) -> Option<Promotions<'t>>
     ensures of { IfSome result (λ kinds. ArePromotionsOf (column_of part) kinds men.now) }
-    ensures has { IfSome result (λ kinds. (t : TableValue) → t.class ≡ class → HasPromotions (tables_in part (beside (table_at library.now) t)) (promotions_in part kinds) men.now) }
+    ensures has { IfSome result (λ kinds. (t : TableValue) → t.class ≡ class →
+        HasPromotions (tables_in part (beside (table_at library.now) t)) (promotions_in part kinds) men.now) }
 {
     if !is_pawn(men.last) {
         return None;
@@ -247,9 +249,12 @@ fn first_promotions<'t>(
     last: &Option<Promotions<'t>>,
 ) -> Option<Promotions<'t>>
     requires of { IfSome last.now (λ kinds. ArePromotionsOf (column_of part) kinds men.now) }
-    requires has { IfSome last.now (λ kinds. (t : TableValue) → t.class ≡ class → HasPromotions (tables_in part (beside (table_at library.now) t)) (promotions_in part kinds) men.now) }
+    requires has { IfSome last.now (λ kinds. (t : TableValue) → t.class ≡ class →
+        HasPromotions (tables_in part (beside (table_at library.now) t)) (promotions_in part kinds) men.now) }
     ensures of { IfSome result (λ kinds. ArePromotionsOf (column_of part) kinds (men_swapped men.now)) }
-    ensures has { IfSome result (λ kinds. (t : TableValue) → t.class ≡ class → HasPromotions (tables_in part (beside (table_at library.now) t)) (promotions_in part kinds) (men_swapped men.now)) }
+    ensures has { IfSome result (λ kinds. (t : TableValue) → t.class ≡ class →
+        HasPromotions (tables_in part (beside (table_at library.now) t)) (promotions_in part kinds)
+        (men_swapped men.now)) }
     ensures same { men.now.one ≡ men.now.last → result ≡ last.now }
 {
     if are_equal(men) {
@@ -277,7 +282,8 @@ pub fn children_of<'t>(
     part: Part,
 ) -> Option<Children<'t>>
     ensures of { IfSome result (λ children. AreChildren (column_of part) children men.now) }
-    ensures four { IfSome result (λ children. (four : FourMen) → four.children ≡ children → IsOwnTable part class men.now four.own →
+    ensures four { IfSome result (λ children. (four : FourMen) → four.children ≡ children →
+        IsOwnTable part class men.now four.own →
         AreFourMen (column_of part) four men.now ×
         AreTablesOf (tables_in part (beside (table_at library.now) four.own)) (four_in part four) men.now) }
 {
@@ -315,7 +321,8 @@ pub(crate) fn four_men<'t>(
     requires men { AreMenOf table.now.class men.now }
     ensures own { IfSome result (λ four. four.own ≡ table.now) }
     ensures of { IfSome result (λ four. AreFourMen (column_of part) four men.now) }
-    ensures tables { IfSome result (λ four. AreTablesOf (tables_in part (beside (table_at library.now) table.now)) (four_in part four) men.now) }
+    ensures tables { IfSome result (λ four. AreTablesOf (tables_in part (beside (table_at library.now) table.now))
+        (four_in part four) men.now) }
 {
     let children = children_of(library, table.class(), men, part)?;
     Some(beside_own(table, &children))

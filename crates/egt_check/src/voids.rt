@@ -40,7 +40,8 @@ pub(crate) fn marks_of(
     requires shelf { IsShelfOf passed table.now.class shelf men.now }
     requires within { IsWithin table.now.class shelf }
     ensures { (k : ℕ) → k < kind_digits men.now.last.kind →
-        bit_at result k ≡ (if column_score table.now column (code_of table.now.class (number_in table.now.class shelf side k)) == 0 then 0 else 1) }
+        bit_at result k ≡ (if column_score table.now column
+        (code_of table.now.class (number_in table.now.class shelf side k)) == 0 then 0 else 1) }
 {
     codes_tell_turned_men();
     let row = table.row(column, men, shelf, side, passed);

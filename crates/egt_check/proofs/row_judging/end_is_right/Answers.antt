@@ -1,12 +1,11 @@
-use Rattle.std.proofs.Common.{◌≡◌, ℕ, ◌+◌, ◌/◌, ◌∙◌, arith, inl, inr, sym, subst}
+use Rattle.std.proofs.Common.{◌≡◌, ℕ, ◌+◌, ◌/◌, ◌∙◌, arith, sym, subst}
 use Rattle.egt_check.specs.Prelude.{eqb-true, Setup, Spells, Mate, Zeroing, Part, near_entry, IsRightEnd, IsRightEndOf}
 use Rattle.egt_check.specs.Prelude.{IsRightReachEnd, IsAtEnd, reach_at}
 use Rattle.egt_check.proofs.row_judging.end_is_right.Goals as goal
 
 -- checkmate and stalemate as they are read
 read_end : (p : Setup) (x reach : ℕ) → IsAtEnd p x → reach ≡ x / 2 + 1 → near_entry reach ≡ x
-read_end p x reach (inl mated) is = let entry = mated.1 in omega (arith, entry, is)
-read_end p x reach (inr stale) is = let entry = stale.1 in omega (arith, entry, is)
+read_end p x reach h is = grind arith
 
 pub returns-then-entries-entry : goal.returns-then-entries-entry
 returns-then-entries-entry c = λ same.
