@@ -1,7 +1,7 @@
 -- What a legal move leads to is admissible.
-use Rattle.std.proofs.Common.{◌≡◌, ◌≢◌, ℕ, ◌<◌, ◌≤◌, ◌+◌, ◌-◌, ◌/◌, ◌⊎◌, ◌&&◌, ◌||◌, Option, Some, None, cond, true}
-use Rattle.std.proofs.Common.{false, Bool, arith, refl, sym, ap, ◌∙◌, inl, inr, subst, if◌then◌else◌, ◌==◌}
-use Rattle.egt_moves.specs.Prelude.{is_some, nat_cmp_total, false≢true, eq-eqb, and_parts, eqb_tells, Side, White}
+use Rattle.std.proofs.Common.{◌≡◌, ◌≢◌, ℕ, ◌<◌, ◌≤◌, ◌+◌, ◌-◌, ◌/◌, ◌⊎◌, ◌&&◌, Option, Some, None, cond, true}
+use Rattle.std.proofs.Common.{false, Bool, arith, refl, sym, ap, ◌∙◌, inl, inr, subst, if◌then◌else◌}
+use Rattle.egt_moves.specs.Prelude.{is_some, nat_cmp_total, false≢true, and_parts, eqb_tells, Side, White}
 use Rattle.egt_moves.specs.Prelude.{Black, Kind, Q, R, B, N, P, K, Man, other_side, file_of, rank_of, Stands, IsFree}
 use Rattle.egt_moves.specs.Prelude.{ahead, pawn_of, last_rank, home_rank, farthest_advance, Advances, PawnsFit}
 use Rattle.egt_moves.specs.Prelude.{IsTarget, FitsTarget, target_rank, Rides, OneOf, farthest, steps_of, pawn_steps}
@@ -46,10 +46,7 @@ len_after p man m ok mine stands =
 
 -- a king is not promoted
 pub no_promotion : (man : Man) (to : ℕ) (promo : Option Kind) → is_pawn man.kind ≡ false → FitsPromotion (promotes man to) promo → promo ≡ None
-no_promotion man to promo no_pawn fits = none promo (subst (λ b. FitsPromotion b promo) (ap (λ b. b && (rank_of to == last_rank man.side)) no_pawn) fits)
-  where
-    none : (o : Option Kind) → FitsPromotion false o → o ≡ None
-    none o f = grind arith
+no_promotion man to promo no_pawn fits = grind (arith, rank_of, last_rank)
 
 own_king_after : (p : Setup) (man : Man) (m : Move) (k : ℕ) → IsAdmissible p → Stands p.men m.from man → man.side ≡ p.side → Goes p man m.from m.to → FitsPromotion (promotes man m.to) m.promo → IsKingOn p.men p.side k → (s : ℕ) × IsKingOn (men_after p man m) p.side s
 own_king_after p man m k ok stands mine goes fits king = subst (λ side. IsKingOn p.men side k → (s : ℕ) × IsKingOn (men_after p man m) side s) mine (by_kind man.kind refl) king
@@ -128,8 +125,7 @@ arrived_pawn man to (Some kind) fits pawn = absurd (by_test (promotes man to) fi
     by_test false none = none
 
 not_last_rank : (man : Man) (to : ℕ) → man.kind ≡ P → promotes man to ≡ false → rank_of to ≢ last_rank man.side
-not_last_rank man to pawn untrue last =
-    false≢true (sym untrue ∙ ap (λ kind. is_pawn kind && (rank_of to == last_rank man.side)) pawn ∙ eq-eqb (rank_of to) (last_rank man.side) last)
+not_last_rank man to pawn untrue last = grind (arith, false≢true, is_pawn, rank_of)
 
 -- no pawn stands on the first rank or the last
 pawns_after : (p : Setup) (man : Man) (m : Move) → Stands p.men m.from man → Goes p man m.from m.to → FitsPromotion (promotes man m.to) m.promo → IsAdmissible p → PawnsFit (men_after p man m)
@@ -147,13 +143,7 @@ pawn_told kind e = grind arith
 
 -- two ranks lie between
 pub two_ranks_told : (s t : ℕ) → is_two_ranks s t ≡ true → (rank_of t ≡ rank_of s + 2) ⊎ (rank_of s ≡ rank_of t + 2)
-two_ranks_told s t e = elim (eqb_tells (rank_of t) (rank_of s + 2)) [
-  | inl h ↦ inl h.1
-  | inr h ↦ elim (eqb_tells (rank_of s) (rank_of t + 2)) [
-    | inl k ↦ inr k.1
-    | inr k ↦ absurd (false≢true (sym (ap (λ b. b || (rank_of s == rank_of t + 2)) h.0 ∙ k.0) ∙ e))
-  ]
-]
+two_ranks_told s t e = grind (arith, eqb_tells, rank_of, false≢true)
 
 pub two_forward : (side : Side) (n from to : ℕ) → Forward side n from to → (rank_of to ≡ rank_of from + 2) ⊎ (rank_of from ≡ rank_of to + 2) → n ≡ 2
 unfolding Forward
@@ -161,10 +151,7 @@ two_forward side n from to f h = grind arith
 
 -- a pawn that advances two squares begins on its original rank
 pub from_home : (side : Side) (from : ℕ) → 2 ≤ farthest_advance side from → rank_of from ≡ home_rank side
-from_home side from le = elim (eqb_tells (rank_of from) (home_rank side)) [
-  | inl h ↦ h.1
-  | inr h ↦ let one : farthest_advance side from ≡ 1 = ap (λ b. if b then 2 else 1) h.0 in absurd (omega arith)
-]
+from_home side from le = grind (arith, eqb_tells, rank_of, home_rank)
 
 -- the squares of an advance of two
 pub record Leap (F : ℕ → Type 0) (side : Side) (from to : ℕ) : Type 0 where
@@ -216,15 +203,7 @@ halfway F Black from to l =
     record { rank = omega arith; behind = omega arith; before = omega arith; not_from = λ e. omega arith; not_to = λ e. omega arith; apart = λ e. omega arith; not_last = λ e. omega arith }
 
 not_promoted : (man : Man) (to : ℕ) (promo : Option Kind) → rank_of to ≢ last_rank man.side → FitsPromotion (promotes man to) promo → promo ≡ None
-not_promoted man to promo not_last fits = by_test (promotes man to) refl promo fits
-  where
-    by_test : (b : Bool) → promotes man to ≡ b → (o : Option Kind) → FitsPromotion b o → o ≡ None
-    by_test false e None f = refl
-    by_test false e (Some kind) f = absurd f
-    by_test true e o f = elim (eqb_tells (rank_of to) (last_rank man.side)) [
-      | inl h ↦ absurd (not_last h.1)
-      | inr h ↦ absurd (false≢true (sym h.0 ∙ (and_parts (is_pawn man.kind) _ e).1))
-    ]
+not_promoted man to promo not_last fits = grind (arith, promotes, eqb_tells, rank_of)
 
 pub not_two : (n : ℕ) → n ≡ 1 → n ≡ 2 → ⊥
 not_two n one two = omega arith

@@ -115,18 +115,11 @@ after_stays p man m t other ok not_it not_from not_to stands = after_other p man
 
 -- a man goes to a square of the board on which no man of its side stands
 pub goes_not_own : (p : Setup) (man : Man) (from to : ℕ) → IsAdmissible p → Goes p man from to → ¬ IsHeld p.men to p.side
-goes_not_own p man from to ok (inl piece) held = piece.not_own held
-goes_not_own p man from to ok (inr (inl advance)) held = not_free p.men to held.man advance.advances.free held.stands
-goes_not_own p man from to ok (inr (inr takes)) held = elim takes.takes [
-  | inl enemy ↦ sides_differ p.side (sym held.theirs ∙ ap (λ (m : Man). m.side) (one_man p.men to held.man enemy.man held.stands enemy.stands) ∙ enemy.theirs)
-  | inr target ↦ not_free p.men to held.man (target_is p to ok target).empty held.stands
-]
+goes_not_own p man from to ok h held = grind (arith, not_free, sides_differ, one_man)
 
 -- an enemy man on the square that it goes to was attacked
 pub goes_to_attacked : (p : Setup) (man other : Man) (from to : ℕ) → Goes p man from to → Stands p.men to other → Reaches (IsFree p.men) man from to
-goes_to_attacked p man other from to (inl piece) stands = piece.reaches
-goes_to_attacked p man other from to (inr (inl advance)) stands = not_free p.men to other advance.advances.free stands
-goes_to_attacked p man other from to (inr (inr takes)) stands = takes.reaches
+goes_to_attacked p man other from to h stands = grind (arith, not_free)
 
 -- nothing becomes a king
 abbrev pub MayBecome : Option Kind → Type 0
@@ -147,16 +140,7 @@ kings_are_no_pawns side other e = let kinds : K ≡ P = ap (λ (m : Man). m.kind
 
 -- the king that moves is then on its new square
 pub king_moves : (p : Setup) (man : Man) (m : Move) (k : ℕ) → IsAdmissible p → Stands p.men m.from man → IsKingOn p.men man.side k → man.kind ≡ K → m.promo ≡ None → IsKingOn (men_after p man m) man.side m.to
-king_moves p man m k ok stands king is_king none = record {
-  stands = after_to p man m ∙ ap (λ o. Some (arriving man o)) none ∙ ap Some man_is;
-  only = λ t there. elim (after_cases p man m t (king_of man.side) ok there) [
-    | inl h ↦ h.0
-    | inr h ↦ absurd (h.0 (king.only t h.2 ∙ sym (king.only m.from (stands ∙ ap Some man_is))))
-  ];
-}
-  where
-    man_is : man ≡ king_of man.side
-    man_is = λ i. record { side = man.side; kind = is_king i }
+king_moves p man m k ok stands king is_king none = grind (arith, after_to, arriving, after_cases)
 
 -- another man leaves it where it is
 pub king_stays : (p : Setup) (man : Man) (m : Move) (k : ℕ) → IsAdmissible p → Stands p.men m.from man → man.side ≡ p.side → Goes p man m.from m.to → MayBecome m.promo → IsKingOn p.men man.side k → man.kind ≢ K → IsKingOn (men_after p man m) man.side k

@@ -9,9 +9,7 @@ each_or_some P Q choose [] = inl tt
 each_or_some {A} P Q choose (x ∷ xs) = go (choose x) (each_or_some P Q choose xs)
   where
     go : P x ⊎ Q x → AllByRecursion P xs ⊎ Any Q xs → AllByRecursion P (x ∷ xs) ⊎ Any Q (x ∷ xs)
-    go (inr h) _ = inr (any_here Q x xs h)
-    go (inl h) (inl hs) = inl (h, hs)
-    go (inl h) (inr hs) = inr (any_there Q x xs hs)
+    go h k = grind (arith, any_here, any_there)
 
 -- what holds of each element holds of one that R finds
 pub found_among : {A : Type 0} (P R : A → Type 0) (xs : List A) → AllByRecursion P xs → Any R xs → (x : A) × P x × R x

@@ -6,8 +6,7 @@ use Rattle.egt_moves.specs.Prelude.{MatesWithin, AvoidsMateFor, CannotMateWithin
 module _ {S : Type 0} (a : Arena S) where
   -- checkmate is a loss within any number
   pub mated_at_once : (n : ℕ) (p : S) → a.Checkmate p → IsMatedWithin a n p
-  mated_at_once zero p c = c
-  mated_at_once (suc n) p c = inl c
+  mated_at_once n p c = grind arith
 
   -- a forced mate is forced within any greater number
   mutual
@@ -24,8 +23,7 @@ module _ {S : Type 0} (a : Arena S) where
 
   -- who avoids checkmate at all is not checkmated now
   pub not_mated : (n : ℕ) (p : S) → AvoidsMateFor a n p → ¬ (a.Checkmate p)
-  not_mated zero p h = h
-  not_mated (suc n) p h = h.0
+  not_mated n p h = grind arith
 
   -- a defence lasts for any lesser number
   mutual
@@ -69,17 +67,14 @@ module _ {S : Type 0} (a : Arena S) where
 
   -- the value's number is the least
   pub win_is_least : (m n : ℕ) (p : S) → HasValue a p (Win m) → MatesWithin a n p → m ≤ n
-  win_is_least zero n p v w = absurd v
-  win_is_least (suc m) n p v w = beyond_win m n p v.1 w
+  win_is_least m n p v w = grind (arith, beyond_win)
 
   pub loss_is_least : (m n : ℕ) (p : S) → HasValue a p (Loss m) → IsMatedWithin a n p → m ≤ n
-  loss_is_least zero n p v l = omega arith
-  loss_is_least (suc m) n p v l = beyond_loss m n p v.1 l
+  loss_is_least m n p v l = grind (arith, beyond_loss)
 
   -- what a value says of forced mate
   pub win_mates : (n : ℕ) (p : S) → HasValue a p (Win n) → MatesWithin a n p
   win_mates n p v = grind arith
 
   pub loss_mated : (n : ℕ) (p : S) → HasValue a p (Loss n) → IsMatedWithin a n p
-  loss_mated zero p v = v
-  loss_mated (suc n) p v = v.0
+  loss_mated n p v = grind arith

@@ -1,8 +1,8 @@
 -- What a man may become, one choice after the other.
-use Rattle.std.proofs.Common.{◌≡◌, ℕ, zero, suc, ◌+◌, ◌*◌, ◌<◌, ◌≤◌, ◌↔◌, ◌⊎◌, List, [], ◌∷◌, ◌++◌, length, get_or}
-use Rattle.std.proofs.Common.{true, false, Option, Some, None, arith, refl, sym, ap, ◌∙◌, inl, inr, subst}
+use Rattle.std.proofs.Common.{◌≡◌, ℕ, ◌+◌, ◌*◌, ◌<◌, ◌≤◌, ◌↔◌, ◌⊎◌, List, [], ◌∷◌, ◌++◌, length, get_or}
+use Rattle.std.proofs.Common.{true, false, Option, Some, None, arith, sym, ap, ◌∙◌, inl, inr, subst}
 use Rattle.egt_moves.specs.Prelude.{Contains, cases_eq, length-append, Contains-push, Contains-push_cases}
-use Rattle.egt_moves.specs.Prelude.{Contains-append_left, Kind, Q, R, B, N, P, K, Move, FitsPromotion, plain, place_of}
+use Rattle.egt_moves.specs.Prelude.{Contains-append_left, Kind, Q, R, B, N, Move, FitsPromotion, plain, place_of}
 use Rattle.egt_moves.specs.Prelude.{promotion_place, IsInOrder}
 use Rattle.egt_moves.proofs.InOrder.{IsInOrder-push}
 
@@ -18,29 +18,7 @@ officer_place n other less = grind arith
 
 -- a number tells the promotion
 same_place : (a b : Option Kind) → promotion_place a ≡ promotion_place b → a ≡ b
-same_place None None e = refl
-same_place None (Some Q) e = absurd (omega arith)
-same_place None (Some R) e = absurd (omega arith)
-same_place None (Some B) e = absurd (omega arith)
-same_place None (Some N) e = absurd (omega arith)
-same_place None (Some P) e = absurd (omega arith)
-same_place None (Some K) e = absurd (omega arith)
-same_place (Some a) None e = absurd (some_place a e)
-  where
-    some_place : (kind : Kind) → promotion_place (Some kind) ≡ 0 → ⊥
-    some_place kind h = grind arith
-same_place (Some a) (Some b) e = sym (ap kind_of_place refl ∙ back a) ∙ ap kind_of_place e ∙ back b
-  where
-    kind_of_place : ℕ → Option Kind
-    kind_of_place (suc zero) = Some Q
-    kind_of_place (suc (suc zero)) = Some R
-    kind_of_place (suc (suc (suc zero))) = Some B
-    kind_of_place (suc (suc (suc (suc zero)))) = Some N
-    kind_of_place (suc (suc (suc (suc (suc zero))))) = Some P
-    kind_of_place _ = Some K
-
-    back : (kind : Kind) → kind_of_place (promotion_place (Some kind)) ≡ Some kind
-    back kind = grind arith
+same_place a b e = grind (arith, promotion_place)
 
 pub Chosen-more : (from to : ℕ) (old now : List Move) (n : ℕ) (kind : Kind) → promotion_place (Some kind) ≡ n + 1 → ((m : Move) → Contains old m → place_of m < (from * 64 + to) * 8) → Chosen from to old now n
     → Chosen from to old (now ++ record { from = from; to = to; promo = Some kind } ∷ []) (n + 1)

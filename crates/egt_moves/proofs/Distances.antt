@@ -1,5 +1,5 @@
 -- Zeroing distances: how they go with the number and with the value.
-use Rattle.std.proofs.Common.{◌≡◌, ℕ, zero, suc, ◌≤◌, ◌<◌, ◌⊎◌, inl, inr, refl, ap, arith}
+use Rattle.std.proofs.Common.{◌≡◌, ℕ, zero, suc, ◌≤◌, inl, inr, refl, ap, arith}
 use Rattle.egt_moves.specs.Prelude.{⊎_map, cases_lt, Arena, Value, Win, Loss, Draw, Ends, IsMatedWithin, MatesWithin}
 use Rattle.egt_moves.specs.Prelude.{IsWon, IsLost, IsDraw, HasValue, ZeroesLosingWithin, ZeroesWinningWithin}
 use Rattle.egt_moves.specs.Prelude.{HasZeroing, SameKind}
@@ -8,8 +8,7 @@ use Rattle.egt_moves.proofs.Exclusion.{mates_not_mated}
 
 module _ {S : Type 0} (a : Arena S) where
   pub zeroes_at_once : (n : ℕ) (p : S) → a.Checkmate p → ZeroesLosingWithin a n p
-  zeroes_at_once zero p c = c
-  zeroes_at_once (suc n) p c = inl c
+  zeroes_at_once n p c = grind arith
 
   -- who zeroes within some number zeroes within any greater one
   mutual
@@ -47,32 +46,20 @@ module _ {S : Type 0} (a : Arena S) where
   zeroing_win n p h = grind arith
 
   pub zeroing_loss : (n : ℕ) (p : S) → HasZeroing a p (Loss n) → ZeroesLosingWithin a n p
-  zeroing_loss zero p h = h
-  zeroing_loss (suc n) p h = h.1
+  zeroing_loss n p h = grind arith
 
   pub zeroing_won : (n : ℕ) (p : S) → HasZeroing a p (Win n) → IsWon a p
   zeroing_won n p h = grind arith
 
   pub zeroing_lost : (n : ℕ) (p : S) → HasZeroing a p (Loss n) → IsLost a p
-  zeroing_lost zero p h = (zero, h)
-  zeroing_lost (suc n) p h = h.0
+  zeroing_lost n p h = grind arith
 
   -- its number is the least
   pub zeroing_win_is_least : (m n : ℕ) (p : S) → HasZeroing a p (Win m) → ZeroesWinningWithin a n p → m ≤ n
-  zeroing_win_is_least zero n p h w = absurd h
-  zeroing_win_is_least (suc m) n p h w = go (cases_lt m n)
-    where
-      go : (m < n) ⊎ (n ≤ m) → suc m ≤ n
-      go (inl lt) = lt
-      go (inr le) = absurd (h.2 (zeroes_winning_more n m p le w))
+  zeroing_win_is_least m n p h w = grind (arith, cases_lt, zeroes_winning_more)
 
   pub zeroing_loss_is_least : (m n : ℕ) (p : S) → HasZeroing a p (Loss m) → ZeroesLosingWithin a n p → m ≤ n
-  zeroing_loss_is_least zero n p h l = omega arith
-  zeroing_loss_is_least (suc m) n p h l = go (cases_lt m n)
-    where
-      go : (m < n) ⊎ (n ≤ m) → suc m ≤ n
-      go (inl lt) = lt
-      go (inr le) = absurd (h.2 (zeroes_losing_more n m p le l))
+  zeroing_loss_is_least m n p h l = grind (arith, cases_lt, zeroes_losing_more)
 
   pub won_not_draw : (p : S) → IsWon a p → IsDraw a p → ⊥
   won_not_draw p w d = mates_not_cannot a w.0 p w.1 (d w.0).1

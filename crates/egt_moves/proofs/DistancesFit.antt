@@ -41,14 +41,10 @@ module _ {S : Type 0} (a : Arena S) (z : S → Value) where
   true_loss_reached k p h n v le = zeroes_losing_more a n k p le (zeroing_loss a n p (subst (HasZeroing a p) v h))
 
   true_no_sooner_win : (k : ℕ) (p : S) → HasZeroing a p (z p) → NoSoonerWin k p
-  true_no_sooner_win k p h n v lt w =
-      let le : n ≤ k = zeroing_win_is_least a n k p (subst (HasZeroing a p) v h) w in
-      omega arith
+  true_no_sooner_win k p h n v lt w = grind (arith, zeroing_win_is_least)
 
   true_no_sooner_loss : (k : ℕ) (p : S) → HasZeroing a p (z p) → NoSoonerLoss k p
-  true_no_sooner_loss k p h n v lt l =
-      let le : n ≤ k = zeroing_loss_is_least a n k p (subst (HasZeroing a p) v h) l in
-      omega arith
+  true_no_sooner_loss k p h n v lt l = grind (arith, zeroing_loss_is_least)
 
 module _ {S : Type 0} (a : Arena S) (Own : S → Type 0) (e z : S → Value) (judged : JudgedOver a Own e) (zeroing : ZeroingJudgedOver a Own e z) where
   -- what holds of a class's positions and of true distances holds of each successor
@@ -227,13 +223,7 @@ module _ {S : Type 0} (a : Arena S) (ends : Ends a) (known : Successors a) (e z 
 
   -- what gives the number k to a lost position lets the winner zero within k + 1
   win_from_given : (q : S) (m : a.Move p q) (k : ℕ) → Gives a Loss e z p q m k → ZeroesWinningWithin a (suc k) p
-  win_from_given q m k g = (q, m, value_lost a q (e q) g.0.0 (true_beside.value q m) g.0.1, ⊎_map zeroed goes_on g.1)
-    where
-      zeroed : a.Zeroes p q m × (k ≡ zero) → a.Zeroes p q m
-      zeroed h = h.0
-
-      goes_on : ¬ (a.Zeroes p q m) × (z q ≡ Loss k) → ZeroesLosingWithin a k q
-      goes_on h = zeroing_loss a k q (subst (HasZeroing a q) h.1 (true_beside.distance q m))
+  win_from_given q m k g = grind (arith, value_lost, ⊎_map, zeroing_loss)
 
   fits_win : (n : ℕ) → HasZeroing a p (Win (suc n)) → FitsZeroing a e z p (Win (suc n))
   fits_win n h = ((h.1.0, h.1.1, subst (Gives a Loss e z p h.1.0 h.1.1) same t.1), least)
@@ -294,11 +284,7 @@ module _ {S : Type 0} (a : Arena S) (ends : Ends a) (known : Successors a) (e z 
 
   -- true distances fit
   pub zeroing_fits : (v : Value) → HasZeroing a p v → FitsZeroing a e z p v
-  zeroing_fits (Win zero) h = h
-  zeroing_fits (Win (suc n)) h = fits_win n h
-  zeroing_fits (Loss zero) h = h
-  zeroing_fits (Loss (suc n)) h = fits_loss n h
-  zeroing_fits Draw h = tt
+  zeroing_fits v h = grind (arith, fits_win, fits_loss)
 
 module _ {S : Type 0} (a : Arena S) (ends : Ends a) (known : Successors a) where
   -- a class whose distances are true, beside true distances, is judged

@@ -94,15 +94,10 @@ module _ {S : Type 0} (a : Arena S) (Own : S → Type 0) (e : S → Value) (judg
 
   -- a loss sooner than k + 1 beside would show a win sooner than k + 2
   no_win_step : (k : ℕ) → ((q : S) → Own q → NoSoonerLoss a e k q) → (p : S) → Own p → NoSoonerWin a e (suc k) p
-  no_win_step k next p own over q m = beside (NoSoonerLoss a e k) next (λ r. value_avoids a judged.ends k r (e r)) p q own m far
-    where
-      far : (n : ℕ) → e q ≡ Loss n → k < n
-      far n l = let t = fits_at_loss a judged.ends e p q (e p) n (judged.fits p own) m l in omega (arith, over t.0 t.1, t.2)
+  no_win_step k next p own over q m = grind (arith, beside, value_avoids, fits_at_loss)
 
   not_mated_now : (k : ℕ) (p : S) → Own p → ((n : ℕ) → e p ≡ Loss n → k < n) → ¬ (a.Checkmate p)
-  not_mated_now k p own over c =
-      let below : k < 0 = over zero (fits_at_mate a judged.ends e p (e p) (judged.fits p own) c) in
-      omega arith
+  not_mated_now k p own over c = grind (arith, fits_at_mate)
 
   -- the step to the entry that a win, a loss or a draw rests on keeps the defence going
   no_loss_step : (k : ℕ) → ((q : S) → Own q → NoSoonerWin a e k q) → (p : S) → Own p → NoSoonerLoss a e (suc k) p
@@ -230,8 +225,4 @@ module _ {S : Type 0} (a : Arena S) (ends : Ends a) (known : Successors a) where
 
   -- a class whose entries are true, beside true entries, is judged
   pub true_is_judged : (Own : S → Type 0) (e : S → Value) → ((p : S) → Own p → HasValue a p (e p)) → ((p q : S) → Own p → a.Move p q → Own q ⊎ HasValue a q (e q)) → JudgedOver a Own e
-  true_is_judged Own e value over = record {
-    ends = ends;
-    over = over;
-    fits = λ p own. values_fit e p (e p) (value p own) (λ q m. ⊎_elim (value q) (λ h. h) (over p q own m));
-  }
+  true_is_judged Own e value over = grind (arith, values_fit, ⊎_elim)

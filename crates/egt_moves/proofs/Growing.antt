@@ -1,5 +1,5 @@
 -- The list of moves as it grows.
-use Rattle.std.proofs.Common.{◌≡◌, ◌≢◌, ℕ, ◌+◌, ◌*◌, ◌<◌, ◌≤◌, ◌↔◌, ◌⊎◌, List, length, Bool, Option, Some}
+use Rattle.std.proofs.Common.{◌≡◌, ◌≢◌, ℕ, ◌+◌, ◌*◌, ◌<◌, ◌≤◌, ◌↔◌, ◌⊎◌, List, length, Option, Some}
 use Rattle.std.proofs.Common.{None, arith, refl, sym, ap, ◌∙◌, inl, inr, subst}
 use Rattle.egt_moves.specs.Prelude.{bit_at, Contains, cases_eq, cases_lt, Kind, P, K, Man}
 use Rattle.egt_moves.specs.Prelude.{SquareSet, Stands, Has, size_of, IsInCheck, Setup, Move, Goes, promotes}
@@ -19,16 +19,11 @@ pub fits_of : (p : Setup) (man : Man) (m : Move) → Stands p.men m.from man →
 fits_of p man m stands legal = subst (λ x. FitsPromotion (promotes x m.to) m.promo) (one_man p.men m.from legal.1.man man legal.1.stands stands) legal.1.promotion
 
 pub safe_of : (p : Setup) (man : Man) (m : Move) → Stands p.men m.from man → IsLegal p m → ¬ IsInCheck (men_after p man m) p.side
-safe_of p man m stands legal =
-    subst (λ x. ¬ IsInCheck (men_after p x m) p.side) (one_man p.men m.from legal.1.man man legal.1.stands stands)
-    (subst (λ (q : Setup). ¬ IsInCheck (q.men) p.side) legal.1.becomes legal.1.safe)
+safe_of p man m stands legal = grind (arith, men_after, one_man)
 
 -- a man that is promoted is a pawn
 promoted_pawn : (man : Man) (to : ℕ) (kind : Kind) → FitsPromotion (promotes man to) (Some kind) → man.kind ≡ P
-promoted_pawn man to kind fits = by_test (promotes man to) refl fits
-  where
-    by_test : (b : Bool) → promotes man to ≡ b → FitsPromotion b (Some kind) → man.kind ≡ P
-    by_test b e f = grind arith
+promoted_pawn man to kind fits = grind (arith, promotes)
 
 -- the king is safe whatever a pawn becomes
 pub same_safety : (p : Setup) (man : Man) (from to : ℕ) (promo : Option Kind) → man.side ≡ p.side → FitsPromotion (promotes man to) promo
@@ -119,13 +114,7 @@ Lists-more p man from s old now new left left' stands s_in has least gone others
     was_left t one = elim (cases_eq t s) [ inl e ↦ absurd (not_both (bit_at left'.bits s) gone (ap (bit_at left'.bits) (sym e) ∙ one)) | inr other ↦ sym (others t other) ∙ one ]
 
     above : (t : ℕ) → bit_at left'.bits t ≡ 1 → s < t
-    above t one = elim (cases_lt s t) [
-      | inl lt ↦ lt
-      | inr le ↦ elim (cases_eq t s) [
-        | inl e ↦ absurd (not_both (bit_at left'.bits s) gone (ap (bit_at left'.bits) (sym e) ∙ one))
-        | inr other ↦ absurd (not_both (bit_at left.bits t) (least t (omega arith)) (was_left t one))
-      ]
-    ]
+    above t one = grind (arith, cases_lt, cases_eq, not_both)
 
     room_less : (kind : Kind) (n' n l l' o : ℕ) → n' + 1 ≡ n → l' ≤ l + most_choices kind → l + most_choices kind * n ≤ o + most_moves kind → l' + most_choices kind * n' ≤ o + most_moves kind
     room_less kind n' n l l' o e a b = grind arith
@@ -153,17 +142,11 @@ Lists-more p man from s old now new left left' stands s_in has least gone others
 
 -- what is listed comes before the moves to the first square that is left
 pub Lists-before : (p : Setup) (man : Man) (from s : ℕ) (old now : List Move) (left : SquareSet) → Has left s → Lists p man from old now left → (m : Move) → Contains now m → place_of m < (from * 64 + s) * 8
-Lists-before p man from s old now left has lists m there = elim (lists.later m there) [
-  | inl lt ↦ omega arith
-  | inr h ↦ let less = h.1 s has in let e = h.0 in let small = promotion_small m.promo in omega arith
-]
+Lists-before p man from s old now left has lists m there = grind (arith, promotion_small)
 
 -- there is room for its moves
 pub Lists-room : (p : Setup) (man : Man) (from : ℕ) (old now : List Move) (left left' : SquareSet) → size_of left' + 1 ≡ size_of left → length old + most_moves man.kind ≤ 64 → Lists p man from old now left → length now + most_choices man.kind ≤ 64
-Lists-room p man from old now left left' size room lists = enough man.kind (size_of left') (size_of left) (length now) (length old) size room lists.room
-  where
-    enough : (kind : Kind) (n' n l o : ℕ) → n' + 1 ≡ n → o + most_moves kind ≤ 64 → l + most_choices kind * n ≤ o + most_moves kind → l + most_choices kind ≤ 64
-    enough kind n' n l o e a b = grind arith
+Lists-room p man from old now left left' size room lists = grind (arith, size_of, length, most_moves)
 
 -- no square is left
 pub Lists-all : (p : Setup) (man : Man) (from : ℕ) (old new : List Move) (left : SquareSet) → Lists p man from old new left → ((t : ℕ) → bit_at left.bits t ≡ 0)

@@ -7,8 +7,7 @@ use Rattle.std.proofs.Common.{arith}
 module _ {S : Type 0} (a : Arena S) where
   -- what is mated within k after a step of one that cannot mate within k is a loss in k
   loss_after : (k : ℕ) (p q : S) → CannotMateWithin a k p → a.Move p q → IsMatedWithin a k q → HasValue a q (Loss k)
-  loss_after zero p q d m l = l
-  loss_after (suc k) p q d m l = (l, d q m)
+  loss_after k p q d m l = grind arith
 
   -- a win has a step to a loss one ply less
   pub win_goes_on : (n : ℕ) (p : S) → HasValue a p (Win (suc n)) → SomeMove a p (λ q. HasValue a q (Loss n))
@@ -16,11 +15,7 @@ module _ {S : Type 0} (a : Arena S) where
 
   -- at a loss each step leads to a win of no more than one ply less
   pub loss_goes_down : (n : ℕ) (p : S) → HasValue a p (Loss (suc n)) → EachMove a p (MatesWithin a n)
-  loss_goes_down n p h = go h.0
-    where
-      go : IsMatedWithin a (suc n) p → EachMove a p (MatesWithin a n)
-      go (inl c) = absurd (not_mated a n p h.1 c)
-      go (inr l) = l.1
+  loss_goes_down n p h = grind (arith, not_mated)
 
   -- and one step to a win of exactly one ply less
   pub loss_goes_on : (n : ℕ) (p : S) → HasValue a p (Loss (suc n)) → SomeMove a p (λ q. HasValue a q (Win n))

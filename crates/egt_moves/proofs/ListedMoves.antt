@@ -12,10 +12,7 @@ use Rattle.egt_moves.proofs.InOrder.{Contains-head, Contains-tail}
 
 -- the first, or a later one
 Contains-cases : {X : Type 0} (x y : X) (xs : List X) → Contains (x ∷ xs) y → (x ≡ y) ⊎ Contains xs y
-Contains-cases x y xs h = go h.0 h.1 h.2
-  where
-    go : (k : ℕ) → k < length (x ∷ xs) → slice_index_or (x ∷ xs) k y ≡ y → (x ≡ y) ⊎ Contains xs y
-    go k lt e = grind arith
+Contains-cases x y xs h = grind (arith, length, slice_index_or)
 
 Contains-none : {A : Type 0} (m : Move) → Contains [] m → A
 Contains-none m h = absurd (omega (arith, h.1))
@@ -125,8 +122,7 @@ rising-ordered from to o (o' ∷ os) rising = (
 )
 
 between-ordered : (from to : ℕ) → IsInOrder (moves_between from to)
-between-ordered from to = rising-ordered from to None (Some Q ∷ Some R ∷ Some B ∷ Some N ∷ Some P ∷ Some K ∷ [])
-    (omega arith, (omega arith, (omega arith, (omega arith, (omega arith, (omega arith, tt))))))
+between-ordered from to = grind (arith, rising-ordered)
 
 -- the moves from one square
 from-is : (from n : ℕ) (m : Move) → Contains (moves_from from n) m → (m.from ≡ from) × (m.to < n)

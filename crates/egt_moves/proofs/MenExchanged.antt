@@ -1,13 +1,13 @@
 -- What a legal move does to the counts of men.
-use Rattle.std.proofs.Common.{◌≡◌, ◌≢◌, ℕ, ◌+◌, ◌<◌, ◌&&◌, ◌==◌, Option, Some, None, IfSome, true, false, Bool, refl}
+use Rattle.std.proofs.Common.{◌≡◌, ◌≢◌, ℕ, ◌+◌, ◌<◌, Option, Some, None, IfSome, true, false, Bool, refl}
 use Rattle.std.proofs.Common.{sym, ap, ◌∙◌, inl, inr, subst, if◌then◌else◌, arith}
-use Rattle.egt_moves.specs.Prelude.{IsSome, is_some, eqb-true, eq-eqb, and_parts, false≢true, Side, Kind}
+use Rattle.egt_moves.specs.Prelude.{IsSome, is_some, and_parts, Side, Kind}
 use Rattle.egt_moves.specs.Prelude.{P, K, Man, other_side, rank_of, Placement, Stands, get-remove_other, ahead, pawn_of}
-use Rattle.egt_moves.specs.Prelude.{last_rank, IsTarget, target_rank, king_of, Setup, IsAdmissible, count_of}
-use Rattle.egt_moves.specs.Prelude.{stands_here, sides_differ, side_twice, Move, Captures, Exchanges, is_pawn, promotes}
+use Rattle.egt_moves.specs.Prelude.{last_rank, IsTarget, target_rank, Setup, IsAdmissible, count_of}
+use Rattle.egt_moves.specs.Prelude.{stands_here, side_twice, Move, Captures, Exchanges, is_pawn, promotes}
 use Rattle.egt_moves.specs.Prelude.{IsOfficer, FitsPromotion, arriving, is_target, takes_in_passing, men_left, Leads}
 use Rattle.std.specs.FinMap as map
-use Rattle.egt_moves.proofs.After.{one_man, not_free, target_is, goes_on_board, goes_not_own, goes_to_attacked}
+use Rattle.egt_moves.proofs.After.{one_man, not_free, target_is, goes_on_board, goes_not_own}
 use Rattle.egt_moves.proofs.Admissible.{pawn_told}
 use Rattle.egt_board.proofs.Sides.{side_cases}
 
@@ -19,10 +19,6 @@ pub record Changes : Type 0 where
 target_told : (o : Option ℕ) (to : ℕ) → is_target o to ≡ true → o ≡ Some to
 target_told o to e = grind arith
 
-tell_passing : (p : Setup) (man : Man) (to : ℕ) → man.kind ≡ P → p.target ≡ Some to → takes_in_passing p man to ≡ true
-tell_passing p man to pawn target =
-    ap (λ k. is_pawn k && is_target p.target to) pawn ∙ ap (λ o. is_target o to) target ∙ eq-eqb to to refl
-
 is_some-at : (o : Option Man) → IsSome o → (man : Man) × (o ≡ Some man)
 is_some-at o some = grind arith
 
@@ -31,16 +27,7 @@ some_is o man e = ap is_some e
 
 -- a pawn is promoted on the last rank
 promotion_told : (man : Man) (to : ℕ) (kind : Kind) → FitsPromotion (promotes man to) (Some kind) → (man.kind ≡ P) × IsOfficer kind × (rank_of to ≡ last_rank man.side)
-promotion_told man to kind fits = by_test (promotes man to) refl fits
-  where
-    by_test : (b : Bool) → promotes man to ≡ b → FitsPromotion b (Some kind) → (man.kind ≡ P) × IsOfficer kind × (rank_of to ≡ last_rank man.side)
-    by_test true e officer =
-        let both = and_parts (is_pawn man.kind) (rank_of to == last_rank man.side) e in
-        (pawn_told man.kind both.0, officer, eqb-true (rank_of to) (last_rank man.side) both.1)
-    by_test false e none = absurd none
-
-no_pawn_last : (side : Side) (r : ℕ) → (0 < r) × (r < 7) → r ≡ last_rank side → ⊥
-no_pawn_last side r h e = grind arith
+promotion_told man to kind fits = grind (arith, promotes, rank_of, last_rank)
 
 no_target_last : (side other : Side) → target_rank side ≡ last_rank other → ⊥
 no_target_last side other e = grind arith
@@ -74,20 +61,7 @@ module _ (changes : Changes) (p q : Setup) (m : Move) (ok : IsAdmissible p) (ste
 
   -- a man on the square arrived at is an enemy, and no king
   enemy : (other : Man) → Stands p.men m.to other → (other.side ≡ other_side p.side) × (other.kind ≢ K)
-  enemy other stands = elim (side_cases other.side p.side) [
-    | inl own ↦ absurd (goes_not_own p step.man m.from m.to ok step.goes (record { man = other; stands = stands; theirs = own }))
-    | inr theirs ↦ (
-      theirs,
-      λ king. ok.quiet (record {
-        square = m.to;
-        stands = stands ∙ ap Some (man_is theirs king);
-        attacked = record { from = m.from; man = step.man; stands = step.stands; theirs = step.mine ∙ sym (side_twice p.side); reaches = goes_to_attacked p step.man other m.from m.to step.goes stands };
-      }),
-    )
-  ]
-    where
-      man_is : other.side ≡ other_side p.side → other.kind ≡ K → other ≡ king_of (other_side p.side)
-      man_is theirs king = λ i. record { side = theirs i; kind = king i }
+  enemy other stands = grind (arith, side_cases, goes_not_own, side_twice)
 
   promoted_if : (taken : Option Man) → (rank_of m.to ≡ last_rank step.man.side → IfSome taken (λ other. other.kind ≢ P)) → (promo : Option Kind) → m.promo ≡ promo
       → IfSome promo (λ kind. (step.man.kind ≡ P) × IsOfficer kind × IfSome taken (λ other. other.kind ≢ P))
@@ -102,10 +76,7 @@ module _ (changes : Changes) (p q : Setup) (m : Move) (ok : IsAdmissible p) (ste
     all_left = ap (λ b. if b then map.remove p.men cap else p.men) none
 
     captures : Captures p m → IsSome (map.get p.men m.to)
-    captures (inl held) = some_is (map.get p.men m.to) held.man held.stands
-    captures (inr passing) =
-        let same = one_man p.men m.from passing.0.man step.man passing.0.stands step.stands in
-        absurd (false≢true (sym none ∙ tell_passing p step.man m.to (ap (λ (x : Man). x.kind) (sym same) ∙ passing.0.pawn) passing.1))
+    captures h = grind (arith, some_is, map.get, one_man)
 
     captured : IsSome (map.get p.men m.to) → Captures p m
     captured some = let at = is_some-at (map.get p.men m.to) some in inl (record { man = at.0; stands = at.1; theirs = (enemy at.0 at.1).0 })
@@ -147,9 +118,7 @@ module _ (changes : Changes) (p q : Setup) (m : Move) (ok : IsAdmissible p) (ste
     cap_in = ok.on_board cap (pawn_of (other_side p.side)) is.advanced
 
     from_apart : m.from ≢ cap
-    from_apart e =
-        let same = one_man p.men m.from step.man (pawn_of (other_side p.side)) step.stands (ap (map.get p.men) e ∙ is.advanced) in
-        sides_differ p.side (sym step.mine ∙ ap (λ (x : Man). x.side) same)
+    from_apart e = grind (arith, one_man, pawn_of, other_side)
 
     to_apart : m.to ≢ cap
     to_apart e = not_free p.men m.to (pawn_of (other_side p.side)) is.empty (ap (map.get p.men) e ∙ is.advanced)

@@ -1,10 +1,10 @@
 -- The men after a move, told by those before.
-use Rattle.std.proofs.Common.{◌≡◌, ◌≢◌, ℕ, ◌⊎◌, ◌&&◌, Option, Some, None, true, false, Bool, refl, sym, ap, ◌∙◌, inl}
+use Rattle.std.proofs.Common.{◌≡◌, ◌≢◌, ℕ, ◌⊎◌, Option, Some, None, sym, ap, ◌∙◌, inl}
 use Rattle.std.proofs.Common.{inr, subst, if◌then◌else◌, ◌==◌, arith}
 use Rattle.egt_moves.specs.Prelude.{eqb_tells, Side, White, Black, Kind, K, Man, HasAllMen, AreApart, king_of}
 use Rattle.egt_moves.specs.Prelude.{IsInCheck, StandsBeside, other_side, ahead, last_rank, rank_of, Placement, Stands}
 use Rattle.egt_moves.specs.Prelude.{one_man, Setup, IsAdmissible, IsKingOn, Move, entry_after, square_after, Leads}
-use Rattle.egt_moves.specs.Prelude.{after, is_target, men_left, men_after, is_pawn, promotes, FitsPromotion, arriving}
+use Rattle.egt_moves.specs.Prelude.{after, men_left, men_after, is_pawn, promotes, FitsPromotion, arriving}
 use Rattle.egt_moves.proofs.Admissible.{admissible_after}
 use Rattle.egt_moves.proofs.After.{after_to, after_other, after_cases, MayBecome, may_become, not_king_of}
 use Rattle.std.specs.FinMap as map
@@ -14,13 +14,7 @@ Entry = Option (Man × ℕ)
 
 -- a move that does not arrive on the target takes nothing in passing
 not_passing : (p : Setup) (man : Man) (to : ℕ) → p.target ≢ Some to → men_left p man to ≡ p.men
-not_passing p man to off = ap (λ b. if b then map.remove p.men (ahead (other_side p.side) to) else p.men) (none (is_pawn man.kind))
-  where
-    away : (o : Option ℕ) → o ≢ Some to → is_target o to ≡ false
-    away o other = grind arith
-
-    none : (b : Bool) → (b && is_target p.target to) ≡ false
-    none b = grind arith
+not_passing p man to off = grind (arith, map.remove, ahead, other_side)
 
 -- who neither moves nor is taken stays
 stays : (p : Setup) (man : Man) (m : Move) (t : ℕ) (other : Man) → p.target ≢ Some m.to → t ≢ m.from → t ≢ m.to → Stands p.men t other → Stands (men_after p man m) t other
@@ -32,8 +26,7 @@ arrives_beside man promo may other is = not_king_of man promo (arriving man prom
 
 -- and a king where one did
 king_stays_king : (man : Man) (to : ℕ) (promo : Option Kind) → FitsPromotion (promotes man to) promo → (arriving man promo).kind ≢ K → man.kind ≢ K
-king_stays_king man to None fits other is = other is
-king_stays_king man to (Some kind) fits other is = subst (λ k. FitsPromotion (is_pawn k && (rank_of to == last_rank man.side)) (Some kind)) is fits
+king_stays_king man to promo fits other is = grind (arith, is_pawn, rank_of, last_rank)
 
 entry_stands : (p : Setup) (man : Man) (m : Move) (entry : Entry) → Stands p.men m.from man → MayBecome m.promo → p.target ≢ Some m.to → StandsBeside p.men entry → StandsBeside (men_after p man m) (entry_after entry m)
 entry_stands p man m None stands may off beside = tt
@@ -50,41 +43,14 @@ entry_stands p man m (Some e) stands may off beside = elim (eqb_tells e.1 m.from
 
 -- who left is where he arrived, and who stood elsewhere is there
 entry_moved : (entry : Entry) (man : Man) (m : Move) → entry ≡ Some (man, m.from) → entry_after entry m ≡ Some (arriving man m.promo, m.to)
-entry_moved entry man m is = ap (λ o. entry_after o m) is ∙ elim (eqb_tells m.from m.from) [
-  | inl h ↦ ap (λ b. if b then Some (arriving man m.promo, m.to) else (if m.from == m.to then None else Some (man, m.from))) h.0
-  | inr h ↦ absurd (h.1 refl)
-]
+entry_moved entry man m is = grind (arith, entry_after, eqb_tells, arriving)
 
 entry_kept : (entry : Entry) (man : Man) (s : ℕ) (m : Move) → s ≢ m.from → s ≢ m.to → entry ≡ Some (man, s) → entry_after entry m ≡ Some (man, s)
-entry_kept entry man s m not_from not_to is = ap (λ o. entry_after o m) is ∙ elim (eqb_tells s m.from) [
-  | inl h ↦ absurd (not_from h.1)
-  | inr h ↦ ap (λ b. if b then Some (arriving man m.promo, m.to) else (if s == m.to then None else Some (man, s))) h.0 ∙ elim (eqb_tells s m.to) [
-    | inl g ↦ absurd (not_to g.1)
-    | inr g ↦ ap (λ b. if b then None else Some (man, s)) g.0
-  ]
-]
+entry_kept entry man s m not_from not_to is = grind (arith, entry_after, eqb_tells, arriving)
 
 -- men on squares of their own go to squares of their own
 entries_apart : (one other : Entry) (m : Move) → AreApart one other → AreApart (entry_after one m) (entry_after other m)
-entries_apart None other m apart = tt
-entries_apart (Some e) None m apart = nobody (entry_after (Some e) m)
-  where
-    nobody : (o : Entry) → AreApart o None
-    nobody o = grind arith
-entries_apart (Some e) (Some d) m apart = by_tests (e.1 == m.from) (e.1 == m.to) (d.1 == m.from) (d.1 == m.to) (told e.1 m.from) (told e.1 m.to) (told d.1 m.from) (told d.1 m.to)
-  where
-    -- the test tells whether the squares are the same
-    Tells : Bool → ℕ → ℕ → Type 0
-    Tells b s t = ((b ≡ true) × (s ≡ t)) ⊎ ((b ≡ false) × (s ≢ t))
-
-    told : (s t : ℕ) → Tells (s == t) s t
-    told s t = eqb_tells s t
-
-    goes : Bool → Bool → Man × ℕ → Entry
-    goes from to x = if from then Some (arriving x.0 m.promo, m.to) else (if to then None else Some x)
-
-    by_tests : (a b c d' : Bool) → Tells a e.1 m.from → Tells b e.1 m.to → Tells c d.1 m.from → Tells d' d.1 m.to → AreApart (goes a b e) (goes c d' d)
-    by_tests a b c d' x y z w = grind arith
+entries_apart one other m apart = grind (arith, entry_after, eqb_tells, arriving)
 
 -- the king's square after the move, of which it is known that he has one
 king_told : (p : Setup) (man : Man) (m : Move) (side : Side) (k s : ℕ) → IsAdmissible p → Stands p.men m.from man → MayBecome m.promo → IsKingOn p.men side k → IsKingOn (men_after p man m) side s → IsKingOn (men_after p man m) side (square_after k m)

@@ -1,10 +1,10 @@
 -- In a mirror each legal move has its like.
-use Rattle.std.proofs.Common.{◌≡◌, ◌≢◌, ℕ, ◌+◌, ◌/◌, ◌==◌, ◌<◌, ◌⊎◌, ◌&&◌, ◌||◌, Bool, true, false, if◌then◌else◌}
+use Rattle.std.proofs.Common.{◌≡◌, ◌≢◌, ℕ, ◌+◌, ◌/◌, ◌<◌, Bool, true, false, if◌then◌else◌}
 use Rattle.std.proofs.Common.{Option, Some, None, arith, refl, sym, ap, ◌∙◌, subst, inl, inr}
 use Rattle.egt_moves.specs.Prelude.{option_map, cases_eq, false≢true, and_parts, eqb_tells, Mirror, Files, Ranks}
-use Rattle.egt_moves.specs.Prelude.{Diagonal, Colours, Side, Kind, Q, R, B, N, P, K, Man, other_side}
+use Rattle.egt_moves.specs.Prelude.{Diagonal, Colours, Side, Kind, P, Man, other_side}
 use Rattle.egt_moves.specs.Prelude.{rank_of, Placement, Stands, IsFree, IsHeld, get-remove_same, get-remove_other}
-use Rattle.egt_moves.specs.Prelude.{ahead, last_rank, HasNoPawn, king_of, IsAttacked, IsInCheck, Setup, IsAdmissible}
+use Rattle.egt_moves.specs.Prelude.{ahead, HasNoPawn, king_of, IsAttacked, IsInCheck, Setup, IsAdmissible}
 use Rattle.egt_moves.specs.Prelude.{square_by, side_by, man_by, IsMirrored, Allows, Move, chess, Zeroes, Goes, is_pawn}
 use Rattle.egt_moves.specs.Prelude.{promotes, FitsPromotion, arriving, Leads, is_target, takes_in_passing, men_left}
 use Rattle.egt_moves.specs.Prelude.{men_after, is_two_ranks, passed, after, Alike, HasLike, AreMirrored, IsCheckmate}
@@ -12,7 +12,7 @@ use Rattle.egt_moves.specs.Prelude.{goes_on_board}
 use Rattle.std.specs.FinMap as map
 use Rattle.egt_board.specs.MirrorLaws as mirrors
 use Rattle.egt_moves.proofs.After.{target_is, after_to, after_from, after_other, after_cases}
-use Rattle.egt_moves.proofs.Admissible.{admissible_after, arrived_pawn, pawn_told, Forward, two_ranks_told, Leap}
+use Rattle.egt_moves.proofs.Admissible.{admissible_after, arrived_pawn, pawn_told, Forward, Leap}
 
 -- a mirror that the men allow is allowed by their image
 allows_by : (m : Mirror) (men men' : Placement) → mirrors.ShowsMen m men men' → mirrors.OnBoard men' → Allows m men → Allows m men'
@@ -83,10 +83,7 @@ other_side_there m p p' r = mirrors.side_by-other m p.side ∙ ap other_side (sy
 
 -- a man of this side, there of the side that it becomes
 held_back : (m : Mirror) (p p' : Setup) (s : ℕ) → AreMirrored m p p' → s < 64 → IsHeld p'.men (square_by m s) p'.side → IsHeld p.men s p.side
-held_back m p p' s r s_in held =
-    subst (λ t. IsHeld p.men t p.side) (mirrors.square_by-twice m s s_in)
-    (subst (IsHeld p.men (square_by m (square_by m s))) (ap (side_by m) r.mirrored.side ∙ mirrors.side_by-twice m p.side)
-    (held_there m p' p (square_by m s) p'.side (back_again m p p' r) held))
+held_back m p p' s r s_in held = grind (arith, mirrors.square_by-twice, square_by, side_by)
 
 goes_there : (m : Mirror) (p p' : Setup) (man : Man) (from to : ℕ) → AreMirrored m p p' → Stands p.men from man → Goes p man from to → Goes p' (man_by m man) (square_by m from) (square_by m to)
 goes_there m p p' man from to r stands goes = by_way goes
@@ -121,31 +118,16 @@ goes_there m p p' man from to r stands goes = by_way goes
 
 -- a pawn is promoted in the mirror where it is promoted here
 promotes_there : (m : Mirror) (man : Man) (to : ℕ) → mirrors.Suits m man.kind → to < 64 → promotes (man_by m man) (square_by m to) ≡ promotes man to
-promotes_there m man to suits to_in = by_kind man.kind suits
-  where
-    by_kind : (kind : Kind) → mirrors.Suits m kind → (is_pawn kind && (rank_of (square_by m to) == last_rank (side_by m man.side))) ≡ (is_pawn kind && (rank_of to == last_rank man.side))
-    by_kind kind suits = grind arith
+promotes_there m man to suits to_in = grind (arith, mirrors.Suits, is_pawn, rank_of)
 
 arriving_there : (m : Mirror) (man : Man) (promo : Option Kind) → arriving (man_by m man) promo ≡ man_by m (arriving man promo)
 arriving_there m man promo = grind arith
 
 target_told : (target : Option ℕ) (to : ℕ) → is_target target to ≡ true → target ≡ Some to
-target_told None to e = absurd (false≢true e)
-target_told (Some t) to e = elim (eqb_tells t to) [
-  | inl h ↦ ap Some h.1
-  | inr h ↦ absurd (false≢true (sym h.0 ∙ e))
-]
+target_told target to e = grind (arith, false≢true, eqb_tells)
 
 takes_in_passing_there : (m : Mirror) (p p' : Setup) (man : Man) (to : ℕ) → AreMirrored m p p' → to < 64 → takes_in_passing p' (man_by m man) (square_by m to) ≡ takes_in_passing p man to
-takes_in_passing_there m p p' man to r to_in = ap (λ b. is_pawn man.kind && b) (by_target p.target refl)
-  where
-    by_target : (o : Option ℕ) → p.target ≡ o → is_target p'.target (square_by m to) ≡ is_target p.target to
-    by_target None e = ap (λ o. is_target o (square_by m to)) (r.mirrored.target ∙ ap (option_map (square_by m)) e) ∙ sym (ap (λ o. is_target o to) e)
-    by_target (Some t) e =
-        let t_in = target_within p t r.here e in
-        ap (λ o. is_target o (square_by m to)) (r.mirrored.target ∙ ap (option_map (square_by m)) e)
-        ∙ mirrors.same_test (square_by m t) (square_by m to) t to (λ f. sym (mirrors.square_by-twice m t t_in) ∙ ap (square_by m) f ∙ mirrors.square_by-twice m to to_in) (λ f. ap (square_by m) f)
-        ∙ sym (ap (λ o. is_target o to) e)
+takes_in_passing_there m p p' man to r to_in = grind (arith, is_pawn, is_target, square_by)
 
 -- the men without a pawn taken in passing, here and in the mirror
 left_there : (m : Mirror) (p p' : Setup) (man : Man) (to t : ℕ) → AreMirrored m p p' → mirrors.Suits m man.kind → to < 64 → t < 64 → map.get (men_left p' (man_by m man) (square_by m to)) (square_by m t) ≡ option_map (man_by m) (map.get (men_left p man to) t)
@@ -205,43 +187,14 @@ men_there m p p' man x r suits from_in to_in = λ t t_in. elim (cases_eq t x.to)
 ]
 
 on_board_after : (p : Setup) (man : Man) (x : Move) → IsAdmissible p → x.to < 64 → mirrors.OnBoard (men_after p man x)
-on_board_after p man x ok to_in s other there = elim (after_cases p man x s other ok there) [
-  | inl h ↦ subst (λ t. t < 64) (sym h.0) to_in
-  | inr h ↦ ok.on_board s other h.2
-]
+on_board_after p man x ok to_in s other there = grind (arith, after_cases)
 
 -- no move makes a pawn
 pub no_pawn_after : (p : Setup) (man : Man) (x : Move) → IsAdmissible p → Stands p.men x.from man → FitsPromotion (promotes man x.to) x.promo → HasNoPawn p.men → HasNoPawn (men_after p man x)
-no_pawn_after p man x ok stands fits none s other there pawn = elim (after_cases p man x s other ok there) [
-  | inl h ↦ none x.from man stands (arrived_pawn man x.to x.promo fits (ap (λ (y : Man). y.kind) (sym h.1) ∙ pawn)).0
-  | inr h ↦ none s other h.2 pawn
-]
+no_pawn_after p man x ok stands fits none s other there pawn = grind (arith, after_cases, arrived_pawn)
 
 allows_after : (m : Mirror) (p : Setup) (man : Man) (x : Move) → IsAdmissible p → Stands p.men x.from man → FitsPromotion (promotes man x.to) x.promo → Allows m p.men → Allows m (men_after p man x)
-allows_after Files p man x ok stands fits allows = tt
-allows_after Ranks p man x ok stands fits allows = no_pawn_after p man x ok stands fits allows
-allows_after Diagonal p man x ok stands fits allows = no_pawn_after p man x ok stands fits allows
-allows_after Colours p man x ok stands fits allows = tt
-
--- two ranks lie between in the mirror where they do here
-two_ranks_there : (m : Mirror) (s t : ℕ) → mirrors.Suits m P → s < 64 → t < 64 → is_two_ranks (square_by m s) (square_by m t) ≡ is_two_ranks s t
-two_ranks_there Files s t suits s_in t_in =
-    ap (λ a. (rank_of (square_by Files t) == a + 2) || (a == rank_of (square_by Files t) + 2)) (rank_kept s s_in)
-    ∙ ap (λ b. (b == rank_of s + 2) || (rank_of s == b + 2)) (rank_kept t t_in)
-  where
-    rank_kept : (u : ℕ) → u < 64 → rank_of (square_by Files u) ≡ rank_of u
-    rank_kept u u_in = omega arith
-two_ranks_there Ranks s t suits s_in t_in = absurd (suits refl)
-two_ranks_there Diagonal s t suits s_in t_in = absurd (suits refl)
-two_ranks_there Colours s t suits s_in t_in =
-    ap (λ b. b || (rank_of (square_by Colours s) == rank_of (square_by Colours t) + 2))
-    (mirrors.same_test (rank_of (square_by Colours t)) (rank_of (square_by Colours s) + 2) (rank_of s) (rank_of t + 2) (λ e. omega arith) (λ e. omega arith))
-    ∙ ap (λ b. (rank_of s == rank_of t + 2) || b)
-    (mirrors.same_test (rank_of (square_by Colours s)) (rank_of (square_by Colours t) + 2) (rank_of t) (rank_of s + 2) (λ e. omega arith) (λ e. omega arith))
-    ∙ swapped (rank_of s == rank_of t + 2) (rank_of t == rank_of s + 2)
-  where
-    swapped : (a b : Bool) → (a || b) ≡ (b || a)
-    swapped a b = grind arith
+allows_after m p man x ok stands fits allows = grind (arith, no_pawn_after)
 
 -- the square halfway of an advance by two, in the mirror
 halfway_there : (m : Mirror) (F : ℕ → Type 0) (side : Side) (from to : ℕ) → mirrors.Suits m P → Leap F side from to → (square_by m from + square_by m to) / 2 ≡ square_by m ((from + to) / 2)
@@ -250,27 +203,7 @@ halfway_there m F side from to suits l = grind arith
 
 -- the square that a pawn passes, here and in the mirror
 passed_there : (m : Mirror) (p : Setup) (man : Man) (from to : ℕ) → mirrors.Suits m man.kind → from < 64 → Goes p man from to → passed (man_by m man) (square_by m from) (square_by m to) ≡ option_map (square_by m) (passed man from to)
-passed_there m p man from to suits from_in goes = by_test (is_pawn man.kind && is_two_ranks from to) refl
-  where
-    same : (kind : Kind) → mirrors.Suits m kind → (is_pawn kind && is_two_ranks (square_by m from) (square_by m to)) ≡ (is_pawn kind && is_two_ranks from to)
-    same P suits = two_ranks_there m from to suits from_in (goes_on_board p man from to goes)
-    same Q suits = refl
-    same R suits = refl
-    same B suits = refl
-    same N suits = refl
-    same K suits = refl
-
-    halfway : man.kind ≡ P → (rank_of to ≡ rank_of from + 2) ⊎ (rank_of from ≡ rank_of to + 2) → Goes p man from to → (square_by m from + square_by m to) / 2 ≡ square_by m ((from + to) / 2)
-    halfway pawn ranks h = grind arith
-
-    by_test : (b : Bool) → (is_pawn man.kind && is_two_ranks from to) ≡ b → passed (man_by m man) (square_by m from) (square_by m to) ≡ option_map (square_by m) (passed man from to)
-    by_test false e =
-        ap (λ b. if b then Some ((square_by m from + square_by m to) / 2) else None) (same man.kind suits ∙ e)
-        ∙ sym (ap (λ b. option_map (square_by m) (if b then Some ((from + to) / 2) else None)) e)
-    by_test true e =
-        ap (λ b. if b then Some ((square_by m from + square_by m to) / 2) else None) (same man.kind suits ∙ e)
-        ∙ ap Some (halfway (pawn_told man.kind (and_parts (is_pawn man.kind) _ e).0) (two_ranks_told from to (and_parts (is_pawn man.kind) _ e).1) goes)
-        ∙ sym (ap (λ b. option_map (square_by m) (if b then Some ((from + to) / 2) else None)) e)
+passed_there m p man from to suits from_in goes = grind (arith, is_pawn, is_two_ranks, mirrors.Suits)
 
 -- a legal move has its like in the mirror
 pub leads_there : (m : Mirror) (p p' q : Setup) (x : Move) → AreMirrored m p p' → Leads p x q → (q' : Setup) × Leads p' (move_by m x) q' × AreMirrored m q q'

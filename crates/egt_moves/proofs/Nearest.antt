@@ -1,8 +1,8 @@
 -- The nearest checkmate by legal steps of both sides: a least number, that entries which fit show, and that positions which play alike share.
-use Rattle.std.proofs.Common.{◌≡◌, ℕ, zero, suc, ◌≤◌, ◌<◌, ◌⊎◌, ◌↔◌, inl, inr, refl, sym, subst, ap, arith, ◌∙◌}
+use Rattle.std.proofs.Common.{◌≡◌, ℕ, zero, suc, ◌≤◌, ◌<◌, ◌⊎◌, ◌↔◌, inl, inr, refl, subst, ap, arith, ◌∙◌}
 use Rattle.std.proofs.Common.{Option, Some, None}
 use Rattle.egt_moves.specs.Prelude.{⊎_elim, ⊎_swap, cases_lt, Arena, SomeMove, EachMove, IsStalemate, IsMatedWithin}
-use Rattle.egt_moves.specs.Prelude.{MatesWithin, IsDraw, Successors, Alike, ReachesMateWithin, ReachesNoMateBefore}
+use Rattle.egt_moves.specs.Prelude.{MatesWithin, IsDraw, Successors, Alike, ReachesMateWithin}
 use Rattle.egt_moves.specs.Prelude.{IsDead, HasReach, FitsReach, ReachJudgedOver}
 use Rattle.egt_moves.proofs.Likeness.{alike_backwards}
 use Rattle.egt_moves.proofs.Halves.{each_or_some_move, mated_or_avoids, mates_or_cannot}
@@ -10,8 +10,7 @@ use Rattle.egt_moves.proofs.Halves.{each_or_some_move, mated_or_avoids, mates_or
 module _ {S : Type 0} (a : Arena S) where
   -- checkmate is reached within any number
   reached_at_once : (n : ℕ) (p : S) → a.Checkmate p → ReachesMateWithin a n p
-  reached_at_once zero p c = c
-  reached_at_once (suc n) p c = inl c
+  reached_at_once n p c = grind arith
 
   -- a line of some number of steps is one of any greater number
   pub reaches_more : (m n : ℕ) (p : S) → m ≤ n → ReachesMateWithin a m p → ReachesMateWithin a n p
@@ -37,26 +36,15 @@ module _ {S : Type 0} (a : Arena S) where
 
   -- where no step leads on and there is no checkmate, none is reached
   pub stalemate_dead : (p : S) → IsStalemate a p → IsDead a p
-  stalemate_dead p s zero c = s.1 c
-  stalemate_dead p s (suc n) (inl c) = s.1 c
-  stalemate_dead p s (suc n) (inr h) = s.0 h.0 h.1
+  stalemate_dead p s h c = grind arith
 
   -- a number that is reached is no less than the least
   pub least_reach : (m n : ℕ) (p : S) → HasReach a p (Some m) → ReachesMateWithin a n p → m ≤ n
-  least_reach zero n p h r = omega arith
-  least_reach (suc m) n p h r = go (cases_lt n (suc m))
-    where
-      go : (n < suc m) ⊎ (suc m ≤ n) → suc m ≤ n
-      go (inl less) = absurd (h.1 (reaches_more n m p (omega (arith, less)) r))
-      go (inr le) = le
+  least_reach m n p h r = grind (arith, cases_lt, reaches_more)
 
   -- a position has one number at most
   pub one_reach : (p : S) (x y : Option ℕ) → HasReach a p x → HasReach a p y → x ≡ y
-  one_reach p (Some m) (Some n) h k =
-      let up : m ≤ n = least_reach m n p h k.0 in
-      let down : n ≤ m = least_reach n m p k h.0 in
-      let same : m ≡ n = omega arith in ap Some same
-  one_reach p x y h k = grind arith
+  one_reach p x y h k = grind (arith, least_reach)
 
 module _ {S : Type 0} (a : Arena S) (known : Successors a) where
   -- a dead position is a draw
@@ -99,9 +87,7 @@ module _ {S : Type 0} (a : Arena S) (R : S → S → Type 0) (like : Alike a R) 
 
   -- their nearest mates are equally far
   alike_reach : (p p' : S) (x : Option ℕ) → R p p' → HasReach a p x → HasReach a p' x
-  alike_reach p p' (Some zero) r h = (alike_reaches a R like zero p p' r h.0, tt)
-  alike_reach p p' (Some (suc n)) r h = (alike_reaches a R like (suc n) p p' r h.0, λ s. h.1 (reaches_back n p p' r s))
-  alike_reach p p' None r h = λ n s. h n (reaches_back n p p' r s)
+  alike_reach p p' x r h = grind (arith, alike_reaches, reaches_back)
 
 pub same_reach : {S : Type 0} (a : Arena S) (R : S → S → Type 0) → Alike a R → (p p' : S) (x : Option ℕ) → R p p' → HasReach a p x ↔ HasReach a p' x
 same_reach a R like p p' x r = (alike_reach a R like p p' x r, alike_reach a (λ p' p. R p p') (alike_backwards a R like) p' p x r)
@@ -155,17 +141,7 @@ module _ {S : Type 0} (a : Arena S) (Own : S → Type 0) (e : S → Option ℕ) 
 
   -- entries that fit are the numbers
   pub fitting_reach : (p : S) → Own p → HasReach a p (e p)
-  fitting_reach p own = go (e p) refl
-    where
-      before : (n : ℕ) → e p ≡ Some n → ReachesNoMateBefore a n p
-      before zero is = tt
-      before (suc n) is = λ r. let t = reached_told n p own r in
-          let same : Some t.0 ≡ Some (suc n) = sym t.1 ∙ is in
-          let number : t.0 ≡ suc n = cc in absurd (omega (arith, t.2, number))
-
-      go : (x : Option ℕ) → e p ≡ x → HasReach a p x
-      go (Some n) is = (shown_reached n p own is, before n is)
-      go None is = λ n r. let t = reached_told n p own r in absurd (let x : Some t.0 ≡ None = sym t.1 ∙ is in cc)
+  fitting_reach p own = grind (arith, reached_told, shown_reached)
 
 module _ {S : Type 0} (a : Arena S) (Own : S → Type 0) (e : S → Option ℕ) where
   -- true numbers fit

@@ -1,7 +1,7 @@
 -- The squares to which legal moves go.
-use Rattle.std.proofs.Common.{◌≡◌, ◌≢◌, ◌↔◌, ℕ, ◌-◌, ◌<◌, ◌≤◌, Bool, true, false, cond, ◌&&◌, min, arith, Option, Some}
+use Rattle.std.proofs.Common.{◌≡◌, ◌≢◌, ◌↔◌, ℕ, ◌-◌, ◌<◌, ◌≤◌, Bool, true, false, cond, min, arith, Some}
 use Rattle.std.proofs.Common.{None, refl, sym, ap, ◌∙◌, subst}
-use Rattle.egt_moves.specs.Prelude.{bit_at, Side, Kind, Q, P, K, Man, other_side, Placement, Stands}
+use Rattle.egt_moves.specs.Prelude.{bit_at, Side, Q, P, K, Man, other_side, Placement, Stands}
 use Rattle.egt_moves.specs.Prelude.{ahead, IsAttacked, IsInCheck, IsKeptFrom, Setup, IsAdmissible, IsKingOn, size_of}
 use Rattle.egt_moves.specs.Prelude.{sides_differ, Move, Goes, is_pawn, promotes, FitsPromotion, men_after, plain}
 use Rattle.egt_moves.specs.Prelude.{is_target, takes_in_passing, IsLegalTarget, IsSafeGoal, king_square}
@@ -11,10 +11,7 @@ use Rattle.egt_moves.proofs.Growing.{legal_of, goes_of, fits_of, safe_of, same_s
 
 -- nothing is taken in passing by another man than a pawn, or on another square than the target
 pub not_passing : (p : Setup) (man : Man) (t : ℕ) → (man.kind ≡ P → p.target ≡ Some t → ⊥) → takes_in_passing p man t ≡ false
-not_passing p man t none = by_kind man.kind p.target none
-  where
-    by_kind : (k : Kind) (o : Option ℕ) → (k ≡ P → o ≡ Some t → ⊥) → (is_pawn k && is_target o t) ≡ false
-    by_kind k o none = grind arith
+not_passing p man t none = grind (arith, is_pawn, is_target)
 
 -- the man is lifted and put down
 plain_after : (p : Setup) (man : Man) (from t : ℕ) → takes_in_passing p man t ≡ false → men_after p man (plain from t) ≡ map.insert (map.remove p.men from) t man
@@ -22,10 +19,7 @@ plain_after p man from t e = ap (λ b. map.insert (map.remove (cond b (map.remov
 
 -- a king is in check where its square is attacked
 pub in_check_at : (men : Placement) (side : Side) (k : ℕ) → IsKingOn men side k → IsInCheck men side ↔ IsAttacked men k (other_side side)
-in_check_at men side k king = (
-  λ check. subst (λ s. IsAttacked men s (other_side side)) (king.only check.square check.stands) check.attacked,
-  λ attacked. record { square = k; stands = king.stands; attacked = attacked },
-)
+in_check_at men side k king = grind (arith, other_side)
 
 abbrev pub OccupantPassedOver : Type 0
 OccupantPassedOver = (men : Placement) (t : ℕ) (side : Side) (occupant : Man) → occupant.side ≢ side → IsAttacked (map.insert men t occupant) t side ↔ IsAttacked men t side
@@ -94,19 +88,12 @@ king_goal p man from t goals danger n law ok stands mine is_king goals_bit dange
 -- the goals of another man that shield its king
 pub shield_goal : (p : Setup) (man : Man) (from t goals shields n : ℕ) → goals < 2 → shields < 2 → n ≡ min goals shields → (goals ≡ 1) ↔ Goes p man from t
     → (Goes p man from t → (shields ≡ 1) ↔ (¬ IsInCheck (men_after p man (plain from t)) p.side)) → (n ≡ 1) ↔ IsSafeGoal p man from t
-shield_goal p man from t goals shields n goals_bit shields_bit is goes shield = (
-  λ one. let there : Goes p man from t = goes.0 (omega arith) in (there, (shield there).0 (omega arith)),
-  λ h. let there : goals ≡ 1 = goes.1 h.0 in let safe : shields ≡ 1 = (shield h.0).1 h.1 in omega arith,
-)
+shield_goal p man from t goals shields n goals_bit shields_bit is goes shield = grind arith
 
 -- the square that was tried by playing
 pub changed_bit : (p : Setup) (man : Man) (from t target : ℕ) (safe : Bool) (set : ℕ) → t ≡ target → bit_at set target ≡ cond safe 1 0
     → (safe ≡ true) ↔ (¬ IsInCheck (men_after p man (plain from target)) p.side) → (bit_at set t ≡ 1) ↔ (¬ IsInCheck (men_after p man (plain from t)) p.side)
-changed_bit p man from t target safe set e is tried =
-    subst (λ s. (bit_at set s ≡ 1) ↔ (¬ IsInCheck (men_after p man (plain from s)) p.side)) (sym e) (go safe is tried)
-  where
-    go : (b : Bool) → bit_at set target ≡ cond b 1 0 → (b ≡ true) ↔ (¬ IsInCheck (men_after p man (plain from target)) p.side) → (bit_at set target ≡ 1) ↔ (¬ IsInCheck (men_after p man (plain from target)) p.side)
-    go b one told = grind arith
+changed_bit p man from t target safe set e is tried = grind (arith, bit_at, men_after, plain)
 
 pub same_target : (t s : ℕ) → Some t ≡ Some s → t ≡ s
 same_target t s e = cc

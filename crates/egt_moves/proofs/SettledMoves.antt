@@ -1,25 +1,18 @@
 -- A target that no pawn stands ready to take changes no move.
-use Rattle.std.proofs.Common.{◌≡◌, ◌≢◌, ℕ, ◌≤◌, ◌==◌, ◌⊎◌, ◌↔◌, Bool, if◌then◌else◌, Option, Some, None}
-use Rattle.std.proofs.Common.{IfSome, arith, sym, ap, ◌∙◌, subst, inl, inr}
-use Rattle.egt_moves.specs.Prelude.{cases_eq, Side, White, Black, P, Man, other_side, rank_of, Stands, IsFree, Rides}
-use Rattle.egt_moves.specs.Prelude.{OneOf, pawn_steps, pawn_of, ahead, home_rank, farthest_advance, Advances, IsBeside}
-use Rattle.egt_moves.specs.Prelude.{HasPawnBeside, IsTarget, target_rank, Setup, IsAdmissible, IsSettled, untargeted}
-use Rattle.egt_moves.specs.Prelude.{SettlesTo, Move, chess, Zeroes, Goes, arriving, Leads, men_left, passed, after}
-use Rattle.egt_moves.specs.Prelude.{Alike, KeepsSteps, IsCheckmate, one_man, sides_differ}
+use Rattle.std.proofs.Common.{◌≡◌, ◌≢◌, ℕ, ◌≤◌, ◌⊎◌, ◌↔◌, Some}
+use Rattle.std.proofs.Common.{arith, sym, ◌∙◌, subst, inl, inr}
+use Rattle.egt_moves.specs.Prelude.{cases_eq, Side, White, Black, P, Man, other_side, rank_of, Stands}
+use Rattle.egt_moves.specs.Prelude.{ahead, home_rank, farthest_advance, Advances}
+use Rattle.egt_moves.specs.Prelude.{target_rank, Setup, IsAdmissible, IsSettled, untargeted}
+use Rattle.egt_moves.specs.Prelude.{SettlesTo, Move, chess, Zeroes, Goes, arriving, Leads, after}
+use Rattle.egt_moves.specs.Prelude.{Alike, KeepsSteps, IsCheckmate}
 use Rattle.std.specs.FinMap as map
-use Rattle.egt_moves.proofs.After.{Passing, target_is, left_cases}
-use Rattle.egt_moves.proofs.Admissible.{Forward, advances_forward, from_home, pawn_reaches}
+use Rattle.egt_moves.proofs.After.{target_is}
+use Rattle.egt_moves.proofs.Admissible.{Forward, advances_forward, from_home}
 use Rattle.egt_moves.proofs.Likeness.{alike_by_steps}
 
--- a pawn that takes on the target stands beside the pawn that advanced
-takes_beside : (F : ℕ → Type 0) (side : Side) (from to : ℕ) → OneOf (Rides F 1 from to) (pawn_steps side) → rank_of to ≡ target_rank side → IsBeside from (ahead (other_side side) to)
-takes_beside F side from to h e = grind arith
-
 pub farthest_two : (side : Side) (s : ℕ) → farthest_advance side s ≤ 2
-farthest_two side s = by_test (rank_of s == home_rank side)
-  where
-    by_test : (b : Bool) → (if b then 2 else 1) ≤ 2
-    by_test b = grind arith
+farthest_two side s = grind (arith, rank_of, home_rank)
 
 -- a pawn that advances to the target comes from the square of the pawn that advanced
 pub advances_from : (F : ℕ → Type 0) (side : Side) (from to : ℕ) → Advances F side from to → rank_of to ≡ target_rank side → from ≡ ahead (other_side side) to
@@ -39,66 +32,19 @@ advances_from F Black from to a e =
 
 -- no pawn arrives on a target that none stands ready to take
 not_to_target : (p : Setup) (man : Man) (from to : ℕ) → IsAdmissible p → ¬ IsSettled p → Stands p.men from man → man.side ≡ p.side → man.kind ≡ P → Goes p man from to → p.target ≢ Some to
-not_to_target p man from to ok unsettled stands mine pawn goes e = by_way goes
-  where
-    is : IsTarget p.men p.side to
-    is = target_is p to ok e
-
-    rank : rank_of to ≡ target_rank man.side
-    rank = is.rank ∙ ap target_rank (sym mine)
-
-    by_way : Goes p man from to → ⊥
-    by_way (inl piece) = piece.piece pawn
-    by_way (inr (inl advance)) =
-        let here : from ≡ ahead (other_side p.side) to = advances_from (IsFree p.men) man.side from to advance.advances rank ∙ ap (λ side. ahead (other_side side) to) mine in
-        sides_differ p.side (sym mine ∙ ap (λ (x : Man). x.side) (one_man p.men from man (pawn_of (other_side p.side)) stands (ap (map.get p.men) here ∙ is.advanced)))
-    by_way (inr (inr takes)) = unsettled (subst (λ (o : Option ℕ). IfSome o (λ t. HasPawnBeside p.men p.side (ahead (other_side p.side) t))) (sym e) (record {
-      square = from;
-      stands = stands ∙ ap Some (λ i. record { side = mine i; kind = pawn i });
-      beside = subst (λ side. IsBeside from (ahead (other_side side) to)) mine (takes_beside (IsFree p.men) man.side from to (pawn_reaches p man from to takes) rank);
-    }))
+not_to_target p man from to ok unsettled stands mine pawn goes e = grind (arith, target_is, rank_of, target_rank)
 
 untargeted_admissible : (p : Setup) → IsAdmissible p → IsAdmissible (untargeted p)
 untargeted_admissible p ok = record { few = ok.few; on_board = ok.on_board; kings = ok.kings; pawns = ok.pawns; target = tt; quiet = ok.quiet }
 
 goes_without : (p : Setup) (man : Man) (from to : ℕ) → IsAdmissible p → ¬ IsSettled p → Stands p.men from man → man.side ≡ p.side → Goes p man from to → Goes (untargeted p) man from to
-goes_without p man from to ok unsettled stands mine (inl piece) = inl (record { piece = piece.piece; reaches = piece.reaches; not_own = piece.not_own })
-goes_without p man from to ok unsettled stands mine (inr (inl advance)) = inr (inl (record { pawn = advance.pawn; advances = advance.advances }))
-goes_without p man from to ok unsettled stands mine (inr (inr takes)) = inr (inr (record {
-  pawn = takes.pawn;
-  reaches = takes.reaches;
-  takes = elim takes.takes [
-    | inl held ↦ inl held
-    | inr target ↦ absurd (not_to_target p man from to ok unsettled stands mine takes.pawn (inr (inr takes)) target)
-  ];
-}))
+goes_without p man from to ok unsettled stands mine h = grind (arith, not_to_target)
 
 goes_with : (p : Setup) (man : Man) (from to : ℕ) → Goes (untargeted p) man from to → Goes p man from to
-goes_with p man from to (inl piece) = inl (record { piece = piece.piece; reaches = piece.reaches; not_own = piece.not_own })
-goes_with p man from to (inr (inl advance)) = inr (inl (record { pawn = advance.pawn; advances = advance.advances }))
-goes_with p man from to (inr (inr takes)) = inr (inr (record {
-  pawn = takes.pawn;
-  reaches = takes.reaches;
-  takes = elim takes.takes [
-    | inl held ↦ inl held
-    | inr target ↦ let bad : None ≡ Some to = target in absurd (cc)
-  ];
-}))
-
--- where no pawn stands ready to take there, none is taken in passing
-same_left : (p : Setup) (man : Man) (from to : ℕ) → IsAdmissible p → ¬ IsSettled p → Stands p.men from man → man.side ≡ p.side → Goes p man from to → men_left p man to ≡ men_left (untargeted p) man to
-same_left p man from to ok unsettled stands mine goes = here (left_cases p man to ok) ∙ sym (there (left_cases (untargeted p) man to (untargeted_admissible p ok)))
-  where
-    here : (men_left p man to ≡ p.men) ⊎ Passing p man to → men_left p man to ≡ p.men
-    here h = grind arith
-
-    there : (men_left (untargeted p) man to ≡ p.men) ⊎ Passing (untargeted p) man to → men_left (untargeted p) man to ≡ p.men
-    there h = grind arith
+goes_with p man from to h = grind arith
 
 same_after : (p : Setup) (man : Man) (m : Move) → IsAdmissible p → ¬ IsSettled p → Stands p.men m.from man → man.side ≡ p.side → Goes p man m.from m.to → after p man m ≡ after (untargeted p) man m
-same_after p man m ok unsettled stands mine goes =
-    ap (λ left. record { men = map.insert (map.remove left m.from) m.to (arriving man m.promo); side = other_side p.side; target = passed man m.from m.to })
-    (same_left p man m.from m.to ok unsettled stands mine goes)
+same_after p man m ok unsettled stands mine goes = grind (arith, map.insert, map.remove, arriving)
 
 -- the legal moves are the same, and lead to the same positions
 leads_without : (p q : Setup) (m : Move) → IsAdmissible p → ¬ IsSettled p → Leads p m q → Leads (untargeted p) m q
@@ -113,17 +59,7 @@ leads_without p q m ok unsettled l = record {
 }
 
 leads_with : (p q : Setup) (m : Move) → IsAdmissible p → ¬ IsSettled p → Leads (untargeted p) m q → Leads p m q
-leads_with p q m ok unsettled l =
-    let goes = goes_with p l.man m.from m.to l.goes in
-    record {
-      man = l.man;
-      stands = l.stands;
-      mine = l.mine;
-      goes = goes;
-      promotion = l.promotion;
-      becomes = l.becomes ∙ sym (same_after p l.man m ok unsettled l.stands l.mine goes);
-      safe = l.safe;
-    }
+leads_with p q m ok unsettled l = grind (arith, goes_with, same_after)
 
 -- q is p without a target that no pawn stands ready to take
 pub record Untargets (p q : Setup) : Type 0 where

@@ -21,10 +21,7 @@ Walks-room p moves rest rest' s man ok has gone others size stands walks = room_
 
 -- a legal move from a lesser square comes before all moves from a greater one
 pub place-before : (p : Setup) (m : Move) (s : ℕ) → IsLegal p m → m.from < s → place_of m < s * 512
-place-before p m s legal less =
-    let to_in : m.to < 64 = goes_on_board p legal.1.man m.from m.to legal.1.goes in
-    let small = promotion_small m.promo in
-    omega arith
+place-before p m s legal less = grind (arith, goes_on_board, promotion_small)
 
 pub Walks-before : (p : Setup) (moves : List Move) (rest : SquareSet) (s : ℕ) → Has rest s → Walks p moves rest → (m : Move) → Contains moves m → place_of m < s * 512
 Walks-before p moves rest s has walks m there = place-before p m s ((walks.legal m).0 there).0 (walks.later m there s has)
@@ -61,13 +58,7 @@ Walks-more p moves moves' rest rest' s man ok has least gone others size stands 
     was_left t one = elim (cases_eq t s) [ inl e ↦ not_both (bit_at rest'.bits s) gone (ap (bit_at rest'.bits) (sym e) ∙ one) | inr other ↦ sym (others t other) ∙ one ]
 
     above : (t : ℕ) → Has rest' t → s < t
-    above t one = elim (cases_lt s t) [
-      | inl lt ↦ lt
-      | inr le ↦ elim (cases_eq t s) [
-        | inl e ↦ not_both (bit_at rest'.bits s) gone (ap (bit_at rest'.bits) (sym e) ∙ one)
-        | inr other ↦ not_both (bit_at rest.bits t) (least t (omega arith)) (was_left t one)
-      ]
-    ]
+    above t one = grind (arith, cases_lt, cases_eq, not_both)
 
 -- no man is left
 pub Walks-all : (p : Setup) (moves : List Move) (rest : SquareSet) → Walks p moves rest → ((t : ℕ) → bit_at rest.bits t ≡ 0) → (m : Move) → Contains moves m ↔ IsLegal p m

@@ -25,7 +25,8 @@ fn piece_targets(position: &Position, occupancy: Occupancy, man: Man, from: Squa
 /// The squares that an enemy man holds or a pawn has just passed.
 fn takeable(position: &Position, occupancy: Occupancy) -> SquareSet
     requires { IsOccupancy position.now occupancy }
-    ensures { (t : ℕ) → Has result t ↔ (IsHeld position.now.men t (other_side position.now.side) ⊎ (position.now.target ≡ Some t)) }
+    ensures { (t : ℕ) → Has result t ↔ (IsHeld position.now.men t (other_side position.now.side) ⊎
+        (position.now.target ≡ Some t)) }
 {
     match position.target() {
         Some(target) => occupancy.enemy.with(target),

@@ -1,4 +1,4 @@
-use Rattle.std.proofs.Common.{◌≡◌, ℕ, false, true, ◌&&◌, Option, None, sym, ap, ◌∙◌, subst, ◌==◌, arith}
+use Rattle.std.proofs.Common.{◌≡◌, ℕ, false, true, Option, None, sym, ap, ◌∙◌, subst, arith}
 use Rattle.egt_moves.specs.Prelude.{rank_of, last_rank, the_type, Side, Kind, K, Man, other_side, IsKingOn, is_pawn}
 use Rattle.egt_moves.specs.Prelude.{promotes, FitsPromotion, men_after}
 use Rattle.egt_moves.proofs.After.{king_moves, king_stays, other_king_stays, may_become}
@@ -13,10 +13,7 @@ unlike a b e = grind arith
 
 -- a king becomes nothing
 none_for_king : (man : Man) (to : ℕ) (promo : Option Kind) → man.kind ≡ K → FitsPromotion (promotes man to) promo → promo ≡ None
-none_for_king man to promo is_king fits = go promo (subst (λ k. FitsPromotion (is_pawn k && (rank_of to == last_rank man.side)) promo) is_king fits)
-  where
-    go : (o : Option Kind) → FitsPromotion false o → o ≡ None
-    go o h = grind arith
+none_for_king man to promo is_king fits = grind (arith, is_pawn, rank_of, last_rank)
 
 pub returns-in-K : goal.returns-in-K
 returns-in-K c =
