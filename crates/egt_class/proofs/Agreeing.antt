@@ -34,8 +34,4 @@ agree-same (man ∷ men) f g same =
     ap (λ b. elim b [ true ↦ agree_at men f g | false ↦ false ]) (eq-eqb (f man) (g man) same.0) ∙ agree-same men f g same.1
 
 pub same_agree : (f g : Man → ℕ) → ((man : Man) → f man ≡ g man) → agree_at men_beside f g ≡ true
-same_agree f g same = agree-same men_beside f g (all men_beside)
-  where
-    all : (men : List Man) → Agree men f g
-    all [] = tt
-    all (man ∷ men) = (same man, all men)
+same_agree f g same = grind (arith, agree-same, men_beside)

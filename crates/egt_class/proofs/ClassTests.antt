@@ -90,12 +90,7 @@ pub sides_told_at : (c : ℕ) → c < 36 → sides_told c (material_of c) ≡ tr
 sides_told_at c c_in = passes_below (λ c. sides_told c (material_of c)) 36 c all_sides_told c_in
 
 six : (a b c d e f : Bool) → (a && (b && (c && (d && (e && f))))) ≡ true → (a ≡ true) × (b ≡ true) × (c ≡ true) × (d ≡ true) × (e ≡ true) × (f ≡ true)
-six a b c d e f all =
-    let p = and_parts a _ all in
-    let q = and_parts b _ p.1 in
-    let r = and_parts c _ q.1 in
-    let s = and_parts d _ r.1 in
-    let t = and_parts e f s.1 in (p.0, q.0, r.0, s.0, t.0, t.1)
+six a b c d e f all = grind (arith, and_parts)
 
 all_true : (a b c d e f : Bool) → a ≡ true → b ≡ true → c ≡ true → d ≡ true → e ≡ true → f ≡ true → (a && (b && (c && (d && (e && f))))) ≡ true
 all_true a b c d e f p q r s t u = ap₂ (λ x y. x && y) p (ap₂ (λ x y. x && y) q (ap₂ (λ x y. x && y) r (ap₂ (λ x y. x && y) s (ap₂ (λ x y. x && y) t u))))
@@ -125,10 +120,7 @@ tell_equal_sides c c_in same =
     ∙ all_true _ _ _ _ _ _ (eq-eqb _ _ (same Q)) (eq-eqb _ _ (same R)) (eq-eqb _ _ (same B)) (eq-eqb _ _ (same N)) (eq-eqb _ _ (same P)) (eq-eqb _ _ (same K))
 
 four : (a b c d : Bool) → (a && (b && (c && d))) ≡ true → (a ≡ true) × (b ≡ true) × (c ≡ true) × (d ≡ true)
-four a b c d all =
-    let p = and_parts a _ all in
-    let q = and_parts b _ p.1 in
-    let r = and_parts c d q.1 in (p.0, q.0, r.0, r.1)
+four a b c d all = grind (arith, and_parts)
 
 apart_at : (c d : ℕ) (flipped turned : Bool) → c < 36 → d < 36 → apart_as c d flipped turned (material_of c) (material_of d) ≡ true
 apart_at c d flipped turned c_in d_in = by_flips flipped turned
@@ -178,10 +170,6 @@ smaller c d c_in there =
 abbrev EachPasses : (Option Kind → Bool) → List (Option Kind) → Type 0
 EachPasses p [] = Unit {0}
 EachPasses p (x ∷ xs) = (p x ≡ true) × EachPasses p xs
-
-each_passes : (p : Option Kind → Bool) (xs : List (Option Kind)) → list_all p xs ≡ true → EachPasses p xs
-each_passes p [] all = tt
-each_passes p (x ∷ xs) all = let both = and_parts (p x) (list_all p xs) all in (both.0, each_passes p xs both.1)
 
 taking_passes : (p : Option Kind → Bool) → list_all p takings ≡ true → (taken : Option Kind) → IfSome taken (λ kind. kind ≢ K) → p taken ≡ true
 taking_passes p all kind ok = grind arith

@@ -1,9 +1,9 @@
 -- The men beside the kings, gathered from a list.
-use Rattle.std.proofs.Common.{◌≡◌, ◌≢◌, ℕ, ◌+◌, ◌*◌, ◌<◌, ◌≤◌, List, [], ◌∷◌, map, length, Option, Some, None, IfSome}
-use Rattle.std.proofs.Common.{Bool, true, false, cond, arith, add-zero, refl, sym, ap, ◌∙◌, inl, inr, count_by}
+use Rattle.std.proofs.Common.{◌≡◌, ◌≢◌, ℕ, ◌+◌, ◌<◌, ◌≤◌, List, [], ◌∷◌, map, length, Option, Some, None, IfSome}
+use Rattle.std.proofs.Common.{Bool, true, false, cond, arith, add-zero, refl, sym, ap, ◌∙◌, count_by}
 use Rattle.egt_class.specs.Prelude.{sum_by, length-map, sum_by-cons, false≢true, eqb_tells, Side, White, Black, Kind, Q}
 use Rattle.egt_class.specs.Prelude.{R, B, N, P, K, Man, king_of, Placement, man_entry, Setup, IsAdmissible, IsKingOn}
-use Rattle.egt_class.specs.Prelude.{kind_number, side_number, man_number, stands_here, count_of, is_man, AreNonKings}
+use Rattle.egt_class.specs.Prelude.{kind_number, man_number, stands_here, count_of, is_man, AreNonKings}
 use Rattle.std.specs.FinMap as placement
 
 abbrev pub is_king : Kind → Bool
@@ -57,16 +57,7 @@ kind_few kind other = grind arith
 
 -- a king is no other man
 not_a_king : (man : Man) (side : Side) → man.kind ≢ K → stands_here man (Some (king_of side)) ≡ 0
-not_a_king man side other = elim (eqb_tells (man_number man) (man_number (king_of side))) [
-  | inl h ↦ absurd (apart man.side side h.1)
-  | inr h ↦ ap (λ b. cond b 1 0) h.0
-]
-  where
-    few : kind_number man.kind < 5
-    few = kind_few man.kind other
-
-    apart : (s t : Side) → 6 * side_number s + kind_number man.kind ≡ 6 * side_number t + 5 → ⊥
-    apart s t e = grind arith
+not_a_king man side other = grind (arith, eqb_tells, man_number, king_of)
 
 number_of : Option Man → ℕ
 number_of None = 0
@@ -92,8 +83,7 @@ last_two-others [] first second ok = ok
 last_two-others (x ∷ xs) first second ok = go (is_king x.0.kind) refl (last_two-others xs first second ok) (λ other. last_two-others xs (Some x.0) first (other, ok.0))
   where
     go : (b : Bool) → is_king x.0.kind ≡ b → AreOthers (last_two first second xs) → (x.0.kind ≢ K → AreOthers (last_two (Some x.0) first xs)) → AreOthers (cond b (last_two first second xs) (last_two (Some x.0) first xs))
-    go true e same more = same
-    go false e same more = more (other_told x.0.kind e)
+    go b e same more = grind (arith, other_told)
 
 -- the two men, and those that are still listed, are as many of each man as at the end
 abbrev Ends : Man → Option Man → Option Man → List (Man × ℕ) → Option Man × Option Man → Type 0
@@ -169,5 +159,4 @@ last_two-beside p few counted one_king = record {
 
 -- one king a side is counted
 pub one_king_each : (p : Setup) → IsAdmissible p → ((men : Placement) (side : Side) (s : ℕ) → s < 64 → IsKingOn men side s → count_of men (king_of side) ≡ 1) → OneKing p.men
-one_king_each p ok counted White = counted p.men White ok.kings.white (ok.on_board ok.kings.white (king_of White) ok.kings.white_there.stands) ok.kings.white_there
-one_king_each p ok counted Black = counted p.men Black ok.kings.black (ok.on_board ok.kings.black (king_of Black) ok.kings.black_there.stands) ok.kings.black_there
+one_king_each p ok counted h = grind (arith, king_of)

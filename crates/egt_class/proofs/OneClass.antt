@@ -1,7 +1,7 @@
 -- Positions of a class: one class, the settled form, the images.
-use Rattle.std.proofs.Common.{◌≡◌, ℕ, ◌<◌, ◌⊎◌, ◌↔◌, Bool, true, not, if◌then◌else◌, refl, sym, ap, ◌∙◌, inl, inr}
+use Rattle.std.proofs.Common.{◌≡◌, ℕ, ◌<◌, ◌⊎◌, ◌↔◌, Bool, true, not, if◌then◌else◌, sym, ap, ◌∙◌, inl, inr}
 use Rattle.std.proofs.Common.{arith}
-use Rattle.egt_class.specs.Prelude.{Side, White, Black, Kind, Man, other_side, Placement, Setup, SettlesTo, count_of}
+use Rattle.egt_class.specs.Prelude.{Side, Kind, Man, other_side, Setup, SettlesTo, count_of}
 use Rattle.egt_class.specs.Prelude.{SameMen, ExchangedMen, men_in, has_equal_sides, IsOf}
 use Rattle.egt_class.proofs.ClassTests.{one_class, equal_sides}
 use Rattle.egt_board.proofs.SettledForms.{settles_men}
@@ -13,10 +13,7 @@ same_class p c d flipped turned c_in d_in is other = one_class c d flipped turne
 
 -- either side has the same men
 either_side : (c : ℕ) → c < 36 → has_equal_sides c ≡ true → (s t : Side) (kind : Kind) → men_in c s kind ≡ men_in c t kind
-either_side c c_in equal White White kind = refl
-either_side c c_in equal White Black kind = equal_sides c c_in equal kind
-either_side c c_in equal Black White kind = sym (equal_sides c c_in equal kind)
-either_side c c_in equal Black Black kind = refl
+either_side c c_in equal s t kind = grind (arith, equal_sides)
 
 pub either_flip : (p : Setup) (c : ℕ) (flipped turned : Bool) → c < 36 → has_equal_sides c ≡ true → IsOf c flipped p → IsOf c turned p
 either_flip p c flipped turned c_in equal is = record { men = λ man. is.men man ∙ either_side c c_in equal _ _ man.kind }
@@ -26,9 +23,7 @@ pub by_men : (p q : Setup) (c : ℕ) (flipped : Bool) → ((man : Man) → count
 by_men p q c flipped same is = record { men = λ man. same man ∙ is.men man }
 
 pub settled_class : (p q : Setup) (c : ℕ) (flipped : Bool) → SettlesTo p q → IsOf c flipped p ↔ IsOf c flipped q
-settled_class p q c flipped settles =
-    let same : q.men ≡ p.men = settles_men p q settles in
-    (by_men p q c flipped (λ man. ap (λ (men : Placement). count_of men man) same), by_men q p c flipped (λ man. ap (λ (men : Placement). count_of men man) (sym same)))
+settled_class p q c flipped settles = grind (arith, settles_men, by_men, count_of)
 
 -- with colours exchanged the other flip is taken
 exchanged_side : (flipped : Bool) (side : Side) → (if flipped then other_side (other_side side) else other_side side) ≡ (if not flipped then other_side side else side)

@@ -1,6 +1,6 @@
 -- The table of classes by two men is right at each pair.
 use Rattle.std.proofs.Common.{◌≡◌, ◌≢◌, ℕ, ◌+◌, ◌*◌, ◌<◌, ◌≤◌, ◌&&◌, Bool, true, false, not, cond, eqb, ltb, Option}
-use Rattle.std.proofs.Common.{Some, None, IfSome, if◌then◌else◌, refl, sym, ap, ap₂, ◌∙◌, arith, inl, inr}
+use Rattle.std.proofs.Common.{Some, None, IfSome, if◌then◌else◌, refl, sym, ap₂, ◌∙◌, arith}
 use Rattle.egt_class.specs.Prelude.{and_parts, ltb-true, eqb-true, eq-eqb, eqb_tells, Side, White, Black}
 use Rattle.egt_class.specs.Prelude.{Kind, Q, R, B, N, P, K, Man, other_side, kind_number, side_number, stands_here}
 use Rattle.egt_class.specs.Prelude.{count_of, Setup, all_below, passes_below, materials, material_of, men_in}
@@ -60,10 +60,7 @@ one_king_in c Black c_in = eqb-true _ _ (and_parts _ _ (passes_below one_king_ea
 
 -- two tests that say the same
 same_test : (a b c d : ℕ) → (a ≡ b → c ≡ d) → (c ≡ d → a ≡ b) → one_where a b ≡ one_where c d
-same_test a b c d f g = ap (λ test. cond test 1 0) (elim (eqb_tells a b) [
-  | inl h ↦ h.0 ∙ sym (eq-eqb c d (f h.1))
-  | inr h ↦ elim (eqb_tells c d) [ inl k ↦ absurd (h.1 (g k.1)) | inr k ↦ h.0 ∙ sym k.0 ]
-])
+same_test a b c d f g = grind (arith, cond, eqb_tells, eq-eqb)
 
 slot_is : (first : ℕ) (kind : Kind) → kind ≢ K → kind_slot first kind ≡ first + kind_number kind
 slot_is first kind other = grind arith
@@ -78,10 +75,7 @@ slots s t k l k_other l_other =
   where
     by_sides : (s t : Side) → kind_slot (first_slot s) k ≡ first_slot s + kind_number k → kind_slot (first_slot t) l ≡ first_slot t + kind_number l → kind_number k < 5 → kind_number l < 5
         → one_where (6 * side_number s + kind_number k) (6 * side_number t + kind_number l) ≡ one_where (kind_slot (first_slot s) k) (kind_slot (first_slot t) l)
-    by_sides White White c d a b = same_test _ _ _ _ (λ e. omega arith) (λ e. omega arith)
-    by_sides White Black c d a b = same_test _ _ _ _ (λ e. omega arith) (λ e. omega arith)
-    by_sides Black White c d a b = same_test _ _ _ _ (λ e. omega arith) (λ e. omega arith)
-    by_sides Black Black c d a b = same_test _ _ _ _ (λ e. omega arith) (λ e. omega arith)
+    by_sides s t c d a b = grind (arith, same_test)
 
 some_slot : (first : ℕ) (kind : Kind) → 1 ≤ first → kind ≢ K → 1 ≤ kind_slot first kind
 some_slot first kind some other = let is = slot_is first kind other in omega arith
@@ -90,10 +84,7 @@ first_some : (side : Side) → 1 ≤ first_slot side
 first_some side = grind arith
 
 none_where : (a : ℕ) → 1 ≤ a → one_where a 0 ≡ 0
-none_where a some = elim (eqb_tells a 0) [
-  | inl h ↦ let e = h.1 in absurd (omega arith)
-  | inr h ↦ ap (λ test. cond test 1 0) h.0
-]
+none_where a some = grind (arith, eqb_tells, cond)
 
 here_by_slot : (man : Man) (o : Option Man) → man.kind ≢ K → IfSome o (λ m. m.kind ≢ K) → stands_here man o ≡ one_where (slot_of (Some man)) (slot_of o)
 here_by_slot man None man_other o_other =

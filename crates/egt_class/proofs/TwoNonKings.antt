@@ -27,9 +27,7 @@ taken_off clears men s there man s_in stands = ap (λ o. count_of (placement.rem
 
 -- who stands on the board still stood there, on another square
 still : (men : Placement) (s t : ℕ) (man : Man) → Stands (placement.remove men s) t man → Stands men t man × (t ≢ s)
-still men s t man stands =
-    let apart : t ≢ s = λ e. let gone = get-remove_same men s t e in let both : None ≡ Some man = sym gone ∙ stands in absurd cc in
-    (sym (get-remove_other men s t apart) ∙ stands, apart)
+still men s t man stands = grind (arith, get-remove_same, get-remove_other)
 
 -- where nobody stands but kings there is no man like one who is no king
 kings_alone : (men : Placement) (man : Man) → man.kind ≢ K → ((t : ℕ) (other : Man) → Stands men t other → other.kind ≢ K → ⊥) → count_of men man ≡ 0

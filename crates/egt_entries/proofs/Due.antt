@@ -63,8 +63,7 @@ module _ (shows : Shown) (p q : Setup) (m : chess.Move p q) (one : IsOne shows q
 
   -- in the mate column a step says what the successor's entry shows
   pub mate_said : (shown : Option Outcome) → IsShownOf shows Mate q shown → IsSaid shows Mate p q m shown
-  mate_said (Some outcome) h = (mate_says outcome h, is_counted outcome (one.short Mate (value_of outcome) h))
-  mate_said None h = λ outcome says. h (value_of outcome) (mate_shows outcome says)
+  mate_said shown h = grind (arith, mate_says, is_counted, value_of)
 
   -- where the mate column shows something else, the zeroing column says no win, or no loss
   no_loss_where : (v : Value) → shows Mate q v → ((i : ℕ) → v ≡ Loss i → ⊥) → (k : ℕ) → ¬ Says shows Zeroing p q m (outcomes.Loss k)
@@ -80,11 +79,7 @@ module _ (shows : Shown) (p q : Setup) (m : chess.Move p q) (one : IsOne shows q
 
   -- a step that does not zero counts for what the zeroing entry shows
   no_count : (kind : ℕ → Value) → ¬ (chess.Zeroes p q m) → ((k : ℕ) → ¬ shows Zeroing q (kind k)) → (k : ℕ) → ¬ Counts shows Zeroing kind p q m k
-  no_count kind quiet none k counts = by counts.1
-    where
-      by : CountsBy kind k → ⊥
-      by (inl zeroes) = quiet zeroes.0
-      by (inr shown) = none k shown.1
+  no_count kind quiet none k counts = grind arith
 
   other_shown : (v w : Value) → shows Zeroing q v → (v ≡ w → ⊥) → ¬ shows Zeroing q w
   other_shown v w h other k = other (one.one Zeroing v w h k)

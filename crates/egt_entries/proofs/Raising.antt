@@ -114,12 +114,7 @@ untried moves m tried = let lt = tried.1 in omega (arith, lt)
 
 -- the last of one more is the move there
 pub tried_before : (moves : List Move) (n : ℕ) (tried m : Move) → n < length moves → tried ≡ get_or moves n tried → Tried moves (n + 1) m → Tried moves n m ⊎ (m ≡ tried)
-tried_before moves n tried m inside here among = let lt = among.1 in elim (cases_lt among.0 n) [
-  | inl below ↦ inl (among.0, below, among.2)
-  | inr ge ↦
-      let last : among.0 ≡ n = omega (arith, lt, ge) in
-      inr (sym (here ∙ get_or_default moves n tried m inside ∙ subst (λ j. get_or moves j m ≡ m) last among.2))
-]
+tried_before moves n tried m inside here among = grind (arith, cases_lt, get_or_default, get_or)
 
 -- each of a list is among as many as it has
 pub tried_listed : (moves : List Move) (n : ℕ) (m : Move) → length moves ≤ n → Contains moves m → Tried moves n m

@@ -116,9 +116,7 @@ module _ (loaded : Loaded) where
   }
 
   whole : (piece : List ℕ) (left rest : Option (List ℕ)) → Consumes left rest piece → IsAtEnd rest → AreLinesOf left (lines_of (piece ++ []))
-  whole piece None rest consumed end = tt
-  whole piece (Some input) None consumed end = absurd consumed
-  whole piece (Some input) (Some more) consumed end = ap (λ (m : List ℕ). lines_of (piece ++ m)) (sym end) ∙ ap lines_of (sym consumed)
+  whole piece left rest consumed end = grind (arith, lines_of)
 
   -- of which all was read
   pub all_answered : (piece : List ℕ) (kept : OpenLine) (left rest old mid new : Option (List ℕ)) → (first : Advanced loaded [] piece kept old mid) → Wrote loaded (with_front first.next []) mid new → Consumes left rest piece → IsAtEnd rest

@@ -1,5 +1,5 @@
 -- Moves of best play, by the entries of where they lead.
-use Rattle.std.proofs.Common.{◌≡◌, ℕ, zero, suc, ◌≤◌, Option, Some, None, IfNone, IsSome, List, [], ◌∷◌, ◌++◌, refl}
+use Rattle.std.proofs.Common.{◌≡◌, ℕ, suc, ◌≤◌, Option, Some, None, IfNone, IsSome, List, [], ◌∷◌, ◌++◌, refl}
 use Rattle.std.proofs.Common.{sym, ap, ◌∙◌, subst, arith, append_assoc, append-nil}
 use Rattle.egt_probe.specs.Prelude.{Side, White, Black, other_side, Setup, Value, SomeMove, HasValue, chess, mate_by}
 use Rattle.egt_probe.specs.Prelude.{Leads, Move, IsShort, Shows, entry_of, shown_once, Facts, IsFirstTo, next_value}
@@ -7,12 +7,7 @@ use Rattle.egt_probe.specs.Prelude.{IsLine, Misses, IsFirstWith}
 
 -- a value that a position has, of few plies, has an entry
 pub short : (s w : Side) (n : ℕ) (q : Setup) → HasValue chess q (mate_by s w n) → n ≤ 32000 → IsShort (mate_by s w n)
-short White White zero q h le = absurd h
-short White White (suc n) q h le = (omega arith, le)
-short White Black n q h le = le
-short Black White n q h le = le
-short Black Black zero q h le = absurd h
-short Black Black (suc n) q h le = (omega arith, le)
+short s w n q h le = grind arith
 
 -- the next value of one more ply
 pub next_is : (s w : Side) (n : ℕ) → next_value (mate_by s w (suc n)) ≡ Some (mate_by (other_side s) w n)
@@ -24,10 +19,7 @@ turned p q m leads = ap (λ (x : Setup). x.side) leads.becomes
 
 -- in no plies to mate it is checkmate
 pub at_mate : (s w : Side) (p : Setup) → HasValue chess p (mate_by s w 0) → IsLine p (mate_by s w 0) []
-at_mate White White p h = absurd h
-at_mate White Black p h = (refl, h)
-at_mate Black White p h = (refl, h)
-at_mate Black Black p h = absurd h
+at_mate s w p h = grind arith
 
 module _ (facts : Facts) where
   -- a position won or lost in n + 1 plies has a move to one in n

@@ -1,7 +1,7 @@
 -- Moves that are best play.
-use Rattle.std.proofs.Common.{◌≡◌, ℕ, zero, suc, List, [], ◌∷◌, Option, Some, None, IfSome, refl, sym, ap, ◌∙◌, subst}
+use Rattle.std.proofs.Common.{◌≡◌, ℕ, zero, suc, List, [], ◌∷◌, Option, Some, None, IfSome, refl, sym, ap, subst}
 use Rattle.std.proofs.Common.{arith, inl, inr}
-use Rattle.egt_probe.specs.Prelude.{cases_lt, Side, other_side, Setup, Value, Win, Loss, Draw, mate_by}
+use Rattle.egt_probe.specs.Prelude.{cases_lt, Side, other_side, Setup, Value, Loss, Draw, mate_by}
 use Rattle.egt_probe.specs.Prelude.{place_of, Move, best_value, IsBest, Facts, IsHold, IsFirstTo, next_value, IsLine}
 
 -- the move that holds a draw is one
@@ -25,11 +25,7 @@ value_in (Some v) = v
 
 -- where a line goes on, a best move leads to the value that it goes on to
 goes_alike : (v w u : Value) → best_value v ≡ Some w → next_value v ≡ Some u → w ≡ u
-goes_alike (Win zero) w u e f = absurd (no_value w e)
-goes_alike (Win (suc n)) w u e f = sym (ap value_in e) ∙ ap value_in f
-goes_alike (Loss zero) w u e f = absurd (no_value w e)
-goes_alike (Loss (suc n)) w u e f = sym (ap value_in e) ∙ ap value_in f
-goes_alike Draw w u e f = absurd (no_value u f)
+goes_alike v w u e f = grind (arith, no_value)
 
 -- the first moves to one value stand at one place
 one_first : (w : Value) (p q r : Setup) (m n : Move) → IsFirstTo w p m q → IsFirstTo w p n r → place_of n ≡ place_of m

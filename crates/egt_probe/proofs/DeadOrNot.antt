@@ -1,5 +1,5 @@
 -- What the column of the nearest mates tells of dead positions.
-use Rattle.std.proofs.Common.{◌≡◌, ◌≢◌, ℕ, Option, Some, None, refl, sym, ◌∙◌, arith}
+use Rattle.std.proofs.Common.{◌≡◌, ◌≢◌, ℕ, Option, refl, sym, ◌∙◌, arith}
 use Rattle.egt_probe.specs.Prelude.{Setup, IsAdmissible, IsIndex, chess, IsDead, HasReach, IsStalemate, StandsAs}
 use Rattle.egt_probe.specs.Prelude.{Standing, Checkmate, Stalemate, HasMove, TableValue, ShowsReach, reach_at}
 use Rattle.egt_probe.specs.Prelude.{IsTrueReach}
@@ -8,8 +8,7 @@ dead_if_one : (p : Setup) (x : ℕ) (number : Option ℕ) → HasReach chess p n
 dead_if_one p x number has shows e = grind arith
 
 alive_if_other : (p : Setup) (x : ℕ) (number : Option ℕ) → HasReach chess p number → ShowsReach x number → x ≢ 1 → ¬ (IsDead chess p)
-alive_if_other p x (Some n) has shows other dead = dead n has.0
-alive_if_other p x None has shows other dead = other shows.1
+alive_if_other p x number has shows other dead = grind arith
 
 module _ (t : TableValue) (truth : IsTrueReach t) (p : Setup) (i x : ℕ) (ok : IsAdmissible p) (is : IsIndex t.class p i) (e : x ≡ reach_at t i) where
   -- an entry of 1 shows a dead position

@@ -1,5 +1,5 @@
 -- What a verdict means in the words of forced mate and of the defence against it.
-use Rattle.std.proofs.Common.{◌≡◌, ℕ, zero, suc, subst, arith}
+use Rattle.std.proofs.Common.{◌≡◌, ℕ, subst, arith}
 use Rattle.egt_probe.specs.Prelude.{Side, other_side, Setup, Win, Loss, HasValue, MatesWithin, IsMatedWithin}
 use Rattle.egt_probe.specs.Prelude.{CannotMateBefore, AvoidsMateBefore, chess, mate_by}
 
@@ -13,8 +13,7 @@ win_is : (n : ℕ) (p : Setup) → HasValue chess p (Win n) → MatesWithin ches
 win_is n p h = grind arith
 
 loss_is : (n : ℕ) (p : Setup) → HasValue chess p (Loss n) → IsMatedWithin chess n p × AvoidsMateBefore chess n p
-loss_is zero p h = (h, tt)
-loss_is (suc n) p h = h
+loss_is n p h = grind arith
 
 pub forced : (p : Setup) (n : ℕ) → HasValue chess p (mate_by p.side p.side n) → MatesWithin chess n p × CannotMateBefore chess n p
 forced p n h = win_is n p (subst (HasValue chess p) (mover_wins p.side n) h)

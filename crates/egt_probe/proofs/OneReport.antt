@@ -1,8 +1,8 @@
 -- A line has one report.
-use Rattle.std.proofs.Common.{◌≡◌, ℕ, zero, suc, ◌<◌, ◌≤◌, ◌⊎◌, true, false, is_some, IsSome, List, [], ◌∷◌, ◌++◌}
+use Rattle.std.proofs.Common.{◌≡◌, ℕ, zero, suc, ◌<◌, ◌≤◌, ◌⊎◌, is_some, IsSome, List, [], ◌∷◌, ◌++◌}
 use Rattle.std.proofs.Common.{length, Option, Some, None, refl, sym, ap, ◌∙◌, subst, inl, inr, arith}
-use Rattle.egt_probe.specs.Prelude.{cases_lt, Kind, Q, R, B, N, P, K, Side, White, Black, Setup, IsAdmissible, Fen}
-use Rattle.egt_probe.specs.Prelude.{Value, Win, Loss, Draw, mate_by, Leads, place_of, promotion_place, Move, Reports}
+use Rattle.egt_probe.specs.Prelude.{cases_lt, Kind, Q, R, B, N, P, K, Side, Setup, IsAdmissible, Fen}
+use Rattle.egt_probe.specs.Prelude.{Value, Draw, mate_by, Leads, place_of, promotion_place, Move, Reports}
 use Rattle.egt_probe.specs.Prelude.{Facts, IsHold, IsFirstTo, next_value, plies_of, IsLine, Loaded, IsOfClass}
 use Rattle.egt_probe.specs.Prelude.{IsMissing, PositionReport, Unloaded, Decisive, Dead, Drawn, verdict_of, Report}
 use Rattle.egt_probe.specs.Prelude.{Long, Refused, Answered, decided_text, dead_text, drawn_text, missing_text}
@@ -11,11 +11,7 @@ use Rattle.egt_probe.specs.declared.outcome.Outcome.TheVariants as outcomes
 
 -- the next value is one ply nearer
 next_plies : (v w : Value) → next_value v ≡ Some w → plies_of v ≡ suc (plies_of w)
-next_plies (Win zero) w e = absurd (cc)
-next_plies (Win (suc n)) w e = let same : Loss n ≡ w = cc in ap (λ (u : Value). suc (plies_of u)) same
-next_plies (Loss zero) w e = absurd (cc)
-next_plies (Loss (suc n)) w e = let same : Win n ≡ w = cc in ap (λ (u : Value). suc (plies_of u)) same
-next_plies Draw w e = absurd (cc)
+next_plies v w e = grind (arith, plies_of)
 
 -- a line has a move a ply
 pub as_long : (p : Setup) (v : Value) (ms : List Move) → IsLine p v ms → length ms ≡ plies_of v
@@ -40,25 +36,11 @@ promotion_below o = grind arith
 
 -- moves on the board with one place are one move
 same_place : (m n : Move) → m.to < 64 → n.to < 64 → place_of m ≡ place_of n → m ≡ n
-same_place m n m_in n_in e =
-    let low = promotion_below m.promo in
-    let high = promotion_below n.promo in
-    let from : m.from ≡ n.from = omega (arith, e, m_in, n_in, low, high) in
-    let to : m.to ≡ n.to = omega (arith, e, m_in, n_in, low, high) in
-    let place : promotion_place m.promo ≡ promotion_place n.promo = omega (arith, e, m_in, n_in, low, high) in
-    let promo : m.promo ≡ n.promo = sym (promotion_back m.promo) ∙ ap promotion_at place ∙ promotion_back n.promo in
-    λ i. record { from = from i; to = to i; promo = promo i }
+same_place m n m_in n_in e = grind (arith, promotion_below, promotion_place, promotion_back)
 
 -- the winner and the plies of a value
 pub won_by : (s w x : Side) (n k : ℕ) → mate_by s w n ≡ mate_by s x k → (w ≡ x) × (n ≡ k)
-won_by White White White n k e = (refl, cc)
-won_by White White Black n k e = absurd (cc)
-won_by White Black White n k e = absurd (cc)
-won_by White Black Black n k e = (refl, cc)
-won_by Black White White n k e = (refl, cc)
-won_by Black White Black n k e = absurd (cc)
-won_by Black Black White n k e = absurd (cc)
-won_by Black Black Black n k e = (refl, cc)
+won_by s w x n k e = grind arith
 
 pub not_drawn : (s w : Side) (n : ℕ) → mate_by s w n ≡ Draw → ⊥
 not_drawn s w n e = grind arith
@@ -100,9 +82,7 @@ module _ (facts : Facts) where
   same_class p c d here there = facts.one_class p c d here.flipped there.flipped here.below there.below here.of there.of
 
   pub not_both : (loaded : Loaded) (p : Setup) (c d : ℕ) → IsMissing loaded p c → IsOfClass d p → IsSome (loaded d) → ⊥
-  not_both loaded p c d missing of there =
-      let same = same_class p c d missing.of of in
-      let bad : false ≡ true = sym missing.absent ∙ ap (λ (k : ℕ). is_some (loaded k)) same ∙ there in cc
+  not_both loaded p c d missing of there = grind (arith, same_class, is_some)
 
   -- no dead position with a legal move is told to be drawn alone
   pub dead_or_drawn : (loaded : Loaded) (p : Setup) (c d : ℕ) → IsVerdict loaded p (verdict_of c outcomes.Dead) → IsVerdict loaded p (verdict_of d outcomes.Draw) → ⊥

@@ -118,8 +118,10 @@ pub fn answer<S: Source, K: Sink>(
     source: &mut S,
     sink: &mut K,
 ) -> Result<(), AnswerFault>
-    ensures answered { OnOk result (AnsweredAll (loaded_in library.now) (S.left source.old) (S.left source.new) (K.written sink.old) (K.written sink.new)) }
-    ensures fault { IfErr result (λ fault. AnsweredSome (loaded_in library.now) fault (S.left source.old) (K.written sink.old) (K.written sink.new)) }
+    ensures answered { OnOk result (AnsweredAll (loaded_in library.now) (S.left source.old) (S.left source.new)
+        (K.written sink.old) (K.written sink.new)) }
+    ensures fault { IfErr result (λ fault. AnsweredSome (loaded_in library.now) fault (S.left source.old)
+        (K.written sink.old) (K.written sink.new)) }
     ensures failures { CountsEither result (S.failures source.old) (S.failures source.new) (K.failures sink.old)
         (K.failures sink.new) }
 {

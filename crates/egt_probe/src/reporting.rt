@@ -56,7 +56,8 @@ pub(crate) fn report(
     library: &Library,
     kept: &OpenLine,
 ) -> Result<Vec<u8>, AllocError>
-    ensures { IfOk result (λ text. (line : List ℕ) → Holds kept.now line → Report (loaded_in library.now) line text.items) }
+    ensures { IfOk result (λ text. (line : List ℕ) → Holds kept.now line →
+        Report (loaded_in library.now) line text.items) }
 {
     if kept.is_long {
         long_text(alloc)

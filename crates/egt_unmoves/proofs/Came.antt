@@ -125,12 +125,7 @@ came b m q c = record {
     moved = moved_on b.men q.men c.leads.man m.from m.to c.leads.stands free men_now
 
     by_going : Goes b c.leads.man m.from m.to → GoesOver b.men c.leads.man m.from m.to
-    by_going (inl piece) = inl (piece.piece, piece.reaches)
-    by_going (inr (inl advance)) = inr (advance.pawn, advance.advances)
-    by_going (inr (inr takes)) = elim takes.takes [
-      | inl enemy ↦ absurd (c.no_capture (inl enemy))
-      | inr target ↦ absurd (never takes.pawn target)
-    ]
+    by_going h = grind (arith, never)
 
 -- the man that stands where the move ends is the one that moved
 pub came_man : (b : Setup) (m : Move) (q : Setup) (man : Man) (c : Came b m q) → Stands q.men m.to man → c.man ≡ man

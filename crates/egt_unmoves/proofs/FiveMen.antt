@@ -1,7 +1,7 @@
 -- Four men leave room for one target that a pawn stands ready to take.
-use Rattle.std.proofs.Common.{◌≡◌, ◌≢◌, ℕ, suc, zero, ◌-◌, ◌≤◌, ◌⊎◌, Option, Some, None, IfSome, cond, arith, refl, sym}
+use Rattle.std.proofs.Common.{◌≡◌, ◌≢◌, ℕ, suc, zero, ◌-◌, ◌≤◌, ◌⊎◌, Option, Some, None, cond, arith, refl, sym}
 use Rattle.std.proofs.Common.{ap, ◌∙◌, inl, inr, subst}
-use Rattle.egt_unmoves.specs.Prelude.{is_some, nat_cmp_total, nat_cmp, cases_eq, Side, White, Black, P, K, Man}
+use Rattle.egt_unmoves.specs.Prelude.{is_some, nat_cmp_total, nat_cmp, cases_eq, Side, White, Black, Man}
 use Rattle.egt_unmoves.specs.Prelude.{other_side, king_of, pawn_of, ahead, HasPawnBeside, Placement, Stands, one_man}
 use Rattle.egt_unmoves.specs.Prelude.{get-remove_other, Setup, IsAdmissible, IsSettled, rank_of, IsTarget, target_rank}
 use Rattle.egt_unmoves.specs.Prelude.{Move, advanced_rank, ComesBy, MayComeFrom, side_twice, sides_differ}
@@ -44,43 +44,16 @@ five_men men a b c d e v w x y z on_a on_b on_c on_d on_e ab ac ad ae bc bd be c
     stays : (m : Placement) (s t : ℕ) (man : Man) → s ≢ t → Stands m t man → Stands (map.remove m s) t man
     stays m s t man other stands = get-remove_other m s t (λ same. other (sym same)) ∙ stands
 
-pawns_differ : (side : Side) → pawn_of side ≢ pawn_of (other_side side)
-pawns_differ side e = grind arith
-
 kings_differ : king_of White ≢ king_of Black
 kings_differ e = let bad : White ≡ Black = ap (λ (x : Man). x.side) e in cc
 
-king_no_pawn : (a b : Side) → king_of a ≢ pawn_of b
-king_no_pawn a b e = let bad : K ≡ P = ap (λ (x : Man). x.kind) e in cc
-
 -- with a pawn of the side to move, the other side has one pawn at most
 one_pawn : (p : Setup) (x y z : ℕ) → IsAdmissible p → Stands p.men x (pawn_of (other_side p.side)) → Stands p.men y (pawn_of (other_side p.side)) → Stands p.men z (pawn_of p.side) → x ≡ y
-one_pawn p x y z ok c d e = elim (cases_eq x y) [
-  | inl same ↦ same
-  | inr other ↦
-      let a = ok.kings.white_there.stands in
-      let b = ok.kings.black_there.stands in
-      let few = ok.few in
-      let five = five_men p.men _ _ _ _ _ _ _ _ _ _ a b c d e
-      (apart p.men _ _ _ _ kings_differ a b)
-      (apart p.men _ _ _ _ (king_no_pawn White (other_side p.side)) a c)
-      (apart p.men _ _ _ _ (king_no_pawn White (other_side p.side)) a d)
-      (apart p.men _ _ _ _ (king_no_pawn White p.side) a e)
-      (apart p.men _ _ _ _ (king_no_pawn Black (other_side p.side)) b c)
-      (apart p.men _ _ _ _ (king_no_pawn Black (other_side p.side)) b d)
-      (apart p.men _ _ _ _ (king_no_pawn Black p.side) b e)
-      other
-      (apart p.men _ _ _ _ (λ same. pawns_differ p.side (sym same)) c e)
-      (apart p.men _ _ _ _ (λ same. pawns_differ p.side (sym same)) d e) in
-      absurd (omega arith)
-]
+one_pawn p x y z ok c d e = grind (arith, cases_eq, five_men, apart)
 
 -- the target, if there is one, is one that a pawn stands ready to take
 pub target_of : (p : Setup) (t : ℕ) → IsAdmissible p → IsSettled p → p.target ≡ Some t → IsTarget p.men p.side t × HasPawnBeside p.men p.side (ahead (other_side p.side) t)
-target_of p t ok settled is = (
-  subst (λ (o : Option ℕ). IfSome o (IsTarget p.men p.side)) is ok.target,
-  subst (λ (o : Option ℕ). IfSome o (λ t. HasPawnBeside p.men p.side (ahead (other_side p.side) t))) is settled,
-)
+target_of p t ok settled is = grind (arith, ahead, other_side)
 
 -- a target is ahead of its pawn for the other side
 rank_advanced : (side : Side) (t : ℕ) → rank_of t ≡ target_rank (other_side side) → rank_of (ahead side t) ≡ advanced_rank side
@@ -138,8 +111,4 @@ module _ (b q : Setup) (m : Move) (comes : ComesBy b m q) where
 
   -- where no pawn has advanced, there was no target
   pub no_target_before : ((s : ℕ) → Stands q.men s (pawn_of q.side) → rank_of s ≡ advanced_rank q.side → ⊥) → b.target ≡ None
-  no_target_before none = by_target b.target refl
-    where
-      by_target : (o : Option ℕ) → b.target ≡ o → b.target ≡ None
-      by_target None is = is
-      by_target (Some t) is = let here = advanced t is in absurd (none (ahead q.side t) here.0 (rank_advanced q.side t here.1))
+  no_target_before none = grind (arith, advanced, ahead, rank_advanced)

@@ -1,7 +1,7 @@
 -- The unmoves of all men of the side that waits, and room for them: two a goal, of which a man has 28 and the king 8.
 use Rattle.std.proofs.Common.{◌≡◌, ◌≢◌, ℕ, ◌+◌, ◌*◌, ◌<◌, ◌≤◌, ◌↔◌, List, [], length, arith, refl, sym, ap, ◌∙◌, inl}
 use Rattle.std.proofs.Common.{inr, subst}
-use Rattle.egt_unmoves.specs.Prelude.{bit_at, cases_eq, cases_lt, bit_at-lt, Side, White, Black, Kind}
+use Rattle.egt_unmoves.specs.Prelude.{bit_at, cases_eq, bit_at-lt, Side, White, Black, Kind}
 use Rattle.egt_unmoves.specs.Prelude.{Man, SquareSet, other_side, king_of, Stands, IsHeld, one_man, Has, size_of}
 use Rattle.egt_unmoves.specs.Prelude.{size_of-some, Setup, IsAdmissible, IsKingOn, most_goals, Unmove, ListsBelow}
 use Rattle.egt_unmoves.proofs.Came.{came}
@@ -59,9 +59,7 @@ room_for q now left left' s man k ok has gone others size stands king room = eli
 
 pub ListsMen-room : (q : Setup) (now : List Unmove) (left left' : SquareSet) (s : ℕ) (man : Man) → IsAdmissible q → Has left s → bit_at left'.bits s ≡ 0 → ((t : ℕ) → t ≢ s → bit_at left'.bits t ≡ bit_at left.bits t)
     → size_of left' + 1 ≡ size_of left → Stands q.men s man → ListsMen q now left → length now + 2 * most_goals man.kind ≤ 128
-ListsMen-room q now left left' s man ok has gone others size stands l =
-    let k = king_square q (other_side q.side) ok in
-    (room_for q now left left' s man k.0 ok has gone others size stands k.1 (l.room k.0 k.1)).1
+ListsMen-room q now left left' s man ok has gone others size stands l = grind (arith, king_square, other_side, room_for)
 
 -- no man that has moved stands on a square between
 skipped : (q : Setup) (now : List Unmove) (left : SquareSet) (n : ℕ) → n ≤ 64 → (l : ListsMen q now left) → l.next ≤ n → ((t : ℕ) → t < n → bit_at left.bits t ≡ 0) → ListsBelow q (n * 128) now
@@ -90,20 +88,10 @@ ListsMen-more q now new left left' s man ok s_in has least gone others size stan
 }
   where
     there : (t : ℕ) → Has left' t → IsHeld q.men t (other_side q.side) × (s + 1 ≤ t)
-    there t h = elim (cases_eq t s) [
-      | inl e ↦ not_both (bit_at left'.bits s) gone (ap (bit_at left'.bits) (sym e) ∙ h)
-      | inr other ↦ let was : Has left t = sym (others t other) ∙ h in (
-        ((l.left_is t).0 was).0,
-        elim (cases_lt t s) [
-          | inl less ↦ not_both (bit_at left.bits t) (least t less) was
-          | inr le ↦ omega arith
-        ],
-      )
-    ]
+    there t h = grind (arith, cases_eq, not_both, bit_at)
 
     back : (t : ℕ) → IsHeld q.men t (other_side q.side) × (s + 1 ≤ t) → Has left' t
-    back t h = let high = h.1 in let first = ((l.left_is s).0 has).1 in
-        others t (λ e. omega arith) ∙ (l.left_is t).1 (h.0, omega arith)
+    back t h = grind arith
 
 -- no man is left
 pub ListsMen-all : (q : Setup) (now : List Unmove) (left : SquareSet) → ListsMen q now left → ((t : ℕ) → bit_at left.bits t ≡ 0) → ListsBelow q (64 * 128) now

@@ -1,7 +1,7 @@
 -- The unmoves of one place, of one square before, and of one man.
 use Rattle.std.proofs.Common.{◌≡◌, ◌≢◌, ℕ, ◌+◌, ◌*◌, ◌<◌, ◌≤◌, ◌↔◌, ◌⊎◌, List, [], ◌∷◌, ◌++◌, length, Bool}
 use Rattle.std.proofs.Common.{IsTrue, Option, Some, None, arith, sym, ap, ◌∙◌, inl, inr, subst}
-use Rattle.egt_unmoves.specs.Prelude.{bit_at, cases_eq, cases_lt, P, Man, SquareSet, Side, other_side}
+use Rattle.egt_unmoves.specs.Prelude.{bit_at, cases_eq, P, Man, SquareSet, Side, other_side}
 use Rattle.egt_unmoves.specs.Prelude.{ahead, HasPawnBeside, Placement, Stands, one_man, IsTarget, Has, size_of, Setup}
 use Rattle.egt_unmoves.specs.Prelude.{Move, IsPawnOn, plain, most_goals, Unmove, ComesBy, TakesBack, MayComeFrom, Went}
 use Rattle.egt_unmoves.specs.Prelude.{men_before, place_of, target_place, ListsBelow}
@@ -70,10 +70,7 @@ module _ (q : Setup) (man : Man) (from to : ℕ) (target : Option ℕ) (may : Ma
 
 -- a position before with a target has the one that it may have
 pub this_one : (o : Option ℕ) (passed : Option ℕ) (t : ℕ) → (o ≡ None) ⊎ (o ≡ passed) → passed ≡ Some t → target_place o ≡ 1 → o ≡ Some t
-this_one o passed t may is some = elim may [
-  | inl none ↦ let e : target_place o ≡ 0 = ap target_place none in absurd (omega arith)
-  | inr here ↦ here ∙ is
-]
+this_one o passed t may is some = grind (arith, target_place)
 
 -- where it may have none, it has none
 pub none_of : (o passed : Option ℕ) → (o ≡ None) ⊎ (o ≡ passed) → passed ≡ None → o ≡ None
@@ -156,20 +153,10 @@ module _ (q : Setup) (man : Man) (to : ℕ) (sources : SquareSet) (complete : (b
   }
     where
       there : (t : ℕ) → Has left' t → Has sources t × (s + 1 ≤ t)
-      there t h = elim (cases_eq t s) [
-        | inl e ↦ not_both (bit_at left'.bits s) gone (ap (bit_at left'.bits) (sym e) ∙ h)
-        | inr other ↦ let was : Has left t = sym (others t other) ∙ h in (
-          ((l.left_is t).0 was).0,
-          elim (cases_lt t s) [
-            | inl less ↦ not_both (bit_at left.bits t) (least t less) was
-            | inr le ↦ omega arith
-          ],
-        )
-      ]
+      there t h = grind (arith, cases_eq, not_both, bit_at)
 
       back : (t : ℕ) → Has sources t × (s + 1 ≤ t) → Has left' t
-      back t h = let high = h.1 in let first = ((l.left_is s).0 has).1 in
-          others t (λ e. omega arith) ∙ (l.left_is t).1 (h.0, omega arith)
+      back t h = grind arith
 
   -- no square is left
   pub ListsTo-all : (old now : List Unmove) (left : SquareSet) → ListsTo q man to sources old now left → ((t : ℕ) → bit_at left.bits t ≡ 0) → ListsBelow q ((to + 1) * 128) now

@@ -1,16 +1,13 @@
 -- Two kings in the corners are a position.
-use Rattle.std.proofs.Common.{◌≡◌, ◌≢◌, ℕ, ◌+◌, ◌≤◌, ◌⊎◌, Some, None, cond, Bool, arith, refl, sym, ap}
+use Rattle.std.proofs.Common.{◌≡◌, ◌≢◌, ℕ, ◌+◌, ◌≤◌, ◌⊎◌, Some, None, arith, refl, sym, ap}
 use Rattle.std.proofs.Common.{◌∙◌, inl, inr, subst}
-use Rattle.egt_unmoves.specs.Prelude.{is_some, nat_cmp_total, nat_cmp, cases_eq, Side, White, Black, P, K, Man, king_of}
+use Rattle.egt_unmoves.specs.Prelude.{is_some, nat_cmp, cases_eq, Side, White, Black, P, K, Man, king_of}
 use Rattle.egt_unmoves.specs.Prelude.{IsInCheck, corners, Reaches, Placement, Stands, IsFree, get-insert_same}
 use Rattle.egt_unmoves.specs.Prelude.{get-insert_other, IsAdmissible, IsKingOn}
 use Rattle.std.specs.FinMap as map
 
 no_more : (m : Placement) (s : ℕ) (man : Man) → map.len (map.insert m s man) ≤ map.len m + 1
-no_more m s man = by_key (is_some (map.get m s)) (map.len-insert nat_cmp_total m s man)
-  where
-    by_key : (b : Bool) → map.len (map.insert m s man) ≡ cond b (map.len m) (map.len m + 1) → map.len (map.insert m s man) ≤ map.len m + 1
-    by_key b e = grind arith
+no_more m s man = grind (arith, is_some, map.get, map.len-insert)
 
 kings_differ : king_of White ≢ king_of Black
 kings_differ e = let bad : White ≡ Black = ap (λ (x : Man). x.side) e in cc

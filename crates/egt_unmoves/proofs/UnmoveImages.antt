@@ -1,5 +1,5 @@
 -- The unmoves of an image.
-use Rattle.std.proofs.Common.{◌≡◌, ℕ, ◌<◌, ◌↔◌, ◌/◌, ◌%◌, ◌==◌, Bool, true, false, Option, Some, None, IfSome, arith}
+use Rattle.std.proofs.Common.{◌≡◌, ℕ, ◌<◌, ◌↔◌, ◌/◌, ◌%◌, ◌==◌, Bool, Option, Some, None, IfSome, arith}
 use Rattle.std.proofs.Common.{refl, sym, ap, ◌∙◌, inl, inr, subst}
 use Rattle.egt_unmoves.specs.Prelude.{option_map, cases_eq, Side, Man, Mirror, Files, Ranks, Diagonal}
 use Rattle.egt_unmoves.specs.Prelude.{Colours, square_by, square_by-twice, HasNoPawn, Stands, IsFree, one_man}
@@ -13,8 +13,7 @@ use Rattle.egt_board.proofs.Images.{square_if-within}
 
 -- no two squares of the board become one
 apart_if : (b : Bool) (m : Mirror) (s t : ℕ) → s < 64 → t < 64 → square_if b m s ≡ square_if b m t → s ≡ t
-apart_if true m s t s_in t_in e = sym (square_by-twice m s s_in) ∙ ap (square_by m) e ∙ square_by-twice m t t_in
-apart_if false m s t s_in t_in e = e
+apart_if b m s t s_in t_in e = grind (arith, square_by-twice, square_by)
 
 turned_apart : (n : ℕ) (flipped : Bool) (s t : ℕ) → s < 64 → t < 64 → turned_square n flipped s ≡ turned_square n flipped t → s ≡ t
 turned_apart n flipped s t s_in t_in e =

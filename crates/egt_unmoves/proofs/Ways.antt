@@ -1,17 +1,12 @@
 -- The ways back.
-use Rattle.std.proofs.Common.{◌≡◌, ℕ, zero, suc, ◌+◌, ◌-◌, ◌<◌, ◌≤◌, ◌⊎◌, arith, sym, ap, ◌∙◌, inl, inr}
-use Rattle.std.proofs.Common.{if◌then◌else◌, ◌==◌, Bool, true, Some, None, ◌&&◌, ◌/◌}
-use Rattle.egt_unmoves.specs.Prelude.{Side, White, Black, P, Man, other_side, rank_of, Away, ahead, forward, home_rank}
-use Rattle.egt_unmoves.specs.Prelude.{farthest_advance, Advances, passed, is_two_ranks, is_pawn}
-use Rattle.egt_moves.proofs.Admissible.{two_ranks_told}
+use Rattle.std.proofs.Common.{◌≡◌, ℕ, zero, suc, ◌+◌, ◌-◌, ◌<◌, ◌≤◌, ◌⊎◌, arith, inl, inr}
+use Rattle.egt_unmoves.specs.Prelude.{Side, White, Black, other_side, rank_of, Away, ahead, forward, home_rank}
+use Rattle.egt_unmoves.specs.Prelude.{farthest_advance, Advances}
 use Rattle.egt_moves.proofs.SettledMoves.{farthest_two}
 
 -- a pawn steps one square at least
 some_advance : (side : Side) (s : ℕ) → 1 ≤ farthest_advance side s
-some_advance side s = by_test (rank_of s == home_rank side)
-  where
-    by_test : (b : Bool) → 1 ≤ (if b then 2 else 1)
-    by_test b = grind arith
+some_advance side s = grind (arith, rank_of, home_rank)
 
 one_back : (G : ℕ → Type 0) (side : Side) (s t : ℕ) → G s → Away (forward side) 1 t s → Advances G side t s
 one_back G side s t free away = record {
@@ -48,19 +43,3 @@ passed_over F side s t s_in a = by_count side a.rides.count a.rides.moves (omega
     by_count Black (suc (suc zero)) some few away clear = let x = away.across in let y = away.along in let z = away.on_board in
         inr (clear 1 (t + 8) (omega arith) (omega arith) (record { on_board = omega arith; across = omega arith; along = omega arith }))
     by_count side n some few away clear = grind arith
-
-if_some : (b : Bool) (x t : ℕ) → (if b then Some x else None) ≡ Some t → (b ≡ true) × (x ≡ t)
-if_some b x t e = grind arith
-
--- the square that a pawn passes is the one behind its goal
-pub ahead_passed : (F : ℕ → Type 0) (man : Man) (s t u : ℕ) → man.kind ≡ P → Advances F man.side s t → passed man s t ≡ Some u → ahead man.side u ≡ t
-ahead_passed F man s t u pawn a e = by_count man.side a.rides.count a.rides.moves (omega (arith, a.rides.within, farthest_two man.side s)) a.rides.away
-  where
-    found : (is_two_ranks s t ≡ true) × ((s + t) / 2 ≡ u)
-    found = if_some (is_two_ranks s t) ((s + t) / 2) u (ap (λ k. if is_pawn k && is_two_ranks s t then Some ((s + t) / 2) else None) (sym pawn) ∙ e)
-
-    apart : (rank_of t ≡ rank_of s + 2) ⊎ (rank_of s ≡ rank_of t + 2)
-    apart = two_ranks_told s t found.0
-
-    by_count : (side : Side) (n : ℕ) → 0 < n → n ≤ 2 → Away (forward side) n s t → ahead side u ≡ t
-    by_count side n some few away = grind arith

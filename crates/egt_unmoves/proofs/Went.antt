@@ -1,7 +1,7 @@
 -- A move led here from a square exactly where what `Went` asks of the square holds.
-use Rattle.std.proofs.Common.{◌≡◌, ◌≢◌, ◌↔◌, ℕ, ◌<◌, ◌⊎◌, ◌==◌, ◌&&◌, Option, Some, None, IfSome, arith, refl, sym, ap}
+use Rattle.std.proofs.Common.{◌≡◌, ◌≢◌, ◌↔◌, ℕ, ◌⊎◌, Option, Some, None, IfSome, arith, refl, sym, ap}
 use Rattle.std.proofs.Common.{◌∙◌, inl, inr, subst}
-use Rattle.egt_unmoves.specs.Prelude.{cases_eq, eqb_tells, Side, White, Black, Kind, P, Man, king_of}
+use Rattle.egt_unmoves.specs.Prelude.{cases_eq, Side, White, Black, P, Man, king_of}
 use Rattle.egt_unmoves.specs.Prelude.{IsInCheck, Rides-free, other_side, pawn_of, ahead, forward, last_rank}
 use Rattle.egt_unmoves.specs.Prelude.{farthest_advance, MayStand, Advances, HasPawnBeside, Placement, Stands, IsFree}
 use Rattle.egt_unmoves.specs.Prelude.{one_man, get-insert_other, get-remove_other, Setup, IsAdmissible, IsKingOn}
@@ -11,7 +11,7 @@ use Rattle.egt_unmoves.specs.Prelude.{Went, GoesOver, led_to, men_before, setup_
 use Rattle.std.specs.FinMap as map
 use Rattle.egt_unmoves.proofs.Came.{Came, came, came_man, moved_on, not_free, left_whole, settles_men, settles_side, settles_once}
 use Rattle.egt_unmoves.proofs.Room.{few_before}
-use Rattle.egt_unmoves.proofs.Ways.{passed_over, ahead_passed}
+use Rattle.egt_unmoves.proofs.Ways.{passed_over}
 
 -- a move that led here went so
 pub comes_went : (b q : Setup) (m : Move) (man : Man) → Stands q.men m.to man → ComesBy b m q → Went q man m.to m.from
@@ -95,17 +95,7 @@ module _ (q : Setup) (man : Man) (to from : ℕ) (may : MayComeFrom q man to fro
 
   -- it is admissible before, with a target that fits
   admissible_before : (target : Option ℕ) → IsAdmissible q → Went q man to from → FitsTarget (men_before q.men man to from) (other_side q.side) target → IsAdmissible (setup_before q man to from target)
-  admissible_before target ok went fits = record {
-    few = few_before q.men man to from may.stands ok.few;
-    on_board = λ s other stands. elim (stood s other stands) [ inl h ↦ subst (λ u. u < 64) (sym h.0) went.within | inr h ↦ ok.on_board s other h.2 ];
-    kings = kings_before ok.kings;
-    pawns = λ s other stands. elim (stood s other stands) [
-      | inl h ↦ subst (λ u. MayStand other u) (sym h.0) (subst (λ (y : Man). MayStand y from) (sym h.1) went.fits)
-      | inr h ↦ ok.pawns s other h.2
-    ];
-    target = fits;
-    quiet = λ check. went.quiet (subst (IsInCheck (men_before q.men man to from)) (side_twice q.side) check);
-  }
+  admissible_before target ok went fits = grind (arith, few_before, stood, kings_before)
 
   -- a pawn that advances arrives on no target, since the pawn that has passed it is in the way
   not_taken : (target : Option ℕ) → Went q man to from → FitsTarget (men_before q.men man to from) (other_side q.side) target → man.kind ≡ P → target ≡ Some to → ⊥
@@ -123,10 +113,7 @@ module _ (q : Setup) (man : Man) (to from : ℕ) (may : MayComeFrom q man to fro
 
   -- no pawn stands on its last rank
   no_promotion : IsAdmissible q → FitsPromotion (promotes man to) None
-  no_promotion ok = by_kind man.kind (ok.pawns to man may.stands)
-    where
-      by_kind : (kind : Kind) → (kind ≡ P → (0 < rank_of to) × (rank_of to < 7)) → FitsPromotion (is_pawn kind && (rank_of to == last_rank man.side)) None
-      by_kind kind inside = grind arith
+  no_promotion ok = grind (arith, rank_of, is_pawn, last_rank)
 
   -- a man that went so came by that move
   pub went_comes : (target : Option ℕ) → IsAdmissible q → Went q man to from → FitsTarget (men_before q.men man to from) (other_side q.side) target → IsSettled (setup_before q man to from target)
@@ -168,13 +155,7 @@ module _ (q : Setup) (man : Man) (to from : ℕ) (may : MayComeFrom q man to fro
 -- what the advance of a pawn leaves settles to a position with the target, where a pawn stands ready to take it
 module _ (F : ℕ → Type 0) (q : Setup) (man : Man) (to from target : ℕ) (pawn : man.kind ≡ P) (theirs : man.side ≡ other_side q.side) (advances : Advances F man.side from to) (is : passed man from to ≡ Some target) where
   settled_led : IsSettled (led_to q man to from) ↔ HasPawnBeside q.men q.side to
-  settled_led = (
-    λ settled. subst (HasPawnBeside q.men q.side) behind (subst (λ (o : Option ℕ). IfSome o (λ t. HasPawnBeside q.men q.side (ahead (other_side q.side) t))) is settled),
-    λ ready. subst (λ (o : Option ℕ). IfSome o (λ t. HasPawnBeside q.men q.side (ahead (other_side q.side) t))) (sym is) (subst (HasPawnBeside q.men q.side) (sym behind) ready),
-  )
-    where
-      behind : ahead (other_side q.side) target ≡ to
-      behind = ap (λ side. ahead side target) (sym theirs) ∙ ahead_passed F man from to target pawn advances is
+  settled_led = grind (arith, ahead, other_side, target)
 
   pub target_stays : HasPawnBeside q.men q.side to → SettlesTo (led_to q man to from) (record { men = q.men; side = q.side; target = Some target })
   target_stays ready = inl (settled_led.1 ready, λ i. record { men = q.men; side = q.side; target = sym is i })

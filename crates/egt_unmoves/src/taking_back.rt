@@ -49,7 +49,8 @@ fn is_same(target: Option<Square>, other: Option<Square>) -> bool
 fn advanced(position: &Position, board: &Board, man: Man, from: Square, to: Square) -> bool
     requires pawn { man.kind ≡ P }
     requires theirs { man.side ≡ other_side position.now.side }
-    ensures { IsTrue result ↔ (MayStand man from × Advances (IsFree board.now) man.side from to × SettlesTo (led_to position.now man to from) position.now) }
+    ensures { IsTrue result ↔ (MayStand man from × Advances (IsFree board.now) man.side from to ×
+        SettlesTo (led_to position.now man to from) position.now) }
 {
     if !may_have_pawn(from) {
         return false;

@@ -8,7 +8,8 @@ use egt_board::{Board, Position, Side, Square};
 /// Whether a pawn may have passed this square in the last move, with that side to move now, and a pawn stands ready
 /// to take it.
 pub(crate) fn is_settled_target(board: &Board, mover: Side, square: Square) -> bool
-    ensures { IsTrue result ↔ (IsTarget board.now mover square × HasPawnBeside board.now mover (ahead (other_side mover) square)) }
+    ensures { IsTrue result ↔ (IsTarget board.now mover square ×
+        HasPawnBeside board.now mover (ahead (other_side mover) square)) }
 {
     board.is_target(mover, square) && board.has_pawn_beside(mover, square.ahead(mover.other()))
 }

@@ -5,13 +5,7 @@ use Rattle.egt_unmoves.proofs.sources.quiet.Goals as goal
 
 -- a bit of the one set and not of the other
 kept : (X Y : Type 0) (a o m : ℕ) → a < 2 → o < 2 → m ≡ min a (1 - o) → (a ≡ 1) ↔ X → (o ≡ 1) ↔ Y → (m ≡ 1) ↔ (X × (¬ Y))
-kept X Y a o m a_bit o_bit e in_a in_o = (
-  λ one. (in_a.0 (omega arith), λ y. let bad : o ≡ 1 = in_o.1 y in absurd (omega arith)),
-  λ h.
-      let one : a ≡ 1 = in_a.1 h.0 in
-      let none : o ≢ 1 = λ bad. h.1 (in_o.0 bad) in
-      omega arith,
-)
+kept X Y a o m a_bit o_bit e in_a in_o = grind arith
 
 pub returns : goal.returns
 returns c = λ s s_in free.
