@@ -1,15 +1,18 @@
 //! What scripts measure, compare and refuse, and no command of `egtb` shows. Nothing here judges a figure.
 //!
-//! - `table DIR CLASS` builds the class's table and checks it beside those that it rests on, read from the folder's files, prints how long both
-//!   take and how much memory was in use at most, and writes the file.
+//! - `table DIR CLASS` builds the class's table and checks it beside those that it rests on, read from the folder's
+//!   files, prints how long both take and how much memory was in use at most, and writes the file.
 //! - `lines MEN`, with men as `KQkr`, prints FENs of positions drawn at random.
 //! - `refusals CALL CLASS STAGE` makes a call in which a growth of memory may be refused, and makes it again.
-//! - `agree DIR CLASS` reads the tables of the class and of those that it rests on, and prints that the entries of the class's codes are what
-//!   those of the positions after each legal move give, and that what codes spell, legal moves, moves backwards and both games over the class
-//!   are the plain ones; or the first code at which one of them differs, and then its status is 1.
+//! - `agree DIR CLASS` reads the tables of the class and of those that it rests on, and prints that the entries of the
+//!   class's codes are what those of the positions after each legal move give, and that what codes spell, legal moves,
+//!   moves backwards and both games over the class are the plain ones; or the first code at which one of them differs,
+//!   and then its status is 1.
 //! - `sampled` asks this of fewer codes, with no folder, and prints that they agree.
-//! - `solved DIR CLASS` solves both games over the class by counters, which takes a while for four men, and holds their ranks against its table.
-//! - `damaged DIR CLASS` changes entries of the class's table at random, and holds what the checker names against the rules asked plainly.
+//! - `solved DIR CLASS` solves both games over the class by counters, which takes a while for four men, and holds their
+//!   ranks against its table.
+//! - `damaged DIR CLASS` changes entries of the class's table at random, and holds what the checker names against the
+//!   rules asked plainly.
 #![tactic(auto)]
 
 mod agree;

@@ -126,7 +126,8 @@ pub fn promotion_block<S: ShelfScores>(
         (men_after before flips men.now (arriving men.now.last (Some man.kind))) }
     requires officer { IsOfficer man.kind }
     ensures { result ≡ true → (a b : ℕ) → a < 64 → b < 64 →
-        IsRaised 0 (AreAdvancedCodes (S.number source.now) before flips men.now man.side (Some man.kind) a b) (S.worth source.now column) (at out.new a b) }
+        IsRaised 0 (AreAdvancedCodes (S.number source.now) before flips men.now man.side (Some man.kind) a b)
+        (S.worth source.now column) (at out.new a b) }
 {
     *out = nothing();
     if !is_pawn_of(men.last, man.side) {
@@ -298,7 +299,8 @@ pub fn promoting_block<S: LoneScores>(
     requires lone { IsLoneMan (S.number source.now) (turned_man flips man) }
     requires officer { IsOfficer man.kind }
     ensures { result ≡ true → (a b : ℕ) → a < 64 → b < 64 →
-        IsRaised 0 (ArePromotedCodes (S.number source.now) flips men.now man.side man.kind a b) (S.worth source.now column) (at out.new a b) }
+        IsRaised 0 (ArePromotedCodes (S.number source.now) flips men.now man.side man.kind a b)
+        (S.worth source.now column) (at out.new a b) }
 {
     *out = nothing();
     if !is_pawn_of(men.last, man.side) || !is_of(men.one, man.side.other()) {

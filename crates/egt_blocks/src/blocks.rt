@@ -155,7 +155,8 @@ fn home_block<S: ShelfScores>(
     requires men { AreMenOf (S.number source.now) men.now }
     ensures { result ≡ true → (a b : ℕ) → a < 64 → b < 64 → Has rows a →
         IsRaisedHome reading.now.passed (S.number source.now)
-        (S.worth source.now reading.now.column) reading.now.flips (stand_on men.now a b) reading.now.side 0 (at out.new a b) }
+        (S.worth source.now reading.now.column) reading.now.flips (stand_on men.now a b) reading.now.side 0
+        (at out.new a b) }
 {
     let (first, second) = home(has_pawns(source.class()), reading.flips, men.white);
     if !turned_block(source, reading, men, rows, first, out) {
@@ -212,7 +213,8 @@ fn raise_across<S: ShelfScores>(
     requires voids { ScoresNoVoids (S.number source.now) (S.worth source.now reading.now.column) }
     requires men { AreMenOf (S.number source.now) men.now }
     ensures raised { result ≡ true → has_equal_sides (S.number source.now) ≡ true → (a b : ℕ) → a < 64 → b < 64 →
-        IsRaisedHome reading.now.passed (S.number source.now) (S.worth source.now reading.now.column) (not reading.now.flips)
+        IsRaisedHome reading.now.passed (S.number source.now) (S.worth source.now reading.now.column)
+        (not reading.now.flips)
         (stand_on (men_across men.now) b a) reading.now.side (at out.old a b) (at out.new a b) }
     ensures same { has_equal_sides (S.number source.now) ≡ false → out.new ≡ out.old }
 {
@@ -249,7 +251,8 @@ pub fn read_block<S: ShelfScores>(
     requires men { AreMenOf (S.number source.now) men.now }
     ensures { result ≡ true → (a b : ℕ) → a < 64 → b < 64 → Has rows a →
         IsReadWith reading.now.passed (S.number source.now)
-        (S.worth source.now reading.now.column) reading.now.flips (stand_on men.now a b) reading.now.side (at out.new a b) }
+        (S.worth source.now reading.now.column) reading.now.flips (stand_on men.now a b) reading.now.side
+        (at out.new a b) }
 {
     let equal = are_equal(men);
     if !home_block(source, reading, men, rows_read(equal, rows), out) {

@@ -41,7 +41,8 @@ pub fn king_block<S: ShelfScores>(
     requires kept { AreKept (S.number source.now) (S.worth source.now) men.now (other_side side) keys.old blocks.old }
     ensures kept { AreKept (S.number source.now) (S.worth source.now) men.now (other_side side) keys.new blocks.new }
     ensures raised { result ≡ true → (a b : ℕ) → a < 64 → b < 64 →
-        IsRaised 0 (AreKingCodes (S.number source.now) men.now side (IsBesideKing men.now side) a b) (S.worth source.now column) (at out.new a b) }
+        IsRaised 0 (AreKingCodes (S.number source.now) men.now side (IsBesideKing men.now side) a b)
+        (S.worth source.now column) (at out.new a b) }
 {
     *out = nothing();
     let mut rest = beside_king(men, side);

@@ -57,7 +57,10 @@ fn read_king_takes<S: LoneScores>(
     requires there { S.has source.now column }
     requires lone { IsLoneMan (S.number source.now) (turned_man flips men.now.one) }
     ensures { result ≡ true → (b a : ℕ) → b < 64 → a < 64 →
-        IsRaised 0 (λ code. IsBesideKing men.now side b × IsSomeTurnedCode (S.number source.now) code flips (stand_left flips (left_of (with_king men.now side b) men.now.one a)) (other_side side)) (S.worth source.now column) (at out.new b a) }
+        IsRaised 0 (λ code. IsBesideKing men.now side b ×
+        IsSomeTurnedCode (S.number source.now) code flips
+        (stand_left flips (left_of (with_king men.now side b) men.now.one a)) (other_side side))
+        (S.worth source.now column) (at out.new b a) }
 {
     *out = nothing();
     let mut rest = beside_king(men, side);

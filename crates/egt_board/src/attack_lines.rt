@@ -32,7 +32,8 @@ pub(crate) fn ride(from: Square, step: Step, most: u8, occupied: SquareSet) -> S
 
 /// Of these squares the ones that no man on an occupied one of them hides from `from`.
 fn seen(from: Square, squares: SquareSet, occupied: SquareSet) -> SquareSet
-    ensures { (t : ℕ) → Has result t ↔ (Has squares t × ((u : ℕ) → Has squares u → Has occupied u → ¬ IsBetween from t u)) }
+    ensures { (t : ℕ) → Has result t ↔ (Has squares t ×
+        ((u : ℕ) → Has squares u → Has occupied u → ¬ IsBetween from t u)) }
 {
     let mut left = squares;
     let mut blockers = squares.common(occupied);

@@ -41,7 +41,8 @@ impl<'g, G: Game> Batch<'g, G> {
         requires are_nodes { All (IsNode (G.graph game.now)) nodes.items }
         requires ascending { IsStrictlyIncreasing nodes.items }
         ensures { IfOk result
-            (λ batch. (batch.game ≡ game.now) × (batch.round ≡ round) × (batch.block ≡ block) × (batch.nodes ≡ nodes.items)) }
+            (λ batch. (batch.game ≡ game.now) × (batch.round ≡ round) × (batch.block ≡ block) ×
+            (batch.nodes ≡ nodes.items)) }
     {
         let mut targets = Vec::new(alloc);
         let mut starts = Vec::with_capacity(alloc, nodes.len() + 1)?;

@@ -23,7 +23,8 @@ pub(crate) struct Columns {
 /// The columns before the first round. Each node's moves are counted, and none is asked for.
 pub(crate) fn begin<G: Game>(alloc: Global, game: &G) -> Result<Columns, AllocError>
     ensures { IfOk result (λ columns. IsBegun (G.graph game.now) (G.graph game.now).size
-        columns.entries.items columns.waits.items columns.later.items columns.lost.items columns.lost_due columns.won_due) }
+        columns.entries.items columns.waits.items columns.later.items columns.lost.items columns.lost_due
+        columns.won_due) }
 {
     let size = game.size();
     let mut columns = Columns {

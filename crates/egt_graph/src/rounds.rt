@@ -139,7 +139,8 @@ impl<'g, G: Game> Rounds<'g, G> {
     pub fn post(&mut self, batch: Batch<'_, G>) -> Post
         requires { IsAlike (G.graph self.old.game) (G.graph batch.game) }
         ensures same_game { self.new.game ≡ self.old.game }
-        ensures posts { Posts (G.graph self.old.game) self.old.state batch.entry.round batch.entry.block batch.entry.nodes result self.new.state }
+        ensures posts { Posts (G.graph self.old.game) self.old.state batch.entry.round batch.entry.block
+            batch.entry.nodes result self.new.state }
     {
         if !self.is_current(&batch) {
             return Post::Stale;
@@ -215,7 +216,8 @@ impl<'g, G: Game> Rounds<'g, G> {
     /// The ranks of a finished run, or the run as it was.
     pub fn into_ranks(self) -> Result<Ranks, Self>
         ensures { MatchResult result
-            (λ ranks. (self.entry.state.phase ≡ IsOver) × AreRanks (G.graph self.entry.game) self.entry.state.limit ranks)
+            (λ ranks. (self.entry.state.phase ≡ IsOver) ×
+            AreRanks (G.graph self.entry.game) self.entry.state.limit ranks)
             (λ rounds. (self.entry.state.phase ≢ IsOver) × (rounds ≡ self.entry)) }
     {
         if self.phase == Phase::Finished {

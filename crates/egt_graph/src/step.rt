@@ -64,7 +64,8 @@ pub(crate) fn fall_due(
     ensures later { (i : ℕ) → slice_index later.new i + count_of i wins.now ≡ slice_index later.old i }
     ensures still_open { MatchBool result
         ((i : ℕ) × IsTrue (is_open_at (round + 1) entries.new waits.new later.new lost.now i))
-        ((i : ℕ) → i < length entries.new → IsFalse (is_open_at (round + 1) entries.new waits.new later.new lost.now i)) }
+        ((i : ℕ) → i < length entries.new → IsFalse
+        (is_open_at (round + 1) entries.new waits.new later.new lost.now i)) }
 {
     mark_wins(entries, losses, round + 1);
     take_back(entries, waits, wins, round + 1);

@@ -91,10 +91,3 @@ unfolding men_of
 pushed list e free =
     ap placement.from_entries (map-append entry_of list (e ∷ []))
     ∙ placement.from_entries_push nat_cmp_total placement.nat_cmp-IsAntisymmetric (map entry_of list) e.1 e.0 (sym (placement.get-from_entries nat_cmp_total (map entry_of list) e.1) ∙ free)
-
--- or in front of them
-put_first : (e : Man × ℕ) (list : List (Man × ℕ)) → men_of (e ∷ list) ≡ placement.insert (men_of list) e.1 e.0
-put_first e list = same_men _ _ (λ q. elim (cases_eq q e.1) [
-  | inl same ↦ get_here e list q same ∙ sym (get-insert_same (men_of list) e.1 e.0 q same)
-  | inr other ↦ get_later e list q other ∙ sym (get-insert_other (men_of list) e.1 e.0 q other)
-])

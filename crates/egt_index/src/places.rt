@@ -146,7 +146,8 @@ pub(crate) fn settled_places(class: Class, front: &Front, man: Man, passed: bool
 fn places_behind(class: Class, front: &Front, man: Man, passed: bool) -> Option<Places>
     requires before { IsFrontBefore class front.now man }
     requires targets { has_target (material_of class) ≡ false → passed ≡ false }
-    ensures { IfSome result (λ found. (shelf high : ℕ) → IsFront class high front.now → IsShelfBehind passed class shelf high → AreIndexes class shelf found) }
+    ensures { IfSome result (λ found. (shelf high : ℕ) → IsFront class high front.now →
+        IsShelfBehind passed class shelf high → AreIndexes class shelf found) }
 {
     facts();
     let _number = class.number();
@@ -162,7 +163,8 @@ fn places_behind(class: Class, front: &Front, man: Man, passed: bool) -> Option<
 fn places_by_front(class: Class, number: u32, passed: bool, front: &Option<Front>) -> Option<Places>
     requires front { IsFrontOf class number front.now }
     requires targets { has_target (material_of class) ≡ false → passed ≡ false }
-    ensures { IfSome result (λ found. (shelf : ℕ) → IsShelfBehind passed class shelf number → AreIndexes class shelf found) }
+    ensures { IfSome result (λ found. (shelf : ℕ) → IsShelfBehind passed class shelf number →
+        AreIndexes class shelf found) }
 {
     let _number = class.number();
     let (_, last) = non_kings(class);

@@ -12,7 +12,7 @@ use Rattle.std.specs.FinMap as placement
 use Rattle.egt_steps.proofs.Fanned.{king_bare}
 use Rattle.egt_steps.proofs.Leaping.{and_false}
 use Rattle.egt_steps.proofs.PawnAdvances.{none_of}
-use Rattle.egt_steps.proofs.Still.{neither, not_passing, untold}
+use Rattle.egt_steps.proofs.Still.{neither, not_passing}
 use Rattle.egt_steps.proofs.Takings.{AreLeft, Telling, are_left, arrives, empties, one_left, placed, stands_left, stays}
 use Rattle.egt_steps.proofs.TwoNonKings.{AreTwo, are_in, who}
 

@@ -21,10 +21,6 @@ no_pawn_is kind not pawn = let told = ap is_pawn pawn in cc
 pub pawn_is : (kind : Kind) → is_pawn kind ≡ true → kind ≡ P
 pawn_is kind e = grind arith
 
--- numbers that differ are told apart
-pub untold : (a b : ℕ) → a ≢ b → (a == b) ≡ false
-untold a b apart = elim (eqb_tells a b) [ inl same ↦ absurd (apart same.1) | inr told ↦ told.0 ]
-
 pub neither : (a b : Bool) → a ≡ false → b ≡ false → (a || b) ≡ false
 neither a b e f = grind arith
 

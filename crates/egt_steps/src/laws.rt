@@ -63,7 +63,9 @@ pub fn captures_lead_to_three_men()
     ensures goes { (c : ℕ) (men : ShelfMen) (side : Side) (passed : Bool) (a b : ℕ) (p q : Setup) (m : Move) → c < 36 →
         men.one.kind ≢ K → men.last.kind ≢ K →
         HasStand c false (stand_on men a b) side passed p → Leads p m q → IsPlainCapture p m →
-        (left : Left) × IsTaken men side a b left × ((d : ℕ) (flips : Bool) → IsClassOf d flips left.man → HasStand d flips (stand_left flips left) (other_side side) false q) }
+        (left : Left) × IsTaken men side a b left ×
+        ((d : ℕ) (flips : Bool) → IsClassOf d flips left.man →
+        HasStand d flips (stand_left flips left) (other_side side) false q) }
     ensures comes { (c : ℕ) (men : ShelfMen) (side : Side) (passed : Bool) (a b : ℕ) (p : Setup) → c < 36 →
         men.one.kind ≢ K → men.last.kind ≢ K →
         HasStand c false (stand_on men a b) side passed p → (left : Left) → IsTaken men side a b left →

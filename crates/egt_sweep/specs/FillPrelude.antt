@@ -24,7 +24,7 @@ pub use Rattle.egt_check.proofs.FoundTold.{told_at, told_none}
 pub use Rattle.egt_check.proofs.LaneRight.{right_lane}
 pub use Rattle.egt_check.proofs.NearReading.{near_at}
 pub use Rattle.egt_check.proofs.PromotionTables.{children_there, four_there, tables_of_there}
-pub use Rattle.egt_check.proofs.RowJudged.{lane_is, left_at}
+pub use Rattle.egt_check.proofs.RowJudged.{lane_is}
 pub use Rattle.egt_check.specs.Alone.{AreThreeMen, IsToldTable, MayJudge}
 pub use Rattle.egt_check.specs.Blank.{AreBlank}
 pub use Rattle.egt_check.specs.Found.{IsPutIn, IsToldAt, TellColumn, TellsEntry, table_told, told}

@@ -72,7 +72,8 @@ fn zeroing_ranks<'x>(
     requires children { HasChildren (table_at library.now) class }
     requires reach_children { HasReachChildren (table_at library.now) class }
     requires mates { AreRanks (class_game (table_at library.now) Mate class) limit mates.now }
-    ensures ranks { IfOk result (AreRanks (class_game (beside (table_at library.now) (mate_table class mates.now)) Zeroing class) limit) }
+    ensures ranks { IfOk result (AreRanks (class_game
+        (beside (table_at library.now) (mate_table class mates.now)) Zeroing class) limit) }
     ensures refused { IfErr result (IsNotBuilt (table_at library.now) class limit) }
 {
     laws();
@@ -102,7 +103,8 @@ fn value_columns(
     requires children { HasChildren (table_at library.now) class }
     requires reach_children { HasReachChildren (table_at library.now) class }
     ensures mates { IfOk result (λ columns. AreRanks (class_game (table_at library.now) Mate class) limit columns.0) }
-    ensures zeroing { IfOk result (λ columns. AreRanks (class_game (beside (table_at library.now) (mate_table class columns.0)) Zeroing class) limit columns.1) }
+    ensures zeroing { IfOk result (λ columns. AreRanks
+        (class_game (beside (table_at library.now) (mate_table class columns.0)) Zeroing class) limit columns.1) }
     ensures refused { IfErr result (IsNotBuilt (table_at library.now) class limit) }
 {
     let mates = mate_ranks(alloc, class, library, limit)?;
@@ -112,7 +114,8 @@ fn value_columns(
 
 /// The table of these columns, where each is as long as the class asks.
 fn joined(class: Class, mates: Ranks, zeroing: Ranks, nears: Nears) -> Option<Table>
-    ensures table { IfSome result (λ t. t ≡ record { class = class; mate = mates; zeroing = zeroing; reach = Some nears }) }
+    ensures table { IfSome result (λ t. t ≡ record
+        { class = class; mate = mates; zeroing = zeroing; reach = Some nears }) }
     ensures exact { length mates ≡ size_of class → length zeroing ≡ size_of class → length nears ≡ size_of class →
         IsSome result }
 {

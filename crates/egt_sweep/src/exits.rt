@@ -130,7 +130,9 @@ fn add_exit(
     requires men { AreMenOf position.now men.now }
     requires legal { IsLegal position.now chess_move.now }
     requires room { array_vec_len list.old < 64 }
-    ensures items { list.new.items ≡ list.old.items ++ option_to_list (exit_by (known (table_at library.now) class objective.now) (metric_of objective.now) class position.now chess_move.now (played position.now chess_move.now)) }
+    ensures items { list.new.items ≡ list.old.items ++ option_to_list
+        (exit_by (known (table_at library.now) class objective.now)
+        (metric_of objective.now) class position.now chess_move.now (played position.now chess_move.now)) }
     ensures few { array_vec_len list.new ≤ array_vec_len list.old + 1 }
 {
     laws();

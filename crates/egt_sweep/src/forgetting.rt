@@ -34,7 +34,8 @@ fn forget_turned(
     requires { 0 < length keys.old }
     ensures fewer { AreFewer keys.old keys.new }
     ensures gone { (t : ℕ) (column : Column) → IsTurnWith (has_pawns (material_of class)) flips t →
-        slice_index_or keys.new (wide_place column (turned_square (t % 8) flips white) (turned_square (t % 8) flips black) (length keys.old)) None ≡ None }
+        slice_index_or keys.new (wide_place column (turned_square (t % 8) flips white)
+        (turned_square (t % 8) flips black) (length keys.old)) None ≡ None }
 {
     let (first, end) = turns_of(class, flips);
     for turn in first..end {

@@ -126,7 +126,8 @@ fn told_lanes(men: &ShelfMen, part: Part, side: Side) -> SquareSet {
 /// What the quiet steps tell to be due where the entries are not; and, where all moves are looked at, checkmates.
 fn wrong_in(three: &ThreeMen, first: u32, side: Side, all: bool) -> Wrong
     requires three { AreThreeMen three.now }
-    requires row { IsLoneRow three.now.table.now.class first three.now.men.white three.now.men.black three.now.men.last }
+    requires row { IsLoneRow three.now.table.now.class first three.now.men.white three.now.men.black
+        three.now.men.last }
     requires piece { kind_digits three.now.men.last.kind ≡ 64 }
     ensures { result.first + 126 < size_of three.now.table.now.class }
 {

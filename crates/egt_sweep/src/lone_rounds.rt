@@ -70,7 +70,8 @@ pub(crate) fn settle_rows(f: &LoneFilling, table: &mut Table, rounds: u32) -> Op
     requires filling { IsLoneFilling f.now table.old }
     ensures mended { IsMendedAt f.now.part (λ i. Unit {0}) table.old table.new }
     ensures few { IfSome result (λ looks. looks.taken ≤ rounds * looks.items) }
-    ensures right { IfSome result (λ looks. (i : ℕ) → i < size_of table.new.class → KeepsPart f.now.part (beside (table_at f.now.library.now) table.new) table.new i) }
+    ensures right { IfSome result (λ looks. (i : ℕ) → i < size_of table.new.class →
+        KeepsPart f.now.part (beside (table_at f.now.library.now) table.new) table.new i) }
 {
     let class = table.class();
     let items = size(class) as usize / 64;

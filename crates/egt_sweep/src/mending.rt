@@ -43,22 +43,19 @@ fn put_lanes(
     ensures mended { IsMendedAt part (IsLaneOf table.old.class shelf.now lanes) table.old table.new }
     ensures told { result ≡ true → (digit : ℕ) → digit < kind_digits shelf.now.men.last.kind →
         Has lanes (digit + kind_less shelf.now.men.last.kind) →
-        IsToldAt part table.new (code_of table.old.class (number_in table.old.class shelf.now.number shelf.now.side digit)) (slice_index scores (digit + kind_less shelf.now.men.last.kind)) (slice_index clocks (digit + kind_less shelf.now.men.last.kind)) }
+        IsToldAt part table.new (code_of table.old.class
+        (number_in table.old.class shelf.now.number shelf.now.side digit))
+        (slice_index scores (digit + kind_less shelf.now.men.last.kind))
+        (slice_index clocks (digit + kind_less shelf.now.men.last.kind)) }
     ensures put { result ≡ true → (digit : ℕ) → digit < kind_digits shelf.now.men.last.kind →
         Has lanes (digit + kind_less shelf.now.men.last.kind) →
-        IsPutAt part table.new (code_of table.old.class (number_in table.old.class shelf.now.number shelf.now.side digit)) (slice_index scores (digit + kind_less shelf.now.men.last.kind)) (slice_index clocks (digit + kind_less shelf.now.men.last.kind)) }
+        IsPutAt part table.new (code_of table.old.class
+        (number_in table.old.class shelf.now.number shelf.now.side digit))
+        (slice_index scores (digit + kind_less shelf.now.men.last.kind))
+        (slice_index clocks (digit + kind_less shelf.now.men.last.kind)) }
 {
     let _class = table.class();
-    table.put(
-        part,
-        &shelf.men,
-        shelf.number,
-        shelf.side,
-        lanes,
-        mask_of(lanes),
-        scores,
-        clocks,
-    )
+    table.put(part, shelf, lanes, mask_of(lanes), scores, clocks)
 }
 
 /// The squares at which the zeroing column, which is put with the mate column, is not due to these scores.
@@ -66,7 +63,9 @@ fn wrong_clocks(table: &Found, part: Part, shelf: &Shelf, clocks: Row) -> Square
     requires shelf { IsShelf table.now.class shelf.now }
     ensures { (digit : ℕ) → digit < kind_digits shelf.now.men.last.kind →
         bit_at result.bits (digit + kind_less shelf.now.men.last.kind) ≡ 0 →
-        part ≡ parts.Values → score_at table.now Zeroing (code_of table.now.class (number_in table.now.class shelf.now.number shelf.now.side digit)) ≡ slice_index clocks (digit + kind_less shelf.now.men.last.kind) }
+        part ≡ parts.Values → score_at table.now Zeroing
+        (code_of table.now.class (number_in table.now.class shelf.now.number shelf.now.side digit)) ≡ slice_index
+        clocks (digit + kind_less shelf.now.men.last.kind) }
 {
     codes_tell_turned_men();
     match part {

@@ -35,7 +35,8 @@ impl<'l> ReachGame<'l> {
     /// `Missing` with the least child that has no table; else `NoReach` with the least child whose table lacks the
     /// column.
     pub fn new(class: Class, library: &'l Library) -> Result<ReachGame<'l>, BuildFault>
-        ensures exact { IsOk result ↔ (HasChildren (table_at library.now) class × HasReachChildren (table_at library.now) class) }
+        ensures exact { IsOk result ↔ (HasChildren (table_at library.now) class ×
+            HasReachChildren (table_at library.now) class) }
         ensures class { IfOk result (λ g. g.class ≡ class) }
         ensures library { IfOk result (λ g. g.library.now ≡ library.now) }
         ensures refused { IfErr result (IsNoGame (table_at library.now) class) }

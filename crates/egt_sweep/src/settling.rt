@@ -54,7 +54,8 @@ fn settle_all(
     requires kept { AreBothKept f.now table.old kept.old }
     ensures mended { IsMendedAt f.now.part (λ i. Unit {0}) table.old table.new }
     ensures few { IfSome result (λ taken. taken ≤ rounds * length items.old) }
-    ensures right { IfSome result (λ taken. (i : ℕ) → i < size_of table.new.class → KeepsPart f.now.part (beside (table_at f.now.library.now) table.new) table.new i) }
+    ensures right { IfSome result (λ taken. (i : ℕ) → i < size_of table.new.class →
+        KeepsPart f.now.part (beside (table_at f.now.library.now) table.new) table.new i) }
 {
     let taken = settle_items(f, table, items, marks, kept, rounds)?;
     let _class = table.class();
@@ -82,7 +83,9 @@ pub(crate) fn settle(
     ensures reach { f.now.part ≡ parts.Values → table.new.reach ≡ table.old.reach }
     ensures bytes { HasBytes (table_in f.now.part table.new) }
     ensures few { IfOk result (λ told. IfSome told (λ looks. looks.taken ≤ rounds * looks.items)) }
-    ensures right { IfOk result (λ told. IfSome told (λ looks. (i : ℕ) → i < size_of table.new.class → KeepsPart f.now.part (beside (table_at f.now.library.now) table.new) table.new i)) }
+    ensures right { IfOk result (λ told. IfSome told
+        (λ looks. (i : ℕ) → i < size_of table.new.class →
+        KeepsPart f.now.part (beside (table_at f.now.library.now) table.new) table.new i)) }
 {
     let Some(mut items) = begun_items(alloc, f, table)? else {
         return Ok(None);

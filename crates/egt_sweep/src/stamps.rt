@@ -57,7 +57,9 @@ fn changed_after(
 ) -> bool
     requires turn { turn < 16 }
     requires stamps { length stamps.now ≡ 8192 }
-    ensures { result ≡ false → slice_index stamps.now (stamp_place side (turned_square (turn % 8) (turn / 8 == 1) white) (turned_square (turn % 8) (turn / 8 == 1) black)) ≤ looked }
+    ensures { result ≡ false → slice_index stamps.now
+        (stamp_place side (turned_square (turn % 8) (turn / 8 == 1) white)
+        (turned_square (turn % 8) (turn / 8 == 1) black)) ≤ looked }
 {
     let place = stamp_place(side, turned_square(turn, white), turned_square(turn, black));
     stamps[place] > looked

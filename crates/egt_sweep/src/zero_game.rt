@@ -59,9 +59,11 @@ impl<'l> ZeroGame<'l> {
 }
 
 impl Game for ZeroGame<'_> {
-    ghost graph = { λ g. class_game (beside (table_at g.library.now) (mate_table g.class g.mates.now)) Zeroing g.class };
+    ghost graph = { λ g. class_game (beside (table_at g.library.now) (mate_table g.class g.mates.now)) Zeroing
+        g.class };
 
-    ghost lawful = { λ g. class_game_is_lawful (beside (table_at g.library.now) (mate_table g.class g.mates.now)) Zeroing g.class };
+    ghost lawful = { λ g. class_game_is_lawful (beside (table_at g.library.now) (mate_table g.class g.mates.now))
+        Zeroing g.class };
 
     fn size(&self) -> u32 {
         size(self.class)

@@ -35,7 +35,8 @@ fn moves_command<'a>(alloc: Global) -> Result<Command<'a>, AllocError> {
     Command::new(alloc, "moves")
         .about("Prints the legal moves, one a line")
         .after_help(
-            "Example: egtb moves \"8/8/8/8/8/8/8/r2K3k w - - 0 1\" prints d1c2, d1d2 and d1e2\nStatus: 0 done, 1 the FEN is refused",
+            "Example: egtb moves \"8/8/8/8/8/8/8/r2K3k w - - 0 1\" prints d1c2, d1d2 and d1e2\n\
+             Status: 0 done, 1 the FEN is refused",
         )
         .arg(fen_word(alloc))
 }
@@ -48,7 +49,8 @@ fn search_command<'a>(alloc: Global) -> Result<Command<'a>, AllocError> {
     Command::new(alloc, "search")
         .about("Searches for a mate within so many plies")
         .after_help(
-            "Example: egtb search 2 \"k7/8/1K6/8/8/8/8/3Q4 b - - 0 1\" prints white mates in 2 plies\nStatus: 0 done, 1 the FEN is refused",
+            "Example: egtb search 2 \"k7/8/1K6/8/8/8/8/3Q4 b - - 0 1\" prints white mates in 2 plies\n\
+             Status: 0 done, 1 the FEN is refused",
         )
         .arg(plies)?
         .arg(fen_word(alloc))
@@ -69,7 +71,9 @@ fn build_command<'a>(alloc: Global) -> Result<Command<'a>, AllocError> {
     Command::new(alloc, "build")
         .about("Builds the table of a class from those of its children")
         .after_help(
-            "Example: egtb build tables KQK, after egtb build tables KK\nStatus: 0 the file is written, 1 a file that it needs is not there, is refused or lacks the column of the nearest mates, or a mate is deeper than N",
+            "Example: egtb build tables KQK, after egtb build tables KK\n\
+             Status: 0 the file is written, 1 a file that it needs is not there, is refused or lacks the column of \
+             the nearest mates, or a mate is deeper than N",
         )
         .arg(folder_word(alloc))?
         .arg(class_word(alloc, true))?
@@ -80,7 +84,9 @@ fn probe_command<'a>(alloc: Global) -> Result<Command<'a>, AllocError> {
     Command::new(alloc, "probe")
         .about("Reports of each FEN of the standard input, one a line")
         .after_help(
-            "Example: echo \"k7/8/1K6/8/8/8/8/3Q4 b - - 0 1\" | egtb probe tables KQK\nWithout CLASS the tables of all files in DIR answer\nStatus: 0 each line has its report, 1 a file that it needs is not there or is refused",
+            "Example: echo \"k7/8/1K6/8/8/8/8/3Q4 b - - 0 1\" | egtb probe tables KQK\n\
+             Without CLASS the tables of all files in DIR answer\n\
+             Status: 0 each line has its report, 1 a file that it needs is not there or is refused",
         )
         .arg(folder_word(alloc))?
         .arg(class_word(alloc, false))
@@ -90,7 +96,9 @@ fn check_command<'a>(alloc: Global) -> Result<Command<'a>, AllocError> {
     Command::new(alloc, "check")
         .about("Checks the table of a class and all that it rests on")
         .after_help(
-            "Example: egtb check tables KQK prints ok KQK\nWithout CLASS it checks all files in DIR\nStatus: 0 every entry is right, 1 a file that it needs is not there or is refused",
+            "Example: egtb check tables KQK prints ok KQK\n\
+             Without CLASS it checks all files in DIR\n\
+             Status: 0 every entry is right, 1 a file that it needs is not there or is refused",
         )
         .arg(folder_word(alloc))?
         .arg(class_word(alloc, false))
@@ -100,7 +108,8 @@ fn migrate_command<'a>(alloc: Global) -> Result<Command<'a>, AllocError> {
     Command::new(alloc, "migrate")
         .about("Gives the table of a class the column of the nearest mates, if it lacks it")
         .after_help(
-            "Example: egtb migrate tables KNK, after egtb migrate tables KK\nStatus: 0 the file has the column, 1 a file that it needs is not there, is refused or lacks the column",
+            "Example: egtb migrate tables KNK, after egtb migrate tables KK\n\
+             Status: 0 the file has the column, 1 a file that it needs is not there, is refused or lacks the column",
         )
         .arg(folder_word(alloc))?
         .arg(class_word(alloc, true))
@@ -123,7 +132,10 @@ pub fn command<'a>(alloc: Global) -> Result<Command<'a>, AllocError> {
         .version(VERSION)
         .about("Chess endgame tables of two to four men")
         .after_help(
-            "egtb COMMAND --help tells more of a command\nA class rests on those that a capture or a promotion leads to: build these first, KK before all\nStatus: 0 done, 1 an input or a table is refused, 2 wrong words, 3 a file or a stream failed, 4 no memory",
+            "egtb COMMAND --help tells more of a command\n\
+             A class rests on those that a capture or a promotion leads to: build these first, KK before all\n\
+             Status: 0 done, 1 an input or a table is refused, 2 wrong words, 3 a file or a stream failed, 4 no \
+             memory",
         )
         .subcommand_required(true)
         .subcommand(moves_command(alloc)?)?
