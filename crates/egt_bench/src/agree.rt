@@ -2,16 +2,15 @@
 //! the others every so many.
 mod codes;
 mod damaged;
+mod entries;
 mod games;
 mod judged;
 mod moves;
-mod rule;
 mod sampled;
 mod samples;
 mod setup;
 mod solved;
 mod steps;
-mod tables;
 mod unmoves;
 
 use damaged::damaged_agrees;
@@ -29,6 +28,11 @@ use std::io;
 const ENTRIES: u32 = 31;
 
 const WALKS: u32 = 997;
+
+/// How many tables of the class are changed: a thousand in the five classes of three men, 2,100 in the thirty of four.
+fn damaged_tables(class: Class) -> u32 {
+    if class.number() < 6 { 200 } else { 70 }
+}
 
 /// The step of the class.
 fn step_of(class: Class, step: u32) -> u32 {
@@ -97,7 +101,7 @@ fn print_solved(rt: &HostRuntime, class: Class, library: &Library) -> io::Result
 /// Has the checker judge tables of the class with entries changed, and prints a line; whether it names what the plain
 /// rules do.
 fn print_damaged(rt: &HostRuntime, class: Class, library: &Library) -> io::Result<bool> {
-    let damaged = damaged_agrees(rt.alloc(), class, library);
+    let damaged = damaged_agrees(rt.alloc(), class, library, damaged_tables(class));
     let class = name(class);
     match damaged {
         Ok(tables) => {

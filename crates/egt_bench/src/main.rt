@@ -8,7 +8,8 @@
 //!   class's codes are what those of the positions after each legal move give, and that what codes spell, legal moves,
 //!   moves backwards and both games over the class are the plain ones; or the first code at which one of them differs,
 //!   and then its status is 1.
-//! - `sampled` asks this of fewer codes, with no folder, and prints that they agree.
+//! - `sampled` asks this of fewer codes, with no folder, and holds what the checker names of changed tables of few men
+//!   against the rules asked plainly; it prints that they agree.
 //! - `solved DIR CLASS` solves both games over the class by counters, which takes a while for four men, and holds their
 //!   ranks against its table.
 //! - `damaged DIR CLASS` changes entries of the class's table at random, and holds what the checker names against the

@@ -1,5 +1,5 @@
 //! Tests over the public calls of the builder, of what it stands on, and of the reports on positions: figures from
-//! outside, plain tables, runs by rounds in whatever order. It holds nothing else, as `egt_table_tests`.
+//! outside, plain tables, runs by rounds in whatever order. It holds nothing else.
 #![tactic(auto)]
 
 #[cfg(test)]

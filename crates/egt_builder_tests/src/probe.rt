@@ -3,4 +3,3 @@ mod answers;
 mod devices;
 mod plain;
 mod positions;
-mod refused;

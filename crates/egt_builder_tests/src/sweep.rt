@@ -7,7 +7,6 @@ mod looks;
 mod migrates;
 mod nearest;
 mod orders;
-mod refused;
 
 ghost use Rattle.std.specs.Prelude.{IfOk};
 ghost use Rattle.egt_entries.specs.Tables.{table_at};

@@ -99,7 +99,7 @@ pub fn plain_code(position: &Position) -> Option<(usize, usize)> {
 ///
 /// `Position` where a code is a position here and not for the product, or the other way, and for a class from 6 on;
 /// `NoMemory` where a growth was refused.
-pub fn indexes(alloc: Global, class: u8) -> Result<Vec<Option<u32>>, Unlike> {
+fn indexes(alloc: Global, class: u8) -> Result<Vec<Option<u32>>, Unlike> {
     let Some(asked) = Class::new(class) else {
         return Err(Unlike::Position);
     };
@@ -160,57 +160,21 @@ fn filled(
     Ok(column)
 }
 
-/// The columns of a class that was solved, by number, as the product has them, with the mate column first.
+/// The product's table of a class that was solved, by number, without the column of the nearest mates.
 ///
 /// # Errors
 ///
 /// What `indexes` refuses, and `Entry` where two codes have one index and different entries.
-pub fn columns_of(
-    alloc: Global,
-    tables: &PlainTables,
-    class: u8,
-) -> Result<(Vec<u16>, Vec<u16>), Unlike> {
+pub fn table_of(alloc: Global, tables: &PlainTables, class: u8) -> Result<Table, Unlike> {
     let indexes = indexes(alloc, class)?;
     let Some(asked) = Class::new(class) else {
         return Err(Unlike::Position);
     };
     let mate = tables.entries(usize::from(class), Column::Mate);
     let zeroing = tables.entries(usize::from(class), Column::Zeroing);
-    Ok((
-        filled(alloc, asked, &indexes, mate)?,
-        filled(alloc, asked, &indexes, zeroing)?,
-    ))
-}
-
-/// The column of the nearest mates of a class that was solved, by number, as the product has it.
-///
-/// # Errors
-///
-/// What `columns_of` refuses.
-pub fn reach_of(alloc: Global, tables: &PlainTables, class: u8) -> Result<Vec<u16>, Unlike> {
-    let indexes = indexes(alloc, class)?;
-    let Some(asked) = Class::new(class) else {
-        return Err(Unlike::Position);
-    };
-    let reach = tables.entries(usize::from(class), Column::Reach);
-    filled(alloc, asked, &indexes, reach)
-}
-
-/// The product's table of a class that was solved, by number, without the column of the nearest mates.
-///
-/// # Errors
-///
-/// What `columns_of` refuses.
-pub fn table_of(alloc: Global, tables: &PlainTables, class: u8) -> Result<Table, Unlike> {
-    let Some(asked) = Class::new(class) else {
-        return Err(Unlike::Position);
-    };
-    let (mate, zeroing) = columns_of(alloc, tables, class)?;
-    match Table::from_ranks(
-        asked,
-        Ranks::from_entries(mate),
-        Ranks::from_entries(zeroing),
-    ) {
+    let mate = Ranks::from_entries(filled(alloc, asked, &indexes, mate)?);
+    let zeroing = Ranks::from_entries(filled(alloc, asked, &indexes, zeroing)?);
+    match Table::from_ranks(asked, mate, zeroing) {
         Ok(table) => Ok(table),
         Err(_columns) => Err(Unlike::Position),
     }
@@ -220,11 +184,12 @@ pub fn table_of(alloc: Global, tables: &PlainTables, class: u8) -> Result<Table,
 ///
 /// # Errors
 ///
-/// What `columns_of` refuses.
+/// What `table_of` refuses.
 pub fn whole_table_of(alloc: Global, tables: &PlainTables, class: u8) -> Result<Table, Unlike> {
     let table = table_of(alloc, tables, class)?;
-    let nears = Nears::from_entries(reach_of(alloc, tables, class)?);
-    match table.with_reach(nears) {
+    let reach = tables.entries(usize::from(class), Column::Reach);
+    let reach = filled(alloc, table.class(), &indexes(alloc, class)?, reach)?;
+    match table.with_reach(Nears::from_entries(reach)) {
         Ok(table) => Ok(table),
         Err(_both) => Err(Unlike::Position),
     }

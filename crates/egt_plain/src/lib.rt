@@ -1,26 +1,35 @@
-//! What several crates of tests stand on. Plain tables of the first six classes: every position by its own code, with
-//! no symmetry, solved by sweeps forward, written from the rules of play alone (`filling` and `shelf` alone ask for
-//! indexes and sizes, and put the entries there). The table of two kings by the rule of kings alone; tables' files and
-//! libraries; runs by rounds in whatever order.
+//! What the crates of tests stand on. Plain tables of the first six classes: every position by its own code, with no
+//! symmetry, solved by sweeps forward, written from the rules of play alone (`filling` and `shelf` alone ask for indexes
+//! and sizes, and put the entries there). The table of two kings by the rule of kings alone; tables' files and
+//! libraries; runs by rounds in whatever order. And the tests over the public calls of the rules, of games, tables,
+//! their files and the checker: the crates that the program stands on have none, since a crate with tests is proved
+//! twice.
 #![tactic(auto)]
 
+#[cfg(test)]
+mod check;
 mod code;
 mod filling;
+#[cfg(test)]
+mod graph;
 pub mod kings;
 mod mates;
 mod moves;
 mod outcome;
+#[cfg(test)]
+mod plain;
 mod reach;
+#[cfg(test)]
+mod rules;
 pub mod runs;
 pub mod shelf;
 mod solving;
 pub mod steps;
+#[cfg(test)]
+mod table;
 mod tables;
 mod zeroing;
 
-pub use code::{PlainPosition, THIRD, code_count};
-pub use filling::{
-    Unlike, columns_of, indexes, plain_code, position_of, reach_of, table_of, whole_table_of,
-};
-pub use moves::{Successor, Successors};
+pub use code::{PlainPosition, THIRD};
+pub use filling::{Unlike, plain_code, position_of, table_of, whole_table_of};
 pub use tables::PlainTables;

@@ -1,4 +1,4 @@
-//! Tests of what the program prints, over the public calls of egt_tool. It holds nothing else, as `egt_table_tests`.
+//! Tests of what the program prints, over the public calls of egt_tool. It holds nothing else.
 #![tactic(auto)]
 
 #[cfg(test)]

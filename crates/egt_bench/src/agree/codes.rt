@@ -3,7 +3,7 @@
 use crate::agree::setup::Setup;
 use crate::agree::unmoves::is_settled_position;
 use arrayvec::ArrayVec;
-use egt_board::{Kind, Man, Position, Side};
+use egt_board::{Kind, Man, Position, Side, Square};
 use egt_class::{Class, name, of};
 use egt_index::{index, position};
 
@@ -268,6 +268,27 @@ impl Placed {
         }
         Some(setup)
     }
+
+    /// The position of the product, if it takes it for one.
+    fn position(&self) -> Option<Position> {
+        let mut men = ArrayVec::<(Man, Square), 4>::new();
+        for (man, square) in self.men.as_slice() {
+            men.try_push((*man, Square::new(*square)?)).ok()?;
+        }
+        let target = self.target().and_then(|square| Square::new(square));
+        Position::new(men.as_slice(), self.side, target).ok()
+    }
+
+    /// Whether it is a position of the class, with this index.
+    fn has_index(&self, class: Class, code: u32) -> bool {
+        match self.position() {
+            Some(position) => {
+                let (own, _) = of(&position);
+                own == class && index(own, &position) == code
+            }
+            None => false,
+        }
+    }
 }
 
 /// The position that the code spells, if it is the least code of a settled position's images.
@@ -306,4 +327,20 @@ pub fn spelling(class: Class, code: u32) -> Spelled {
     } else {
         Spelled::Otherwise
     }
+}
+
+/// Whether the code is the index of all images of the position that it spells plainly, if it spells one.
+pub fn images_agree(class: Class, code: u32) -> bool {
+    match spelling(class, code) {
+        Spelled::Nothing => return true,
+        Spelled::Position(_) => {}
+        Spelled::Otherwise => return false,
+    }
+    let form = form_of(class);
+    let Some(placed) = form.placed(code) else {
+        return false;
+    };
+    (0..16u8)
+        .filter(|turn| !form.pawns || turn % 8 < 2)
+        .all(|turn| placed.turned(turn).has_index(class, code))
 }

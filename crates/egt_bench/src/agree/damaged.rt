@@ -1,19 +1,14 @@
 //! Tables with entries changed at random: what the checker names of each, against the rules asked plainly.
 use crate::agree::codes::{Spelled, spelling};
+use crate::agree::entries::entry_at;
 use crate::agree::judged::{Change, Changed, SpelledOtherwise};
 use crate::agree::steps::steps;
-use crate::agree::tables::entry_at;
 use egt_check::{Library, Reject, Rule, check};
 use egt_class::Class;
 use egt_graph::{Nears, Ranks};
 use egt_index::size;
 use egt_table::{Column, Table};
 use std::alloc::{AllocError, Global};
-
-/// How many tables of the class are changed: a thousand in the five classes of three men, 2,100 in the thirty of four.
-fn tables_of(class: Class) -> u32 {
-    if size(class) < 1 << 18 { 200 } else { 70 }
-}
 
 /// Why the checker does not judge changed tables as the plain rules do.
 #[derive(Clone, Copy, Debug, PartialEq, Eq)]
@@ -218,19 +213,45 @@ fn is_refused(alloc: Global, changes: &Changed<'_>) -> Result<bool, Unlike> {
     }
 }
 
-/// How many changed tables of the class the checker judges as the plain rules do; else why it does not, and the first
-/// code that was changed there.
+/// The entries that are put in the place of one of two kings: of no position, of a draw and of a checkmate.
+const TRIED: [u16; 3] = [0, 1, 3];
+
+/// Whether the checker judges the table of two kings as the plain rules do with each third entry changed; else why it
+/// does not, and the code.
+pub fn kings_damaged_agree(alloc: Global, library: &Library) -> Result<(), (Unlike, u32)> {
+    let class = Class::at(0);
+    for code in (0..size(class)).filter(|code| code % 3 == 0) {
+        for column in Column::ALL {
+            for entry in TRIED {
+                let changes = Changed {
+                    library,
+                    class,
+                    column,
+                    changes: [Change { code, entry }; 2],
+                };
+                if let Err(unlike) = is_refused(alloc, &changes) {
+                    return Err((unlike, code));
+                }
+            }
+        }
+    }
+    Ok(())
+}
+
+/// How many changed tables of the class, so many, the checker judges as the plain rules do; else why it does not, and
+/// the first code that was changed there.
 pub fn damaged_agrees(
     alloc: Global,
     class: Class,
     library: &Library,
+    count: u32,
 ) -> Result<u32, (Unlike, u32)> {
     let mut numbers = Numbers {
         last: 2_463_534_242 ^ u32::from(class.number()),
     };
     let mut tables = 0u32;
     let mut refused = 0u32;
-    for _ in 0..tables_of(class) {
+    for _ in 0..count {
         let Some(changes) = change_at_random(library, class, &mut numbers) else {
             return Err((Unlike::NotMade, 0));
         };

@@ -4,10 +4,9 @@ ghost use Rattle.egt_entries.specs.Tables.{table_at};
 ghost use Rattle.egt_sweep.specs.MateColumn.{AreMateRanks};
 
 use crate::agree::codes::{Spelled, spelling};
-use crate::agree::rule::{Value, said_by};
+use crate::agree::entries::{Value, mate_value, said_by};
 use crate::agree::setup::Setup;
 use crate::agree::steps::{Step, steps};
-use crate::agree::tables::mate_value;
 use arrayvec::ArrayVec;
 use egt_board::Position;
 use egt_check::{Library, Metric};

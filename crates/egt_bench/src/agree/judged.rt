@@ -1,9 +1,8 @@
 //! The rules of entries (`docs/RULES.md`), asked plainly of a table with some entries changed.
 use crate::agree::codes::{Spelled, spelling};
-use crate::agree::rule::{Value, said_by};
+use crate::agree::entries::{Value, entry_at, said_by};
 use crate::agree::setup::Setup;
 use crate::agree::steps::{Step, steps};
-use crate::agree::tables::entry_at;
 use arrayvec::ArrayVec;
 use egt_board::Position;
 use egt_check::{Library, Rule};
@@ -218,10 +217,10 @@ impl Changed<'_> {
         }
     }
 
-    /// The first rule that the entry of the code breaks in the column that is changed.
-    fn broken(&self, code: u32) -> Result<Option<Rule>, SpelledOtherwise> {
+    /// The first rule that the entry of the code, which spells this, breaks in the column that is changed.
+    fn broken(&self, code: u32, spelled: &Spelled) -> Result<Option<Rule>, SpelledOtherwise> {
         let entry = self.entry(self.column, self.class, code);
-        match &spelling(self.class, code) {
+        match spelled {
             Spelled::Position(position) => Ok(if entry == 0 {
                 Some(Rule::Void)
             } else {
@@ -242,11 +241,34 @@ impl Changed<'_> {
                     Some((known, _)) => *code < known,
                     None => true,
                 };
-                if is_before && let Some(rule) = self.broken(*code)? {
+                if is_before && let Some(rule) = self.broken(*code, &spelling(self.class, *code))? {
                     first = Some((*code, rule));
                 }
             }
         }
         Ok(first)
     }
+}
+
+/// Whether the code's entry of each column of the class's table keeps the rules.
+pub fn entries_agree(library: &Library, class: Class, code: u32) -> bool {
+    let Some(table) = library.get(class) else {
+        return false;
+    };
+    let spelled = spelling(class, code);
+    for column in table.columns() {
+        let Some(entry) = entry_at(library, *column, class, code) else {
+            return false;
+        };
+        let unchanged = Changed {
+            library,
+            class,
+            column: *column,
+            changes: [Change { code, entry }; 2],
+        };
+        if !matches!(unchanged.broken(code, &spelled), Ok(None)) {
+            return false;
+        }
+    }
+    true
 }

@@ -1,5 +1,5 @@
 //! Samples of all classes with no folder of tables: those of the first six classes are built.
-
+use crate::agree::damaged::{damaged_agrees, kings_damaged_agree};
 use crate::agree::games::{mate_game_agrees, zero_game_agrees};
 use crate::agree::samples::{Held, agree};
 use egt_check::Library;
@@ -31,10 +31,12 @@ fn step(class: Class, few: u32, many: u32) -> u32 {
     if class.number() < FEW { few } else { many }
 }
 
-/// Whether the class's moves, moves backwards and, where it has at most three men, entries are the plain ones.
+/// Whether the class's indexes, moves, moves backwards and, where it has at most three men, entries are the plain ones.
+/// The steps are odd, so that either side moves, with a target and without.
 fn walks_agree(library: &Library, class: Class) -> bool {
-    agree(Held::Moves, library, class, step(class, 3, 997)).is_ok()
-        && agree(Held::Unmoves, library, class, step(class, 13, 9_973)).is_ok()
+    agree(Held::Indexes, library, class, step(class, 3, 1_009)).is_ok()
+        && agree(Held::Moves, library, class, step(class, 5, 1_499)).is_ok()
+        && agree(Held::Unmoves, library, class, step(class, 17, 14_983)).is_ok()
         && (class.number() >= FEW || agree(Held::Entries, library, class, 1).is_ok())
 }
 
@@ -46,12 +48,26 @@ fn games_agree(alloc: Global, library: &Library, class: Class) -> bool {
             || zero_game_agrees(alloc, class, library, walks).is_ok())
 }
 
+/// How many tables of a class of three men are changed.
+const DAMAGED: u32 = 10;
+
+/// Whether the checker judges changed tables of the class as the plain rules do, where it has at most three men.
+fn judgements_agree(alloc: Global, library: &Library, class: Class) -> bool {
+    if class.number() == 0 {
+        return kings_damaged_agree(alloc, library).is_ok();
+    }
+    class.number() >= FEW || damaged_agrees(alloc, class, library, DAMAGED).is_ok()
+}
+
 /// Whether the samples of all classes agree; `None` for want of memory.
 pub fn samples_agree(alloc: Global) -> Option<bool> {
     let library = library_of_few(alloc)?;
     for number in 0..36 {
         let class = Class::new(number)?;
-        if !walks_agree(&library, class) || !games_agree(alloc, &library, class) {
+        if !walks_agree(&library, class)
+            || !games_agree(alloc, &library, class)
+            || !judgements_agree(alloc, &library, class)
+        {
             return Some(false);
         }
     }

@@ -1,7 +1,7 @@
 //! Samples of a class's codes: every so many of them.
-use crate::agree::codes::{Spelled, spelling};
+use crate::agree::codes::{Spelled, images_agree, spelling};
+use crate::agree::judged::entries_agree;
 use crate::agree::moves::moves_agree;
-use crate::agree::tables::entries_agree;
 use crate::agree::unmoves::unmoves_agree;
 use egt_board::Position;
 use egt_check::Library;
@@ -11,6 +11,8 @@ use egt_index::size;
 /// What is held against its plain form.
 #[derive(Clone, Copy)]
 pub enum Held {
+    /// The index, of a position and its images.
+    Indexes,
     Moves,
     Unmoves,
     /// The entries of the class's table in the library.
@@ -28,8 +30,10 @@ fn agrees_at(held: Held, position: &Position) -> bool {
 
 /// Whether it agrees with its plain form at the code.
 fn agrees(held: Held, library: &Library, class: Class, code: u32) -> bool {
-    if let Held::Entries = held {
-        return entries_agree(library, class, code);
+    match held {
+        Held::Entries => return entries_agree(library, class, code),
+        Held::Indexes => return images_agree(class, code),
+        Held::Moves | Held::Unmoves => {}
     }
     match spelling(class, code) {
         Spelled::Position(position) => agrees_at(held, &position),

@@ -2,8 +2,8 @@
 ghost use Rattle.egt_entries.specs.Tables.{table_at};
 ghost use Rattle.egt_sweep.specs.MateColumn.{AreMateRanks};
 
+use crate::agree::entries::entry_at;
 use crate::agree::games::mate_ranks;
-use crate::agree::tables::entry_at;
 use egt_check::Library;
 use egt_class::Class;
 use egt_graph::{Ranks, solve};

@@ -1,0 +1,97 @@
+//! What a library takes and gives.
+use crate::PlainTables;
+use crate::kings::table_with;
+use crate::shelf::{entry_of, library_of, whole_library_of};
+use egt_check::{Library, Reject, Rule};
+use egt_class::Class;
+use egt_table::Column;
+use std::test::*;
+
+#[test]
+fn a_table_is_taken_once(rt: HostRuntime) -> Result<(), Fail> {
+    let mut library = Library::new(rt.alloc())?;
+    assert!(rt; library.get(Class::at(0)).is_none());
+    assert!(rt; library.admit(table_with(rt.alloc(), &[], &[])?).is_ok());
+    let Some(table) = library.get(Class::at(0)) else {
+        return Err(Fail::from("no table"));
+    };
+    assert_eq!(rt; entry_of(table, Column::Mate, 4), Some(1));
+    assert!(rt; library.get(Class::at(1)).is_none());
+    let Err((again, reject)) = library.admit(table_with(rt.alloc(), &[], &[(4, 7)])?) else {
+        return Err(Fail::from("taken twice"));
+    };
+    assert_eq!(rt; reject, Reject::AlreadyThere);
+    assert_eq!(rt; entry_of(&again, Column::Zeroing, 4), Some(7));
+    Ok(())
+}
+
+#[test]
+fn a_bad_table_comes_back(rt: HostRuntime) -> Result<(), Fail> {
+    let mut library = Library::new(rt.alloc())?;
+    let Err((table, reject)) = library.admit(table_with(rt.alloc(), &[(4, 3)], &[])?) else {
+        return Err(Fail::from("taken"));
+    };
+    assert_eq!(rt;
+        reject,
+        Reject::Rejected {
+            column: Column::Mate,
+            index: 4,
+            rule: Rule::Loss
+        }
+    );
+    assert_eq!(rt; entry_of(&table, Column::Mate, 4), Some(3));
+    assert!(rt; library.get(Class::at(0)).is_none());
+    Ok(())
+}
+
+const RULES: [(Rule, &str); 8] = [
+    (Rule::Void, "void"),
+    (Rule::Range, "range"),
+    (Rule::Kind, "kind"),
+    (Rule::Win, "win"),
+    (Rule::Loss, "loss"),
+    (Rule::Draw, "draw"),
+    (Rule::Reach, "reach"),
+    (Rule::Dead, "dead"),
+];
+
+#[test]
+fn refusals_by_number_and_name(rt: HostRuntime) -> Result<(), Fail> {
+    let missing = Reject::Missing(Class::at(0));
+    assert!(rt; missing.number() == 11 && missing.name() == "Missing");
+    assert!(rt;
+        Reject::AlreadyThere.number() == 13 && Reject::AlreadyThere.name() == "AlreadyThere"
+    );
+    let lacking = Reject::NoReach(Class::at(0));
+    assert!(rt; lacking.number() == 17 && lacking.name() == "NoReach");
+    let rejected = Reject::Rejected {
+        column: Column::Zeroing,
+        index: 4,
+        rule: Rule::Kind,
+    };
+    assert!(rt; rejected.number() == 12 && rejected.name() == "Rejected");
+    for (rule, name) in RULES {
+        assert_eq!(rt; rule.name(), name);
+    }
+    Ok(())
+}
+
+/// Whether the library has a table of each class below a number.
+fn has_all(library: &Library, end: u8) -> Option<bool> {
+    for number in 0..end {
+        if library.get(Class::new(number)?).is_none() {
+            return Some(false);
+        }
+    }
+    Some(true)
+}
+
+#[test]
+fn the_first_six_classes_are_admitted_in_order(rt: HostRuntime) -> Result<(), Fail> {
+    let tables = PlainTables::solve(rt.alloc(), 6)?;
+    let library = library_of(rt.alloc(), &tables, 6)?;
+    assert!(rt; has_all(&library, 6) == Some(true));
+    let whole = whole_library_of(rt.alloc(), &tables, 6)?;
+    assert!(rt; has_all(&whole, 6) == Some(true));
+    Ok(())
+}

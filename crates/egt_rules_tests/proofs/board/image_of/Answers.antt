@@ -1,5 +1,0 @@
-use Rattle.std.proofs.Common.{sym, ◌∙◌, inl}
-use Rattle.egt_rules_tests.proofs.board.image_of.Goals as goal
-
-pub image-requires : goal.image-requires
-image-requires c = inl (c.a_class_without_pawns_has_none.ensures _ _ _ c.side-side.ensures.admissible c.of-class.ensures.class (sym c.has_pawns.ensures ∙ c.if-has_pawns.false))
