@@ -5,6 +5,7 @@ pub mod ShelfLanes
 pub mod ToldOnce
 pub mod KeptThrough
 pub mod KeysForgotten
+pub mod KingsAlone
 pub mod RowMended
 pub mod ScoresThrough
 pub mod DueThrough

@@ -19,6 +19,7 @@ use egt_check::laws::rules_are_kept_by_true_tables_alone;
 use egt_check::{Library, first_lacking, first_missing};
 use egt_class::{Class, children};
 use egt_graph::{Nears, Ranks, SolveFault, nearest, solve};
+use egt_index::laws::a_class_without_pawns_has_none;
 use egt_moves::laws::one_value;
 use egt_table::Table;
 use std::alloc::Global;
@@ -60,7 +61,8 @@ fn mate_ranks(
     }
 }
 
-/// The ranks of its game of zeroing moves. None is above the limit, since none is above the mate rank.
+/// The ranks of its game of zeroing moves. None is above the limit, since none is above the mate rank. Two kings alone
+/// have one game, since no move of theirs zeroes.
 fn zeroing_ranks<'x>(
     alloc: Global,
     class: Class,
@@ -80,7 +82,13 @@ fn zeroing_ranks<'x>(
     mate_ranks_are_values();
     zeroing_ranks_are_distances();
     children_are_true(class, library);
-    let _number = class.number();
+    if class.number() == 0 {
+        a_class_without_pawns_has_none();
+        return match Vec::from_slice(alloc, mates.entries()) {
+            Ok(entries) => Ok(Ranks::from_entries(entries)),
+            Err(_refused) => Err(BuildFault::NoMemory),
+        };
+    }
     let game = match ZeroGame::new(class, library, mates) {
         Ok(game) => game,
         Err(missing) => return Err(BuildFault::from(missing)),

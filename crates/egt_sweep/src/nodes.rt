@@ -13,6 +13,7 @@ use egt_board::Position;
 use egt_check::{Library, Metric};
 use egt_class::Class;
 use egt_graph::Exit;
+use egt_index::laws::a_class_without_pawns_has_none;
 use egt_index::{position, position_of};
 use egt_moves::{Standing, standing};
 
@@ -41,6 +42,10 @@ pub(crate) fn is_mated(class: Class, index: u32) -> bool
 {
     laws();
     let position = node(class, index);
+    let side = position.side();
+    if !position.board().is_in_check(position.king(side), side) {
+        return false;
+    }
     match standing(&position) {
         Standing::Checkmate => true,
         Standing::Stalemate | Standing::HasMove => false,
@@ -83,6 +88,11 @@ pub(crate) fn exits(
         (metric_of objective.now) class index }
 {
     laws();
+    // Two kings alone have no move that zeroes, and so none that leaves a game.
+    if class.number() == 0 {
+        a_class_without_pawns_has_none();
+        return ArrayVec::new();
+    }
     let position = node(class, index);
     exits_of(objective, class, library, &position)
 }
