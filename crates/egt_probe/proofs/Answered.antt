@@ -1,10 +1,10 @@
 -- Lines answered one after the other.
 use Rattle.std.proofs.Common.{◌≡◌, ◌≢◌, ℕ, ◌+◌, List, [], ◌∷◌, ◌++◌, length, take, Option, Some, None, refl, sym, ap}
 use Rattle.std.proofs.Common.{◌∙◌, subst, append_assoc, append-nil, arith}
-use Rattle.egt_probe.specs.Prelude.{Appends-nil, Appends-trans, Appends-kept, Consumes-trans, take_all, take-append-add}
-use Rattle.egt_probe.specs.Prelude.{take-append_seam, Appends, Consumes, IsAtEnd, Keeps, AppendsFront, AnswerFault}
-use Rattle.egt_probe.specs.Prelude.{OpenLine, Reports, Wrote, WroteFront, WroteBy, Stopped, AreLinesOf, AnsweredAll}
-use Rattle.egt_probe.specs.Prelude.{AnsweredSome, Holds, Advanced, StoppedIn, lines_of, with_front, Loaded, Report}
+use Rattle.egt_probe.specs.Prelude.{Appends-nil, Appends-trans, Consumes-trans, take_all, take-append-add, Appends}
+use Rattle.egt_probe.specs.Prelude.{Consumes, IsAtEnd, AppendsFront, AnswerFault, OpenLine, Reports, Wrote, WroteFront}
+use Rattle.egt_probe.specs.Prelude.{WroteBy, Stopped, AreLinesOf, AnsweredAll, AnsweredSome, Holds, Advanced, StoppedIn}
+use Rattle.egt_probe.specs.Prelude.{lines_of, with_front, Loaded, Report}
 use Rattle.egt_probe.specs.declared.fault.AnswerFault.TheVariants.{Device, NoMemory}
 use Rattle.egt_probe.proofs.Splitting.{front_last, fed, grown}
 
@@ -141,10 +141,6 @@ module _ (loaded : Loaded) where
 pub last_line : (line : List ℕ) → (line ≡ [] → ⊥) → with_front line [] ≡ line ∷ []
 last_line [] other = absurd (other refl)
 last_line (x ∷ xs) other = front_last x xs
-
--- a call that failed left a beginning of the piece
-pub front_kept : (a b c : Option (List ℕ)) (taken rest piece : List ℕ) → Appends a b taken → Keeps b c → piece ≡ taken ++ rest → AppendsFront a c piece
-front_kept a b c taken rest piece p q e = (length taken, subst (λ (w : List ℕ). Appends a c w) (sym (ap (take (length taken)) e ∙ take-append_seam taken rest)) (Appends-kept a b c taken p q))
 
 -- the source failed between two pieces
 pub stopped_reading : (loaded : Loaded) (piece : List ℕ) (kept : OpenLine) (old new : Option (List ℕ)) → Advanced loaded [] piece kept old new → StoppedIn loaded Device [] piece old new

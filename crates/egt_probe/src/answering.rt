@@ -6,8 +6,8 @@ ghost use Rattle.egt_probe.specs.Prelude.{CountsSink, CountsEither, with_front, 
 use crate::fault::AnswerFault;
 use crate::open_line::OpenLine;
 use crate::reporting::report;
-use crate::writing::push_all;
 use egt_check::Library;
+use egt_table::transfer::push_all;
 use egt_table::{Device, Sink, Source};
 use std::alloc::{AllocError, Global};
 

@@ -17,7 +17,6 @@ pub mod ranking;
 pub mod reporting;
 pub mod root_moves;
 pub mod wording;
-pub mod writing;
 
 pub use answering::answer;
 pub use best_line::line;
