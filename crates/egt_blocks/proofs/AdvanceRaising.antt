@@ -1,11 +1,11 @@
 -- Blocks of scores after a pawn's moves.
-use Rattle.std.proofs.Common.{◌≡◌, ◌≢◌, ℕ, ◌-◌, ◌<◌, ◌↔◌, Bool, true, false, cond, eqb, min, List, Option, Some, None}
-use Rattle.std.proofs.Common.{arith, refl, sym, ap, ◌∙◌, subst, slice_index}
+use Rattle.std.proofs.Common.{◌≡◌, ◌≢◌, ℕ, ◌-◌, ◌<◌, ◌↔◌, Bool, true, cond, eqb, min, List, Option, Some, None, arith}
+use Rattle.std.proofs.Common.{refl, sym, ap, ◌∙◌, subst, slice_index}
 use Rattle.egt_blocks.specs.Prelude.{bit_at, bit_at_ones, Reaches, Rides-free, other_side, Advances, farthest_advance}
 use Rattle.egt_blocks.specs.Prelude.{forward, last_rank, pawn_of, rank_of, Kind, Man, Side, IsSomeTurnedCode, ShelfMen}
 use Rattle.egt_blocks.specs.Prelude.{kept_or_none, raised_among, at, IsRaised, FitsPromotion, IsOfficer, arriving}
 use Rattle.egt_blocks.specs.Prelude.{promotes, AreAdvancedCodes, ArePromotedCodes, men_after, officer_of, stand_after}
-use Rattle.egt_blocks.specs.Prelude.{stand_on, Stand, IsClear, IsPastKings, left_of, stand_left, IsRead, IsReadWith}
+use Rattle.egt_blocks.specs.Prelude.{stand_on, IsClear, IsPastKings, left_of, stand_left, IsRead, IsReadWith}
 use Rattle.egt_blocks.proofs.BlockRaising.{raised_alike}
 use Rattle.egt_blocks.proofs.QuietRaising.{left_without, raised_through}
 
@@ -14,14 +14,7 @@ use Rattle.egt_blocks.proofs.QuietRaising.{left_without, raised_through}
 -- read in the order in which the class names them
 pub after_in_order : (c : ℕ) (worth : ℕ → ℕ) (passed before flips : Bool) (men : ShelfMen) (man : Man) (side : Side) (a t w : ℕ) (after : ShelfMen) (other : Side) → after ≡ men_after before flips men man → other ≡ side
     → IsReadWith passed c worth flips (cond before (stand_on after t a) (stand_on after a t)) other w → IsReadWith passed c worth flips (stand_after before flips men a man t) side w
-after_in_order c worth passed before flips men man side a t w after other after_is side_is read =
-    subst (λ (stand : Stand). IsReadWith passed c worth flips stand side w) (named before)
-    (subst (λ (m : ShelfMen). IsReadWith passed c worth flips (cond before (stand_on m t a) (stand_on m a t)) side w) after_is
-    (subst (λ (s : Side). IsReadWith passed c worth flips (cond before (stand_on after t a) (stand_on after a t)) s w) side_is read))
-  where
-    named : (before : Bool) → cond before (stand_on (men_after before flips men man) t a) (stand_on (men_after before flips men man) a t) ≡ stand_after before flips men a man t
-    named true = refl
-    named false = refl
+after_in_order c worth passed before flips men man side a t w after other after_is side_is read = grind (arith, stand_on, men_after, stand_after)
 
 -- ---- sets of squares
 
@@ -41,12 +34,10 @@ clear_without men past free other are gone others u u_in = (
 
 -- where a pawn is promoted, and where not
 pub arrives_promoted : (last : Bool) (bit : ℕ) (kind : Kind) → IsOfficer kind → bit ≡ cond last 1 0 → (bit ≡ 1) ↔ FitsPromotion last (Some kind)
-arrives_promoted true bit kind officer is = ((λ has. officer), (λ fits. is))
-arrives_promoted false bit kind officer is = ((λ has. absurd (omega (arith, is, has))), (λ fits. absurd fits))
+arrives_promoted h0 bit kind officer is = grind arith
 
 pub arrives_unpromoted : (last : Bool) (bit : ℕ) → bit ≡ min 1 (1 - cond last 1 0) → (bit ≡ 1) ↔ FitsPromotion last None
-arrives_unpromoted true bit is = ((λ has. absurd (omega (arith, is, has))), (λ fits. absurd fits))
-arrives_unpromoted false bit is = ((λ has. tt), (λ fits. omega (arith, is)))
+arrives_unpromoted h0 bit is = grind arith
 
 -- only which squares are free counts
 pub advances_free : (F G : ℕ → Type 0) (side : Side) (s t : ℕ) → ((u : ℕ) → u < 64 → F u → G u) → Advances F side s t → Advances G side s t
@@ -57,12 +48,7 @@ advances_free F G side s t free r = record { rides = Rides-free F G (farthest_ad
 -- a lane raised where a pawn advances to one of these squares
 pub arrived_raised : (F G : ℕ → Type 0) (side : Side) (s arrivals low high : ℕ) (row arrived : List ℕ) → ((u : ℕ) → u < 64 → F u ↔ G u) → ((u : ℕ) → u < 64 → slice_index arrived u ≡ cond (eqb (bit_at arrivals u) 1) (slice_index row u) 0)
     → IsRaised low (λ t. Advances F side s t) (slice_index arrived) high → IsRaised low (λ t. Advances G side s t × (bit_at arrivals t ≡ 1)) (slice_index row) high
-arrived_raised F G side s arrivals low high row arrived same keeps raised =
-    raised_among low high (λ t. Advances G side s t) (λ t. bit_at arrivals t ≡ 1) (slice_index row) (slice_index arrived)
-    (λ t h. kept_or_none arrivals t (slice_index row t) (slice_index arrived t) (keeps t h.rides.away.on_board))
-    (raised_alike low high (λ t. Advances F side s t) (λ t. Advances G side s t) (slice_index arrived) raised
-    (λ t. advances_free G F side s t (λ u u_in. (same u u_in).1))
-    (λ t. advances_free F G side s t (λ u u_in. (same u u_in).0)))
+arrived_raised h0 h1 side s arrivals low high row arrived same keeps raised = grind (arith, raised_among, bit_at, kept_or_none, raised_alike, advances_free)
 
 module _ (c : ℕ) (worth : ℕ → ℕ) (before flips : Bool) (men : ShelfMen) (side : Side) (promo : Option Kind) (a b : ℕ) where
   abbrev pub Advanced : ℕ → Type 0
@@ -100,9 +86,7 @@ module _ (c : ℕ) (worth : ℕ → ℕ) (before flips : Bool) (men : ShelfMen) 
     )
 
     pub all_advances : (low v : ℕ) → low ≡ 0 → IsRaised low Arrives (λ u. at scores a u) v → IsRaised 0 Advanced worth v
-    all_advances low v none raised =
-        raised_alike 0 v (λ code. (u : ℕ) × Arrives u × Codes u code) Advanced worth
-        (raised_through 0 v Arrives Codes worth (λ u. at scores a u) (λ u h. read a u a_in h.0.rides.away.on_board h.1) (subst (λ n. IsRaised n Arrives (λ u. at scores a u) v) none raised)) advance_there advance_back
+    all_advances low v none raised = grind (arith, raised_alike, raised_through, at, advance_there, advance_back)
 
 -- ---- captures that promote
 

@@ -1,13 +1,12 @@
 -- Blocks raised turn by turn.
 use Rattle.std.proofs.Common.{◌≡◌, ◌≢◌, ℕ, ◌/◌, ◌%◌, ◌<◌, ◌⊎◌, ◌↔◌, max, not, cond, ltb, eqb, IsTrue, Bool, true, false}
 use Rattle.std.proofs.Common.{List, [], ◌∷◌, Option, Some, None, IfSome, arith, refl, sym, ap, ◌∙◌, inl, inr, subst}
-use Rattle.egt_blocks.specs.Prelude.{cases_eq, cases_lt, false≢true, ltb-true, bit_at_ones, bit_at, Has}
-use Rattle.egt_blocks.specs.Prelude.{turned_square, all_below, passes_below, Man, Side, White, Black, SquareSet}
-use Rattle.egt_blocks.specs.Prelude.{has_equal_sides, material_of, king_square, men_at, AreDigits, AreHome, IsTurnWith}
-use Rattle.egt_blocks.specs.Prelude.{has_pawns, king_base, men_bases, list_of, IsSomeTurnedCodeWith}
-use Rattle.egt_blocks.specs.Prelude.{swapped, turned_by, ShelfMen, Stand, at, IsRaised, Column, IsBesideKing, stand_on}
-use Rattle.egt_blocks.specs.Prelude.{with_king, IsCodeAfter, IsHomeCode, IsRaisedHome, men_across}
-use Rattle.egt_blocks.specs.Prelude.{AreKept, IsReadWith, BlockKey}
+use Rattle.egt_blocks.specs.Prelude.{cases_eq, cases_lt, false≢true, ltb-true, bit_at_ones, bit_at, Has, turned_square}
+use Rattle.egt_blocks.specs.Prelude.{all_below, passes_below, Man, Side, White, Black, SquareSet, has_equal_sides}
+use Rattle.egt_blocks.specs.Prelude.{material_of, king_square, men_at, AreHome, IsTurnWith, has_pawns, king_base}
+use Rattle.egt_blocks.specs.Prelude.{men_bases, list_of, IsSomeTurnedCodeWith, swapped, turned_by, ShelfMen, Stand, at}
+use Rattle.egt_blocks.specs.Prelude.{IsRaised, Column, IsBesideKing, stand_on, with_king, IsCodeAfter, IsHomeCode}
+use Rattle.egt_blocks.specs.Prelude.{IsRaisedHome, men_across, AreKept, IsReadWith, BlockKey}
 use Rattle.egt_board.proofs.Parts.{heads}
 
 -- all squares are of the set of all
@@ -79,18 +78,12 @@ turned_in flips n s n_in s_in = ltb-true _ _ (passes_below (stays flips n) 64 s 
 
 -- the white king of a code's men is at home
 king_at_home : (passed : Bool) (c t code : ℕ) (stand : Stand) (side : Side) → IsCodeAfter passed c t code stand side → (d : ℕ) × (d < king_base (has_pawns (material_of c))) × (king_square (has_pawns (material_of c)) d ≡ turned_square (t % 8) (eqb (t / 8) 1) stand.white)
-king_at_home passed c t code stand side tells = of tells.men.digits tells.men.are tells.men.list_is
-  where
-    of : (digits : List ℕ) → AreDigits (men_bases (material_of c)) digits → list_of (turned_by t stand) ≡ men_at (material_of c) digits → (d : ℕ) × (d < king_base (has_pawns (material_of c))) × (king_square (has_pawns (material_of c)) d ≡ turned_square (t % 8) (eqb (t / 8) 1) stand.white)
-    of [] are is = absurd are
-    of (d ∷ ds) are is = (d, are.0, sym (ap (λ (e : Man × ℕ). e.1) (heads is)))
+king_at_home passed c t code stand side tells = grind (arith, men_bases, material_of, list_of, turned_by, men_at, king_base, has_pawns, king_square, turned_square, eqb, heads)
 
 module _ (passed : Bool) (c : ℕ) (flips : Bool) (stand : Stand) (side : Side) (first : ℕ) (second : Option ℕ) (home : AreHome (has_pawns (material_of c)) flips stand.white first second) where
   -- such a turn is one of the one or two
   one_of_them : (t code : ℕ) → IsTurnWith (has_pawns (material_of c)) flips t → IsCodeAfter passed c t code stand side → t ≢ first → IfSome second (λ u. t ≢ u) → ⊥
-  one_of_them t code turn tells other others =
-      let king = king_at_home passed c t code stand side tells in
-      home.none t turn other others king.0 king.1 (subst (λ f. king_square (has_pawns (material_of c)) king.0 ≡ turned_square (t % 8) f stand.white) turn.flips_is king.2)
+  one_of_them t code turn tells other others = grind (arith, turn, king_at_home, king_square, has_pawns, material_of, turned_square)
 
   after : (t code : ℕ) (u : ℕ) → t ≡ u → IsCodeAfter passed c t code stand side → IsCodeAfter passed c u code stand side
   after t code u same tells = subst (λ k. IsCodeAfter passed c k code stand side) same tells
@@ -239,10 +232,7 @@ same_beside men side k = grind arith
 -- one step more
 pub one_more : (Codes : (k code : ℕ) → Type 0) (A In : ℕ → Type 0) (to low high : ℕ) (f : ℕ → ℕ) → IsRaised 0 (λ code. (k : ℕ) × A k × Codes k code) f low → IsRaised low (Codes to) f high
     → ((k : ℕ) → In k → A k ⊎ (k ≡ to)) → ((k : ℕ) → A k → In k) → In to → IsRaised 0 (λ code. (k : ℕ) × In k × Codes k code) f high
-one_more Codes A In to low high f before step covers a_in to_in =
-    raised_both 0 low high (λ code. (k : ℕ) × A k × Codes k code) (Codes to) (λ code. (k : ℕ) × In k × Codes k code) f before step
-    (λ code h. elim (covers h.0 h.1) [ inl old ↦ inl (h.0, old, h.2) | inr new ↦ inr (subst (λ k. Codes k code) new h.2) ])
-    (λ code h. (h.0, a_in h.0 h.1, h.2)) (λ code h. (to, to_in, h))
+one_more h0 h1 h2 to low high f before step covers a_in to_in = grind (arith, raised_both)
 
 -- what is kept tells of all squares of the kings
 pub kept_beside : (c : ℕ) (worth : Column → ℕ → ℕ) (men : ShelfMen) (side : Side) (k : ℕ) (s : Side) (keys : List (Option BlockKey)) (blocks : List (List (List ℕ))) → AreKept c worth men s keys blocks ↔ AreKept c worth (with_king men side k) s keys blocks

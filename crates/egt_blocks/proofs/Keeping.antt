@@ -1,6 +1,6 @@
 -- Blocks that are kept, one of them anew.
-use Rattle.std.proofs.Common.{◌≡◌, ◌≢◌, ◌∙◌, ℕ, ◌<◌, List, [], length, Option, None, slice_index_or, arith, subst, sym}
-use Rattle.std.proofs.Common.{inl, inr}
+use Rattle.std.proofs.Common.{◌≡◌, ◌≢◌, ◌∙◌, ℕ, List, [], length, Option, None, slice_index_or, arith, subst, sym, inl}
+use Rattle.std.proofs.Common.{inr}
 use Rattle.egt_blocks.specs.Prelude.{cases_eq, Side, ShelfMen, Column, AreKept, IsKept, IsPlaced, BlockKey}
 
 pub kept_anew : (c : ℕ) (worth : Column → ℕ → ℕ) (men : ShelfMen) (side : Side) (keys after : List (Option BlockKey)) (blocks raised : List (List (List ℕ))) (place : ℕ) → AreKept c worth men side keys blocks → length after ≡ length keys → length raised ≡ length blocks

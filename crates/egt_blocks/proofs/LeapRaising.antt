@@ -1,12 +1,12 @@
 -- Blocks of scores after a pawn's advances, by whether they leave a target.
-use Rattle.std.proofs.Common.{◌≡◌, ◌≢◌, ℕ, ◌+◌, ◌-◌, ◌*◌, ◌/◌, ◌<◌, ◌↔◌, Bool, true, false, cond, eqb, min, List, None}
-use Rattle.std.proofs.Common.{arith, sym, ap, ◌∙◌, subst, inl, inr, slice_index}
+use Rattle.std.proofs.Common.{◌≡◌, ◌≢◌, ℕ, ◌-◌, ◌<◌, ◌↔◌, Bool, true, false, cond, eqb, min, List, None, arith, sym, ap}
+use Rattle.std.proofs.Common.{◌∙◌, subst, inl, inr, slice_index}
 use Rattle.egt_blocks.specs.Prelude.{bit_at, cases_eq, ne_eqb, eqb_tells, bit_at-lt, bit_at_ones, other_side, Advances}
-use Rattle.egt_blocks.specs.Prelude.{IsBeside, last_rank, pawn_of, rank_of, Man, Side, White, Black}
-use Rattle.egt_blocks.specs.Prelude.{IsSomeTurnedCodeWith, ShelfMen, kept_or_none, one_or_two_squares, raised_among}
-use Rattle.egt_blocks.specs.Prelude.{AdvancesBy, at, IsRaised, FitsPromotion, promotes, AreLeapCodes, AreStepCodes}
-use Rattle.egt_blocks.specs.Prelude.{AreTwoRanksApart, LeavesTarget, IsBesideWhere, leap_rank, AreAdvancedCodes}
-use Rattle.egt_blocks.specs.Prelude.{IsAdvance, stand_after, IsClear, IsReadWith, one_off_home, unpromoted}
+use Rattle.egt_blocks.specs.Prelude.{IsBeside, last_rank, pawn_of, rank_of, Man, Side, IsSomeTurnedCodeWith, ShelfMen}
+use Rattle.egt_blocks.specs.Prelude.{kept_or_none, one_or_two_squares, raised_among, AdvancesBy, at, IsRaised}
+use Rattle.egt_blocks.specs.Prelude.{FitsPromotion, promotes, AreLeapCodes, AreStepCodes, AreTwoRanksApart}
+use Rattle.egt_blocks.specs.Prelude.{LeavesTarget, IsBesideWhere, leap_rank, AreAdvancedCodes, IsAdvance, stand_after}
+use Rattle.egt_blocks.specs.Prelude.{IsClear, IsReadWith, one_off_home, unpromoted}
 use Rattle.egt_blocks.proofs.AdvanceRaising.{advances_free}
 use Rattle.egt_blocks.proofs.BlockRaising.{raised_alike, raised_both}
 use Rattle.egt_blocks.proofs.QuietRaising.{raised_through}
@@ -33,29 +33,14 @@ on_rank bit r k is = elim (eqb_tells r k) [
 -- ---- advances by one square and by two
 
 two_apart : (F : ℕ → Type 0) (side : Side) (s t : ℕ) → AdvancesBy 2 F side s t → AreTwoRanksApart s t
-two_apart F White s t r = let along : t / 8 ≡ s / 8 + 2 * 1 = r.away.along in inl (omega (arith, along))
-two_apart F Black s t r = let along : s / 8 ≡ t / 8 + 2 * 1 = r.away.along in inr (omega (arith, along))
+two_apart h0 h1 s t r = grind arith
 
 not_apart : (F : ℕ → Type 0) (side : Side) (s t : ℕ) → AdvancesBy 1 F side s t → ¬ AreTwoRanksApart s t
-not_apart F White s t r apart = let along : t / 8 ≡ s / 8 + 1 * 1 = r.away.along in elim apart [ inl up ↦ omega (arith, along, up) | inr down ↦ omega (arith, along, down) ]
-not_apart F Black s t r apart = let along : s / 8 ≡ t / 8 + 1 * 1 = r.away.along in elim apart [ inl up ↦ omega (arith, along, up) | inr down ↦ omega (arith, along, down) ]
+not_apart h0 h1 s t r apart = grind arith
 
 -- they end on one rank
 leaps_to : (F : ℕ → Type 0) (side : Side) (s t : ℕ) → AdvancesBy 2 F side s t → rank_of t ≡ leap_rank side
-leaps_to F White s t r =
-    let along : t / 8 ≡ s / 8 + 2 * 1 = r.away.along in
-    let ridden : t / 8 ≡ s / 8 + r.advances.rides.count * 1 = r.advances.rides.away.along in
-    elim (one_off_home (rank_of s) 1 r.advances.rides.count r.advances.rides.within) [
-      | inl few ↦ absurd (omega (arith, few, along, ridden))
-      | inr home ↦ let at_home = home.1 in omega (arith, at_home, along)
-    ]
-leaps_to F Black s t r =
-    let along : s / 8 ≡ t / 8 + 2 * 1 = r.away.along in
-    let ridden : s / 8 ≡ t / 8 + r.advances.rides.count * 1 = r.advances.rides.away.along in
-    elim (one_off_home (rank_of s) 6 r.advances.rides.count r.advances.rides.within) [
-      | inl few ↦ absurd (omega (arith, few, along, ridden))
-      | inr home ↦ let at_home = home.1 in omega (arith, at_home, along)
-    ]
+leaps_to h0 h1 s t r = grind (arith, one_off_home, rank_of)
 
 fits_unpromoted : (last : Bool) → last ≡ false → FitsPromotion last None
 fits_unpromoted last is = grind arith

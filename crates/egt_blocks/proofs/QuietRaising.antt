@@ -59,13 +59,7 @@ module _ (c : ℕ) (worth : ℕ → ℕ) (men : ShelfMen) (side : Side) (a b : �
     (king : IsRaised 0 (AreKingCodes c men side (IsBesideKing men side) a b) worth low) where
   -- only the king has steps
   pub king_alone : (men.one.side ≡ side → men.one.kind ≡ P) → (men.last.side ≡ side → men.last.kind ≡ P) → IsRaised 0 (AreQuietCodes c men side a b) worth low
-  king_alone other others = raised_alike 0 low (AreKingCodes c men side (IsBesideKing men side) a b) (AreQuietCodes c men side a b) worth king
-      (λ code h. elim h.1 [
-        | inl k ↦ (k.0, k.1, subst (λ (s : Stand). IsSomeTurnedCode c code false s (other_side side)) k.2 h.2)
-        | inr (inl one) ↦ absurd (one.1 (other one.0))
-        | inr (inr last) ↦ absurd (last.1 (others last.0))
-      ])
-      (λ code h. (stand_on (with_king men side h.0) a b, inl (h.0, h.1, refl), h.2))
+  king_alone other others = grind (arith, raised_alike, other_side, stand_on, with_king)
 
   module _ (scores : List (List ℕ)) (read : (i j : ℕ) → i < 64 → j < 64 → IsRead c worth false (stand_on men i j) (other_side side) (at scores i j)) (a_in : a < 64) (b_in : b < 64) (mid high : ℕ)
       (first : IsRaised low (IsFirstStep men side a b) (λ u. at scores u b) mid) (last : IsRaised mid (IsLastStep men side a b) (λ u. at scores a u) high) where

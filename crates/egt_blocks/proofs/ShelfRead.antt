@@ -61,33 +61,14 @@ module _ (c shelf : ℕ) (has : has_target (material_of c) ≡ true) (within : I
   first_is = ap (λ p. shelf * (2 * p)) (places_is c has)
 
   ends : (shelf + 1) * 96 ≤ 18874368
-  ends =
-      let size = (half_is c has).0 in
-      let len = ap (λ p. (shelf + 1) * (2 * p)) (places_is c has) in
-      omega (arith, within, size, len)
+  ends = grind (arith, half_is, places_is)
 
   -- the shelf lies in one half of the numbers
   pub code_in_shelf : (k : ℕ) → k < 96 → code_of c (first + k) ≡ code_of c first + 2 * k
-  code_in_shelf k k_in =
-      let half = (half_is c has).1 in elim (cases_lt first (half_of c)) [
-        | inl low ↦
-            let below : first + k < half_of c = omega (arith, low, half, first_is, k_in) in
-            let here = code_low c first has low in
-            let there = code_low c (first + k) has below in
-            omega (arith, here, there)
-        | inr high ↦
-            let above : half_of c ≤ first + k = omega (arith, high) in
-            let here = code_high c first has high in
-            let there = code_high c (first + k) has above in
-            omega (arith, here, there, high)
-      ]
+  code_in_shelf k k_in = grind (arith, half_is, cases_lt, half_of, first_is, code_low, code_high)
 
   pub first_within : code_of c first / 2 * 2 + 192 ≤ size_of c
-  first_within =
-      let size = half_is c has in elim (cases_lt first (half_of c)) [
-        | inl low ↦ let here = code_low c first has low in omega (arith, here, low, first_is, size.0, size.1)
-        | inr high ↦ let here = code_high c first has high in omega (arith, here, high, first_is, size.0, size.1, ends)
-      ]
+  first_within = grind (arith, half_is, cases_lt, half_of, code_low, first_is, code_high, ends)
 
   -- so is a target's digit alone left out
   pub first_of_shelf : (men : ShelfMen) (passed : Bool) → IsShelfOf passed c shelf men → code_of c first / 2 * 2 + bit_of passed ≡ code_of c first

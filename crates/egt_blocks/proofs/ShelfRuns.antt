@@ -130,12 +130,7 @@ module _ (passed : Bool) (c first : ℕ) (men : ShelfMen) (is : IsShelfOf passed
     code_is = of_targets c plain targets
       where
         plain : has_target (material_of c) ≡ false → code_of c up ≡ ended (has_target (material_of c)) is.0.passed (here.number + d * kind_digits men.last.kind)
-        plain none =
-            let from = here.ends.number_is ∙ ap (λ b. ended b is.0.passed here.number) none in
-            let at = code_plain c n none in
-            let above = code_plain c up none in
-            let number = number_up in
-            above ∙ (let e : up ≡ (here.number + d * kind_digits men.last.kind) * 2 + side_number side = omega (arith, from, at, number) in e) ∙ sym (ap (λ b. ended b is.0.passed (here.number + d * kind_digits men.last.kind)) none)
+        plain none = grind (arith, code_plain, number_up, kind_digits, side_number)
 
         targets : has_target (material_of c) ≡ true → code_of c up ≡ ended (has_target (material_of c)) is.0.passed (here.number + d * kind_digits men.last.kind)
         targets has =

@@ -2,7 +2,7 @@
 use Rattle.std.proofs.Common.{◌≡◌, ◌≢◌, ℕ, ◌<◌, ◌↔◌, Bool, cond, eqb, max, List, [], length, get_or, get_or-set_other}
 use Rattle.std.proofs.Common.{arith, refl, sym, ap, ◌∙◌, inl, inr, subst, slice_index}
 use Rattle.egt_blocks.specs.Prelude.{bit_at, cases_eq, ne_eqb, get_or-set_at, set, length-set, Reaches, Reaches-free}
-use Rattle.egt_blocks.specs.Prelude.{other_side, Has, Man, Side, SquareSet, IsSomeTurnedCode, ShelfMen, raised_by_one}
+use Rattle.egt_blocks.specs.Prelude.{other_side, Has, Side, SquareSet, IsSomeTurnedCode, ShelfMen, raised_by_one}
 use Rattle.egt_blocks.specs.Prelude.{raised_is, at, IsRaised, IsBesideKing, with_king, AreLeftCodes, IsPastKings, Left}
 use Rattle.egt_blocks.specs.Prelude.{left_of, stand_left, IsRead}
 use Rattle.egt_blocks.proofs.BlockRaising.{GoneKing, raised_alike, raised_both, raised_by_none, same_beside}
@@ -55,9 +55,7 @@ module _ (c : ℕ) (worth : ℕ → ℕ) (flips : Bool) (men : ShelfMen) (side :
   module _ (rest new : SquareSet) (out : List (List ℕ)) (to : ℕ) (row : List ℕ) (to_in : to < 64) (had : Has rest to) (gone : bit_at new.bits to ≡ 0) (others : (k : ℕ) → k ≢ to → bit_at new.bits k ≡ bit_at rest.bits k)
       (read : (a : ℕ) → a < 64 → IsRead c worth flips (stand_left flips (left_of (with_king men side to) (with_king men side to).one a)) (other_side side) (slice_index row a)) (before : RowsTaken c worth flips men side rest out) where
     there : (a : ℕ) → a < 64 → IsRaised 0 (AreGone c flips men side new to a) worth (slice_index row a)
-    there a a_in = raised_alike 0 (slice_index row a) (λ code. IsSomeTurnedCode c code flips (stand_left flips (left_of (with_king men side to) men.one a)) (other_side side)) (AreGone c flips men side new to a) worth
-        (subst (λ (m : Man). IsRead c worth flips (stand_left flips (left_of (with_king men side to) m a)) (other_side side) (slice_index row a)) (same_beside men side to).0 (read a a_in))
-        (λ code h. h.1) (λ code h. ((before.left to to_in had, gone), h))
+    there a a_in = grind (arith, raised_alike, stand_left, left_of, with_king, other_side, same_beside)
 
     pub taken_more : RowsTaken c worth flips men side new (set out to row)
     taken_more = record {

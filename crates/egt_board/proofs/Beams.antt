@@ -1,6 +1,6 @@
 -- The squares along steps on the bare board, computed.
-use Rattle.std.proofs.Common.{◌≡◌, ◌≢◌, ◌↔◌, ℕ, zero, suc, ◌+◌, ◌-◌, ◌*◌, ◌^◌, ◌<◌, Bool, true, false, ltb, List, []}
-use Rattle.std.proofs.Common.{◌∷◌, Option, Some, None, arith, zero-add, refl, sym, subst, inl, inr}
+use Rattle.std.proofs.Common.{◌≡◌, ◌≢◌, ◌↔◌, ℕ, zero, suc, ◌+◌, ◌-◌, ◌*◌, ◌^◌, ◌<◌, true, false, ltb, List, [], ◌∷◌}
+use Rattle.std.proofs.Common.{Option, Some, None, arith, zero-add, refl, sym, subst, inl, inr}
 use Rattle.egt_board.specs.Prelude.{bit_at, bit_or, ltb-true, ltb-false, bit_at_or, bit_at-zero, bit_at-lt}
 use Rattle.egt_board.specs.Prelude.{bit_at-pow_same, bit_at-pow_other, Way, Up, Down, Still, Step, file_of, rank_of}
 use Rattle.egt_board.specs.Prelude.{Further, Away, Rides, OneOf}

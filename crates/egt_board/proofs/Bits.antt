@@ -3,7 +3,7 @@ use Rattle.std.proofs.Common.{◌≡◌, ◌≢◌, ◌↔◌, ℕ, zero, Bool, 
 use Rattle.std.proofs.Common.{min, w64, arith, ap, sym, ◌∙◌, subst}
 use Rattle.egt_board.specs.Prelude.{bit_and, bit_at, trailing_zeros, bit_not, and_le_l, bit_at-trailing_zeros}
 use Rattle.egt_board.specs.Prelude.{bit_at_clear_same, bit_at-lt, bit_at_above, bit_at_clear_other, bit_at_and}
-use Rattle.egt_board.specs.Prelude.{bit_at_not, cases_eq, cases_lt, false≢true}
+use Rattle.egt_board.specs.Prelude.{bit_at_not, cases_eq, cases_lt}
 
 pub not_both : {A : Type 0} (n : ℕ) → n ≡ 0 → n ≡ 1 → A
 not_both n none one = absurd (omega arith)

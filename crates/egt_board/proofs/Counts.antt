@@ -2,7 +2,7 @@
 use Rattle.std.proofs.Common.{Option, None, ◌≡◌, ◌≢◌, ℕ, zero, suc, ◌+◌, ◌<◌, ◌≤◌, ◌↔◌, List, [], ◌∷◌, length, Some}
 use Rattle.std.proofs.Common.{cond, eqb, arith, refl, sym, ap, ◌∙◌, inl, inr, subst, ◌⊎◌}
 use Rattle.egt_board.specs.Prelude.{bit_at, is_some, cases_eq, false≢true, eqb_tells, bit_at-lt, Side, White, Black}
-use Rattle.egt_board.specs.Prelude.{Man, SquareSet, other_side, Placement, IsHeld, king_of, IsKingOn, total, size_of}
+use Rattle.egt_board.specs.Prelude.{Man, SquareSet, other_side, Placement, IsHeld, IsKingOn, total, size_of}
 use Rattle.std.specs.FinMap as placement
 use Rattle.egt_board.proofs.Placed.{find-later}
 use Rattle.egt_board.proofs.Gather.{IsKey}

@@ -1,9 +1,9 @@
 -- A man attacks the squares from which it is attacked: of a pawn the enemy's attacks his.
-use Rattle.std.proofs.Common.{◌≡◌, ◌↔◌, ℕ, ◌+◌, ◌-◌, ◌*◌, ◌<◌, ◌++◌, arith, refl, sym, ap, ◌∙◌, inl, inr, subst}
-use Rattle.egt_board.specs.Prelude.{add-mul, cases_eq, Side, White, Black, Kind, Q, R, B, N, P, K, Man, Way, Up, Down}
-use Rattle.egt_board.specs.Prelude.{Still, Step, Further, OneOf, Rides, Reaches, straight_steps, diagonal_steps}
-use Rattle.egt_board.specs.Prelude.{knight_steps, pawn_steps, steps_of, farthest, other_side, pawn_of, facing}
-use Rattle.egt_board.specs.Prelude.{Placement, IsFree, get-insert_same, get-insert_other, file_of, rank_of, Away}
+use Rattle.std.proofs.Common.{◌≡◌, ◌↔◌, ℕ, ◌+◌, ◌-◌, ◌*◌, ◌<◌, ◌++◌, arith, sym, ap, ◌∙◌, subst}
+use Rattle.egt_board.specs.Prelude.{add-mul, cases_eq, Side, Kind, Q, R, B, N, P, K, Man, Way, Up, Down, Still, Step}
+use Rattle.egt_board.specs.Prelude.{Further, OneOf, Rides, Reaches, straight_steps, diagonal_steps, knight_steps}
+use Rattle.egt_board.specs.Prelude.{pawn_steps, steps_of, farthest, other_side, facing, Placement, IsFree}
+use Rattle.egt_board.specs.Prelude.{get-insert_same, get-insert_other, Away}
 use Rattle.std.specs.FinMap as map
 use Rattle.egt_board.proofs.Sides.{side_twice}
 

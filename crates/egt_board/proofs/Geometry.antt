@@ -1,5 +1,5 @@
 -- How far squares are from one another.
-use Rattle.std.proofs.Common.{◌≡◌, ℕ, ◌+◌, ◌-◌, ◌*◌, ◌<◌, ◌≤◌, arith, refl, sym, ◌∙◌, subst}
+use Rattle.std.proofs.Common.{◌≡◌, ℕ, ◌+◌, ◌-◌, ◌*◌, ◌<◌, ◌≤◌, arith, refl, sym, subst}
 use Rattle.egt_board.specs.Prelude.{mul-le-mul_right, Way, Up, Down, Still, Step, file_of, rank_of, Further, Away}
 
 -- a coordinate as many times 0 further is the same

@@ -1,9 +1,9 @@
 -- Whose men stand on the squares of a set.
 use Rattle.std.proofs.Common.{◌≡◌, ℕ, ◌<◌, ◌↔◌, true, false, cond, eqb, List, [], ◌∷◌, Option, Some, None, arith, refl}
 use Rattle.std.proofs.Common.{sym, ap, ◌∙◌, max, inl, inr}
-use Rattle.egt_board.specs.Prelude.{nat_cmp, unsigned_tied, cases_eq, eqb_tells, Side, White, Black, Man, Placement}
-use Rattle.egt_board.specs.Prelude.{Stands, IsFree, IsHeld, Slot, listed, marks, takes, is_side, InOrder, AreOnBoard}
-use Rattle.egt_board.specs.Prelude.{AreKept, find-below, first_half, second_half}
+use Rattle.egt_board.specs.Prelude.{nat_cmp, unsigned_tied, cases_eq, eqb_tells, Side, Man, Placement, Stands, IsFree}
+use Rattle.egt_board.specs.Prelude.{IsHeld, Slot, listed, marks, takes, is_side, InOrder, AreOnBoard, AreKept}
+use Rattle.egt_board.specs.Prelude.{find-below, first_half, second_half}
 use Rattle.std.specs.FinMap as map
 use Rattle.egt_board.proofs.Placed.{find-later}
 use Rattle.egt_board.proofs.Slots.{AreShown, listed-shown}

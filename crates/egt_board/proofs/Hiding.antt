@@ -1,10 +1,10 @@
 -- What a man on a line hides: a square is attacked along it exactly where no square between is taken.
 use Rattle.std.proofs.Common.{◌≡◌, ◌≢◌, ◌↔◌, ℕ, ◌-◌, ◌<◌, Bool, true, false, List, [], ◌∷◌, ◌++◌, min, arith, refl, sym}
 use Rattle.std.proofs.Common.{ap, ◌∙◌, subst, inl, inr, ◌+◌, ◌⊎◌}
-use Rattle.egt_board.specs.Prelude.{bit_at, cases_eq, false≢true, bit_at-lt, bit_at-zero, Side, White, Black, Kind, Q}
-use Rattle.egt_board.specs.Prelude.{R, B, N, P, K, Man, Up, Down, Still, Step, file_of, rank_of, Away, Rides, OneOf}
-use Rattle.egt_board.specs.Prelude.{Reaches, Rides-free, Reaches-free, steps_of, farthest, is_slider, straight_steps}
-use Rattle.egt_board.specs.Prelude.{diagonal_steps, knight_steps, pawn_steps, Stops, IsRoyal, IsBetween}
+use Rattle.egt_board.specs.Prelude.{bit_at, cases_eq, false≢true, bit_at-lt, bit_at-zero, Side, Man, Step, file_of}
+use Rattle.egt_board.specs.Prelude.{rank_of, Away, Rides, OneOf, Reaches, Rides-free, Reaches-free, steps_of, farthest}
+use Rattle.egt_board.specs.Prelude.{is_slider, straight_steps, diagonal_steps, knight_steps, pawn_steps, Stops, IsRoyal}
+use Rattle.egt_board.specs.Prelude.{IsBetween}
 use Rattle.egt_board.proofs.Bits.{not_both}
 use Rattle.egt_board.proofs.Towards.{apart, gap_of, joined}
 
@@ -140,26 +140,10 @@ one_step : (F : ℕ → Type 0) (s t : ℕ) (d : Step) → Rides F 1 s t d → A
 one_step F s t d r = grind arith
 
 knight_off : (F : ℕ → Type 0) (s t u : ℕ) → OneOf (Rides F 1 s t) knight_steps → IsBetween s t u → ⊥
-knight_off F s t u (inl r) b = let a = one_step F s t _ r in off_the_line s t u (inl (up_apart 1 _ _ a.across, up_apart 2 _ _ a.along)) b
-knight_off F s t u (inr (inl r)) b = let a = one_step F s t _ r in off_the_line s t u (inl (up_apart 1 _ _ a.across, down_apart 2 _ _ a.along)) b
-knight_off F s t u (inr (inr (inl r))) b = let a = one_step F s t _ r in off_the_line s t u (inl (down_apart 1 _ _ a.across, up_apart 2 _ _ a.along)) b
-knight_off F s t u (inr (inr (inr (inl r)))) b = let a = one_step F s t _ r in off_the_line s t u (inl (down_apart 1 _ _ a.across, down_apart 2 _ _ a.along)) b
-knight_off F s t u (inr (inr (inr (inr (inl r))))) b = let a = one_step F s t _ r in off_the_line s t u (inr (up_apart 2 _ _ a.across, up_apart 1 _ _ a.along)) b
-knight_off F s t u (inr (inr (inr (inr (inr (inl r)))))) b = let a = one_step F s t _ r in off_the_line s t u (inr (up_apart 2 _ _ a.across, down_apart 1 _ _ a.along)) b
-knight_off F s t u (inr (inr (inr (inr (inr (inr (inl r))))))) b = let a = one_step F s t _ r in off_the_line s t u (inr (down_apart 2 _ _ a.across, up_apart 1 _ _ a.along)) b
-knight_off F s t u (inr (inr (inr (inr (inr (inr (inr (inl r)))))))) b = let a = one_step F s t _ r in off_the_line s t u (inr (down_apart 2 _ _ a.across, down_apart 1 _ _ a.along)) b
-knight_off F s t u (inr (inr (inr (inr (inr (inr (inr (inr none)))))))) b = none
+knight_off h0 s t u h4 b = grind (arith, one_step, off_the_line, up_apart, down_apart)
 
 leaper_between : (F : ℕ → Type 0) (man : Man) (s t u : ℕ) → is_slider man.kind ≡ false → Reaches F man s t → IsBetween s t u → ⊥
-leaper_between F man s t u leaps r b = go man.kind leaps r
-  where
-    go : (k : Kind) → is_slider k ≡ false → OneOf (Rides F (farthest k) s t) (steps_of man.side k) → ⊥
-    go Q h r = false≢true (sym h)
-    go R h r = false≢true (sym h)
-    go B h r = false≢true (sym h)
-    go N h r = knight_off F s t u r b
-    go P h r = royal_near F s t u (pawn_steps man.side) (pawn_royal man.side) r b
-    go K h r = royal_near F s t u (straight_steps ++ diagonal_steps) queen_royal r b
+leaper_between h0 man s t u leaps r b = grind (arith, is_slider, farthest, steps_of, false≢true, knight_off, royal_near, pawn_steps, pawn_royal, straight_steps, diagonal_steps, queen_royal)
 
 -- so one rule serves all men: between what is attacked and the man every square is free
 pub free_between : (F : ℕ → Type 0) (man : Man) (s t u : ℕ) → Reaches F man s t → IsBetween s t u → F u

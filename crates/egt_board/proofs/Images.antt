@@ -1,6 +1,6 @@
 -- What the images of a position keep, and the way back from each.
-use Rattle.std.proofs.Common.{◌≡◌, ℕ, zero, suc, ◌<◌, ◌↔◌, ◌⊎◌, ◌/◌, ◌%◌, ◌==◌, Bool, true, false, Option, Some, None}
-use Rattle.std.proofs.Common.{arith, refl, sym, ap, ◌∙◌, subst, inl, inr}
+use Rattle.std.proofs.Common.{◌≡◌, ℕ, zero, suc, ◌<◌, ◌↔◌, ◌⊎◌, ◌/◌, ◌%◌, ◌==◌, Bool, true, false, Option, Some, arith}
+use Rattle.std.proofs.Common.{refl, sym, ap, ◌∙◌, subst, inl, inr}
 use Rattle.egt_board.specs.Prelude.{option_map, eqb-true, Mirror, Files, Ranks, Diagonal, Colours, Side, Man}
 use Rattle.egt_board.specs.Prelude.{other_side, Placement, HasNoPawn, Setup, IsAdmissible, FitsTarget, IsSettled}
 use Rattle.egt_board.specs.Prelude.{IsMirrored, square_by, side_by, man_by, Allows, square_by-within, square_by-twice}
@@ -159,12 +159,10 @@ carried_only f p q r onto first second = λ i. record { men = men i; side = (fir
         subst (λ x. map.get q.men x ≡ map.get r.men x) from.2 (first.men from.0 from.1 ∙ sym (second.men from.0 from.1)))
 
 pub square_if-within : (turns : Bool) (m : Mirror) (s : ℕ) → s < 64 → square_if turns m s < 64
-square_if-within true m s s_in = square_by-within m s s_in
-square_if-within false m s s_in = s_in
+square_if-within h0 m s s_in = grind (arith, square_by-within)
 
 pub square_if-twice : (turns : Bool) (m : Mirror) (s : ℕ) → s < 64 → square_if turns m (square_if turns m s) ≡ s
-square_if-twice true m s s_in = square_by-twice m s s_in
-square_if-twice false m s s_in = refl
+square_if-twice h0 m s s_in = grind (arith, square_by-twice)
 
 pub onto_three : (a b c : Bool) (l m n : Mirror) → Onto (λ s. square_if c n (square_if b m (square_if a l s)))
 unfolding Onto

@@ -94,8 +94,7 @@ both_beside men x y all one other x_beside y_beside before from_first = record {
     ordered x y before = grind arith
 
     emptied : (x y : Slot) → (x ≡ None → y ≡ None) → entry_of x ≡ None → entry_of y ≡ None
-    emptied None y from is = ap entry_of (from refl)
-    emptied (Some e) y from is = absurd (cc)
+    emptied h0 y from is = grind arith
 
 -- a slot's king is the one king or the other
 record IsOnKing (x : Slot) (white black : ℕ) : Type 0 where

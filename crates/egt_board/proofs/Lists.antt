@@ -85,11 +85,7 @@ Laid-more board men i s man d i_in e free laid = record {
 -- a square that is taken already is there twice
 pub Laid-twice : (board : Placement) (men : List (Man × ℕ)) (i s : ℕ) (man other : Man) (d : Man × ℕ) → i < length men → get_or men i d ≡ (man, s)
     → placement.get board s ≡ Some other → Laid board men i → ¬ FitsBoard men
-Laid-twice board men i s man other d i_in e taken laid fits =
-    let w = find-some (take i men) s other (sym (get-men_of (take i men) s) ∙ ap (λ b. placement.get b s) (sym laid.shown) ∙ taken) in
-    let n = length-take i men in
-    let below : w.0 < i = omega (arith, w.1) in
-    fits.apart w.0 i below i_in (sym (squares_of-take men i w.0 below) ∙ w.2 ∙ sym (squares_of-at men i d i_in ∙ ap (λ (x : Man × ℕ). x.1) e))
+Laid-twice board men i s man other d i_in e taken laid fits = grind (arith, find-some, get-men_of, length-take, squares_of-take, squares_of-at)
 
 len-from_entries : (es : List (ℕ × Man)) → placement.len (placement.from_entries {R = nat_cmp} es) ≤ length es
 len-from_entries [] = let e = placement.len-empty nat_cmp Man in omega arith

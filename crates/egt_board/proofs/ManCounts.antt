@@ -1,10 +1,10 @@
 -- How many of each man stand on a board.
 use Rattle.std.proofs.Common.{◌≡◌, ◌≢◌, ℕ, zero, suc, ◌+◌, ◌*◌, ◌<◌, ◌⊎◌, List, [], ◌∷◌, map, Option, Some, None, cond}
 use Rattle.std.proofs.Common.{arith, add-zero, refl, ap, ◌∙◌, inl, inr, T, count_by}
-use Rattle.egt_board.specs.Prelude.{nat_cmp, below_all, cases_eq, sum_by-cons, eqb_tells, Side, White, Black, Kind}
-use Rattle.egt_board.specs.Prelude.{K, Man, Placement, Stands, get-insert_same, get-insert_other}
-use Rattle.egt_board.specs.Prelude.{get-remove_same, get-remove_other, king_of, IsKingOn, total, kind_number}
-use Rattle.egt_board.specs.Prelude.{side_number, man_number, stands_here, count_of, is_man, first_half, second_half}
+use Rattle.egt_board.specs.Prelude.{nat_cmp, below_all, cases_eq, sum_by-cons, eqb_tells, Side, Kind, K, Man, Placement}
+use Rattle.egt_board.specs.Prelude.{Stands, get-insert_same, get-insert_other, get-remove_same, get-remove_other}
+use Rattle.egt_board.specs.Prelude.{king_of, IsKingOn, total, kind_number, side_number, stands_here, count_of, is_man}
+use Rattle.egt_board.specs.Prelude.{first_half, second_half}
 use Rattle.std.specs.FinMap as placement
 use Rattle.egt_board.proofs.Placed.{find-here, find-later, Sorted, lt_of_less}
 use Rattle.egt_board.proofs.Sides.{kind_few}

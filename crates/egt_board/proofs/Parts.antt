@@ -1,5 +1,5 @@
 -- What equal lists begin with and go on with, and what each of four tells.
-use Rattle.std.proofs.Common.{arith, ◌≡◌, ◌⊎◌, List, ◌∷◌, inl, inr}
+use Rattle.std.proofs.Common.{arith, ◌≡◌, ◌⊎◌, List, ◌∷◌}
 
 pub heads : {A : Type 0} {a b : A} {x y : List A} → a ∷ x ≡ b ∷ y → a ≡ b
 heads e = cc

@@ -1,7 +1,6 @@
 -- The search for a pawn on the first rank or the last.
-use Rattle.std.proofs.Common.{◌≡◌, ◌≢◌, ℕ, ◌<◌, ◌⊎◌, ◌↔◌, arith, Option, Some, None, true, sym, ap, ◌∙◌, inl, inr}
-use Rattle.std.proofs.Common.{subst}
-use Rattle.egt_board.specs.Prelude.{bit_at, is_some, cases_eq, Man, Placement, Stands, IsFree, IsBeside, MayStand}
+use Rattle.std.proofs.Common.{◌≡◌, ◌≢◌, ℕ, ◌<◌, ◌⊎◌, ◌↔◌, arith, true}
+use Rattle.egt_board.specs.Prelude.{bit_at, is_some, cases_eq, Man, Placement, Stands, IsFree, MayStand}
 use Rattle.std.specs.FinMap as map
 use Rattle.egt_board.proofs.Bits.{not_both}
 
@@ -16,7 +15,3 @@ FitSoFar-init men rest small free = grind (arith, cases_eq, not_both, is_some)
 -- one square less, on which no pawn stands but on the ranks between
 pub FitSoFar-less : (men : Placement) (rest rest' s : ℕ) → FitSoFar men rest → bit_at rest' s ≡ 0 → ((u : ℕ) → u ≢ s → bit_at rest' u ≡ bit_at rest u) → ((man : Man) → Stands men s man → MayStand man s) → FitSoFar men rest'
 FitSoFar-less men rest rest' s so_far gone others fits = grind (arith, cases_eq, not_both)
-
--- a square beside another has it beside itself
-pub beside_back : (s t : ℕ) → IsBeside s t → IsBeside t s
-beside_back s t h = grind arith

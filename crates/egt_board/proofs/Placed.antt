@@ -1,6 +1,6 @@
 -- Entries of a placement, found by their squares.
-use Rattle.std.proofs.Common.{◌≡◌, ◌≢◌, ◌<◌, ℕ, List, ◌∷◌, Some, Bool, true, cond, refl, ap, ltb, eqb, T, arith}
-use Rattle.egt_board.specs.Prelude.{ltb-true, nat_cmp, is_lt, Less, Equal, Greater, Man, tied, untied}
+use Rattle.std.proofs.Common.{◌≡◌, ◌≢◌, ◌<◌, ℕ, List, ◌∷◌, Some, cond, ap, T, arith}
+use Rattle.egt_board.specs.Prelude.{ltb-true, nat_cmp, is_lt, Man, tied, untied}
 use Rattle.std.specs.FinMap as map
 
 pub find-here : (q k : ℕ) (man : Man) (es : List (ℕ × Man)) → q ≡ k → map.find nat_cmp q ((k, man) ∷ es) ≡ Some man

@@ -1,7 +1,6 @@
 -- What makes a setup admissible, and what each refusal says.
-use Rattle.std.proofs.Common.{true, false, ◌≡◌, ℕ, Option, Some, None, sym, subst, ◌⊎◌, inl, inr, refl, arith}
-use Rattle.egt_board.specs.Prelude.{is_some, false≢true, Side, White, Black, other_side, Placement, IsKingOn, IsTarget}
-use Rattle.egt_board.specs.Prelude.{FitsTarget}
+use Rattle.std.proofs.Common.{true, false, ◌≡◌, ℕ, Option, Some, None, sym, subst, ◌⊎◌, arith}
+use Rattle.egt_board.specs.Prelude.{is_some, Side, White, Black, other_side, Placement, IsKingOn, IsTarget, FitsTarget}
 
 -- the king that waits, chosen by the side to move
 pub waiting_king : (men : Placement) (side : Side) (white black s : ℕ) → IsKingOn men White white → IsKingOn men Black black → ((side ≡ White) × (s ≡ black)) ⊎ ((side ≡ Black) × (s ≡ white)) → IsKingOn men (other_side side) s

@@ -79,9 +79,7 @@ reach_all occupied set n most s d le reached no_more = λ t t_in. (
 
 -- nothing is reached past an occupied square
 pub reach_stopped : (occupied set n most s b : ℕ) (d : Step) → 0 < n → n ≤ most → Away d n s b → bit_at occupied b ≡ 1 → AreReached occupied set n s d → AreReached occupied set most s d
-reach_stopped occupied set n most s b d some le away taken reached =
-    reach_all occupied set n most s d le reached (λ t r more.
-    let bad : 0 ≡ 1 = sym (r.clear n b some more away) ∙ taken in omega arith)
+reach_stopped occupied set n most s b d some le away taken reached = grind (arith, reach_all)
 
 -- nor past the edge
 pub reach_edge : (occupied set n most s a : ℕ) (d : Step) → n ≤ most → Rode occupied set n s a d → ((u : ℕ) → Away d 1 a u → ⊥) → AreReached occupied set most s d

@@ -1,5 +1,5 @@
 -- What a position settles to, and what its images settle to.
-use Rattle.std.proofs.Common.{arith, ◌≡◌, ℕ, Bool, true, false, if◌then◌else◌, refl, sym, ap, ◌∙◌, subst, inl, inr}
+use Rattle.std.proofs.Common.{arith, ◌≡◌, ℕ, Bool, true, false, if◌then◌else◌, refl, sym, subst, inl, inr}
 use Rattle.egt_board.specs.Prelude.{Decided, tells, decided_settled, settled_form, AreImages, Setup, IsAdmissible}
 use Rattle.egt_board.specs.Prelude.{IsSettled, SettlesTo, untargeted, KeepsPlay, IsTurnedBy}
 use Rattle.egt_board.proofs.Turns.{turned_kept, turned_is_image, images_turned}

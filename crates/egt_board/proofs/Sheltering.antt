@@ -1,11 +1,11 @@
 -- What a side attacks, and where a newcomer keeps it from attacking a square.
-use Rattle.std.proofs.Common.{◌≡◌, ◌≢◌, ◌↔◌, ◌⊎◌, ℕ, ◌+◌, ◌*◌, ◌<◌, List, [], ◌∷◌, Some, None, max, min, arith, refl}
-use Rattle.std.proofs.Common.{sym, ap, ◌∙◌, subst, inl, inr}
-use Rattle.egt_board.specs.Prelude.{bit_at, nat_cmp, cases_eq, Inside, Side, White, Black, Kind, Q, R, B, N, P, K, Man}
-use Rattle.egt_board.specs.Prelude.{Way, Up, Down, Still, Step, Further, file_of, rank_of, Placement, Stands, IsFree}
-use Rattle.egt_board.specs.Prelude.{get-insert_same, get-insert_other, Rides, OneOf, Reaches, Reaches-free, steps_of}
-use Rattle.egt_board.specs.Prelude.{farthest, Slot, listed, placed, InOrder, AreKept, slots_of, find-below, first_half}
-use Rattle.egt_board.specs.Prelude.{second_half, IsAttacked, IsKeptFrom, IsSeenAs, Stops, StopsSlot}
+use Rattle.std.proofs.Common.{◌≡◌, ◌≢◌, ◌↔◌, ◌⊎◌, ℕ, ◌*◌, ◌<◌, List, [], ◌∷◌, Some, None, max, min, arith, refl, sym}
+use Rattle.std.proofs.Common.{ap, ◌∙◌, subst, inl, inr}
+use Rattle.egt_board.specs.Prelude.{bit_at, nat_cmp, cases_eq, Inside, Side, Kind, Man, Way, Up, Down, Still, Step}
+use Rattle.egt_board.specs.Prelude.{Further, file_of, rank_of, Placement, Stands, IsFree, get-insert_same}
+use Rattle.egt_board.specs.Prelude.{get-insert_other, Rides, OneOf, Reaches, Reaches-free, steps_of, farthest, Slot}
+use Rattle.egt_board.specs.Prelude.{listed, placed, InOrder, AreKept, slots_of, find-below, first_half, second_half}
+use Rattle.egt_board.specs.Prelude.{IsAttacked, IsKeptFrom, IsSeenAs, Stops, StopsSlot}
 use Rattle.std.specs.FinMap as map
 use Rattle.egt_board.proofs.Placed.{find-here, find-later}
 use Rattle.egt_board.proofs.Slots.{shown, listed-shown}
@@ -54,10 +54,7 @@ found_stop occupied side square t (Some e ∷ xs) sorted stop = (
 
 -- what stands on the square of a newcomer is the newcomer
 newcomer_stands : (men : Placement) (t : ℕ) (newcomer man : Man) (side : Side) → newcomer.side ≢ side → man.side ≡ side → (s : ℕ) → Stands (map.insert men t newcomer) s man → s ≢ t
-newcomer_stands men t newcomer man side foreign own s stands e =
-    let both : Some newcomer ≡ Some man = sym (get-insert_same men t newcomer s e) ∙ stands in
-    let same : newcomer ≡ man = cc in
-    foreign (ap (λ (m : Man). m.side) same ∙ own)
+newcomer_stands men t newcomer man side foreign own s stands e = grind (arith, get-insert_same)
 
 free_before : (men : Placement) (t u : ℕ) (newcomer : Man) → IsFree (map.insert men t newcomer) u → u ≢ t
 free_before men t u newcomer free e = let bad : Some newcomer ≡ None = sym (get-insert_same men t newcomer u e) ∙ free in cc

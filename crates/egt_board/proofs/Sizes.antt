@@ -1,11 +1,11 @@
 -- How many squares a set has.
-use Rattle.std.proofs.Common.{◌≡◌, ◌≢◌, ℕ, zero, suc, ◌+◌, ◌<◌, ◌≤◌, ◌⊎◌, max, Bool, true, false, cond, ◌&&◌, ◌||◌, not}
-use Rattle.std.proofs.Common.{eqb, leb, List, [], ◌∷◌, ◌++◌, ◌*◌, arith, refl, ap, ◌∙◌, inl, inr, subst}
-use Rattle.egt_board.specs.Prelude.{bit_at, cases_eq, eq-eqb, leb-true, le-leb, false≢true, and_parts, and_from}
-use Rattle.egt_board.specs.Prelude.{bit_at-lt, Side, White, Black, Kind, Q, R, B, N, P, K, Man, Step, SquareSet}
-use Rattle.egt_board.specs.Prelude.{list_all, eqb_tells, Way, Up, Down, Still, Further, Away, file_of, rank_of, total}
-use Rattle.egt_board.specs.Prelude.{size_of, most_reached, Rides, OneOf, Reaches, farthest, steps_of, straight_steps}
-use Rattle.egt_board.specs.Prelude.{diagonal_steps, knight_steps, pawn_steps, Advances}
+use Rattle.std.proofs.Common.{◌≡◌, ◌≢◌, ℕ, zero, suc, ◌+◌, ◌<◌, ◌≤◌, ◌⊎◌, max, Bool, true, cond, ◌&&◌, ◌||◌, not, eqb}
+use Rattle.std.proofs.Common.{leb, List, [], ◌∷◌, ◌++◌, ◌*◌, arith, refl, ap, ◌∙◌, inl, inr, subst}
+use Rattle.egt_board.specs.Prelude.{bit_at, cases_eq, eq-eqb, leb-true, le-leb, and_parts, and_from, bit_at-lt, Side}
+use Rattle.egt_board.specs.Prelude.{White, Black, Kind, Q, R, B, N, P, K, Man, Step, SquareSet, list_all, eqb_tells}
+use Rattle.egt_board.specs.Prelude.{Way, Further, Away, file_of, rank_of, total, size_of, most_reached, Rides, OneOf}
+use Rattle.egt_board.specs.Prelude.{Reaches, farthest, steps_of, straight_steps, diagonal_steps, knight_steps}
+use Rattle.egt_board.specs.Prelude.{pawn_steps, Advances}
 use Rattle.egt_board.proofs.Parts.{of_four}
 
 pub total-le : (f g : ℕ → ℕ) (n : ℕ) → ((t : ℕ) → t < n → f t ≤ g t) → total f n ≤ total g n
@@ -198,18 +198,7 @@ one_or_two b n some most = grind (arith, cases_eq)
 
 ahead_of : (F : ℕ → Type 0) (side : Side) (s t : ℕ) → Advances F side s t → near_ahead side s t ≡ true
 unfolding near_ahead further
-ahead_of F White s t a =
-    let g = a.rides.away.across in
-    and_from _ _ (eq-eqb (file_of s) (file_of t) (omega arith)) (one_of_two _ _ (go (one_or_two _ a.rides.count a.rides.moves a.rides.within)))
-  where
-    go : (a.rides.count ≡ 1) ⊎ (a.rides.count ≡ 2) → (eqb (rank_of t) (rank_of s + 1) ≡ true) ⊎ (eqb (rank_of t) (rank_of s + 2) ≡ true)
-    go h = grind (arith, eq-eqb)
-ahead_of F Black s t a =
-    let g = a.rides.away.across in
-    and_from _ _ (eq-eqb (file_of s) (file_of t) (omega arith)) (one_of_two _ _ (go (one_or_two _ a.rides.count a.rides.moves a.rides.within)))
-  where
-    go : (a.rides.count ≡ 1) ⊎ (a.rides.count ≡ 2) → (eqb (rank_of s) (rank_of t + 1) ≡ true) ⊎ (eqb (rank_of s) (rank_of t + 2) ≡ true)
-    go h = grind (arith, eq-eqb)
+ahead_of h0 h1 s t a = grind (arith, and_from, eq-eqb, file_of, one_of_two, one_or_two, within, eqb, rank_of)
 
 -- a set of squares that are near has few
 few_of_near : (is_near : ℕ → ℕ → Bool) (most : ℕ) (set : SquareSet) (s : ℕ) → all_below (few_near is_near most) 64 ≡ true → s < 64 → ((t : ℕ) → bit_at set.bits t ≡ 1 → is_near s t ≡ true) → size_of set ≤ most

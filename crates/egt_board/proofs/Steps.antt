@@ -1,5 +1,5 @@
 -- A bit of either of two sets.
-use Rattle.std.proofs.Common.{◌≡◌, ℕ, ◌<◌, ◌↔◌, arith, inl, inr, ◌⊎◌, max}
+use Rattle.std.proofs.Common.{◌≡◌, ℕ, ◌<◌, ◌↔◌, arith, ◌⊎◌, max}
 use Rattle.egt_board.specs.Prelude.{cases_eq}
 
 -- a square of either set

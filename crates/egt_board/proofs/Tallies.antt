@@ -1,9 +1,7 @@
 -- How many of each man stand on the board of a setup in a mirror.
-use Rattle.std.proofs.Common.{◌≡◌, ℕ, ◌+◌, ◌*◌, Bool, cond, eqb, arith, Option, Some, None, refl, sym, ap, ◌∙◌, inl}
-use Rattle.std.proofs.Common.{inr}
-use Rattle.egt_board.specs.Prelude.{option_map, eq-eqb, eqb_tells, Mirror, Files, Ranks, Diagonal, Colours, Side, White}
-use Rattle.egt_board.specs.Prelude.{Black, Kind, Man, other_side, Placement, total, square_by, man_by, kind_number}
-use Rattle.egt_board.specs.Prelude.{side_number, stands_here, count_of, men_by}
+use Rattle.std.proofs.Common.{◌≡◌, ℕ, ◌+◌, ◌*◌, cond, eqb, arith, Option, sym, ap, ◌∙◌}
+use Rattle.egt_board.specs.Prelude.{option_map, eq-eqb, eqb_tells, Mirror, Side, Kind, Man, other_side, Placement}
+use Rattle.egt_board.specs.Prelude.{total, square_by, man_by, kind_number, side_number, stands_here, count_of, men_by}
 use Rattle.std.specs.FinMap as map
 use Rattle.egt_board.proofs.Sizes.{total-same}
 use Rattle.egt_board.proofs.Reflected.{men_by-shows}

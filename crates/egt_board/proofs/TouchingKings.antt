@@ -1,5 +1,5 @@
 -- Kings attack each other or neither does.
-use Rattle.std.proofs.Common.{ℕ, ◌<◌, arith, sym, subst, inl, inr}
+use Rattle.std.proofs.Common.{ℕ, ◌<◌, arith, subst}
 use Rattle.egt_board.specs.Prelude.{Side, Step, king_of, Rides, Reaches, Away}
 
 -- a king goes one step

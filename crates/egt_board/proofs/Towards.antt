@@ -1,8 +1,8 @@
 -- The one step that leads from a square to another on its line, and how many of them.
-use Rattle.std.proofs.Common.{◌≡◌, ℕ, ◌+◌, ◌-◌, ◌*◌, ◌<◌, Bool, true, false, cond, eqb, ltb, max, min, arith, refl, sym}
-use Rattle.std.proofs.Common.{ap, ◌∙◌, subst, inl, inr, ◌⊎◌}
-use Rattle.egt_board.specs.Prelude.{lt-ltb, le-ltb, ltb-true, eqb-true, eq-eqb, cases_order, false≢true, Way, Up, Down}
-use Rattle.egt_board.specs.Prelude.{Still, Step, file_of, rank_of, Further, Away, size_of_way, unit, IsRoyal}
+use Rattle.std.proofs.Common.{◌≡◌, ℕ, ◌+◌, ◌-◌, ◌*◌, ◌<◌, Bool, true, false, cond, eqb, ltb, max, min, arith, ap, ◌∙◌}
+use Rattle.std.proofs.Common.{◌⊎◌}
+use Rattle.egt_board.specs.Prelude.{lt-ltb, le-ltb, ltb-true, eqb-true, eq-eqb, false≢true, Way, Up, Down, Still, Step}
+use Rattle.egt_board.specs.Prelude.{file_of, rank_of, Further, Away, size_of_way, unit, IsRoyal}
 
 -- along one coordinate
 abbrev pub way_to : ℕ → ℕ → Way
@@ -54,17 +54,7 @@ pub record AreJoined (d : Step) (k s t : ℕ) : Type 0 where
 
 -- a step to a neighbour that leads there k times over is the one that is found
 pub joined : (d : Step) (k s t : ℕ) → IsRoyal d → 0 < k → Away d k s t → AreJoined d k s t
-joined d k s t royal some away =
-    let there : Away (unit royal.files royal.ranks) k s t = subst (λ (e : Step). Away e k s t) royal.is away in
-    let f = way_found royal.files k (file_of s) (file_of t) some there.across in
-    let r = way_found royal.ranks k (rank_of s) (rank_of t) some there.along in
-    let n = sizes royal.files royal.ranks k _ _ some royal.moves f.1 r.1 in
-    let far : 0 < distance s t = subst (λ x. 0 < x) (sym n.0) some in
-    record {
-      aligned = ap (λ x. cond x (eqb (off_line (apart (file_of s) (file_of t)) (apart (rank_of s) (rank_of t))) 0) false) (lt-ltb 0 (distance s t) far) ∙ eq-eqb _ 0 n.1;
-      step = (λ i. unit (f.0 i) (r.0 i)) ∙ sym royal.is;
-      count = n.0;
-    }
+joined d k s t royal some away = grind (arith, unit, way_found, file_of, rank_of, sizes, eqb, lt-ltb, eq-eqb)
 
 -- two squares of one line
 pub record AreOnLine (s t : ℕ) : Type 0 where
@@ -83,34 +73,7 @@ second_size : (f r : ℕ) → off_line f r ≡ 0 → (r ≡ max f r) ⊎ (r ≡ 
 second_size f r h = grind arith
 
 pub on_line : (s t : ℕ) → s < 64 → t < 64 → are_aligned s t ≡ true → AreOnLine s t
-on_line s t s_in t_in h = go (ltb 0 (distance s t)) refl h
-  where
-    f : ℕ
-    f = apart (file_of s) (file_of t)
-
-    r : ℕ
-    r = apart (rank_of s) (rank_of t)
-
-    go : (b : Bool) → ltb 0 (distance s t) ≡ b → cond b (eqb (off_line f r) 0) false ≡ true → AreOnLine s t
-    go true far line =
-        let some : 0 < distance s t = ltb-true 0 (distance s t) far in
-        let gap : off_line f r ≡ 0 = eqb-true (off_line f r) 0 line in
-        record {
-          royal = record {
-            files = way_to (file_of s) (file_of t);
-            ranks = way_to (rank_of s) (rank_of t);
-            is = refl;
-            moves = far_ways (file_of s) (file_of t) (rank_of s) (rank_of t) some;
-          };
-          apart = some;
-          near = omega arith;
-          away = record {
-            on_board = t_in;
-            across = way_leads (distance s t) (file_of s) (file_of t) (first_size f r gap);
-            along = way_leads (distance s t) (rank_of s) (rank_of t) (second_size f r gap);
-          };
-        }
-    go false far line = absurd (false≢true line)
+on_line s t s_in t_in h = grind (arith, ltb, file_of, rank_of, eqb, ltb-true, eqb-true, far_ways, way_leads, first_size, second_size, false≢true)
 
 -- steps one after another
 further_sum : (w : Way) (by m n a b c : ℕ) → Further w (m * by) a b → Further w (n * by) b c → Further w ((m + n) * by) a c

@@ -1,8 +1,7 @@
 -- A turn as mirrors, one after another.
-use Rattle.std.proofs.Common.{◌≡◌, ℕ, ◌/◌, ◌%◌, ◌==◌, Bool, true, false, Option, arith, refl, sym, subst}
-use Rattle.std.proofs.Common.{inl, inr}
-use Rattle.egt_board.specs.Prelude.{option_map, eqb-true, Mirror, Files, Ranks, Diagonal, Colours, HasNoPawn, Setup}
-use Rattle.egt_board.specs.Prelude.{IsAdmissible, Allows, OnBoard, no_pawn_by, AreMirroredIf, ComesByMirrors, square_if}
+use Rattle.std.proofs.Common.{◌≡◌, ℕ, ◌/◌, ◌%◌, ◌==◌, Bool, true, false, arith, refl, sym, subst, inl, inr}
+use Rattle.egt_board.specs.Prelude.{eqb-true, Mirror, Files, Ranks, Diagonal, Colours, HasNoPawn, Setup, IsAdmissible}
+use Rattle.egt_board.specs.Prelude.{Allows, OnBoard, no_pawn_by, AreMirroredIf, ComesByMirrors, square_if}
 use Rattle.egt_board.specs.Prelude.{IsKeepingSides, KeepsPlay, IsCarried, IsImage, IsTurnedBy, setup_if, turned_by}
 use Rattle.egt_board.proofs.Reflected.{setup_by-is}
 use Rattle.egt_board.proofs.Images.{setup_by-kept, carried_of, carried_on, square_if-within}

@@ -1,5 +1,5 @@
 -- The code of a lane of a shelf.
-use Rattle.std.proofs.Common.{◌≡◌, ◌≢◌, ℕ, ◌+◌, ◌*◌, ◌<◌, ◌≤◌, Bool, arith, sym, subst}
+use Rattle.std.proofs.Common.{◌≡◌, ◌≢◌, ℕ, ◌+◌, ◌*◌, ◌<◌, ◌≤◌, Bool, arith, subst}
 use Rattle.egt_check.specs.Prelude.{side_number, Kind, Side, code_of, places, kind_digits, kind_less, IsShelfOf}
 use Rattle.egt_check.specs.Prelude.{IsWithin, number_in, size_of, TellsMen, ShelfMen, TableValue, Column, Part, IsBlank}
 use Rattle.egt_check.specs.Prelude.{men_on, stand_on, column_of, IsRightLane, IsRightAtOf, column_score, side_few}
@@ -17,10 +17,7 @@ module _ (passed : Bool) (t : TableValue) (men : ShelfMen) (on shelf : ℕ) (sid
   square = y + kind_less men.last.kind
 
   below : number < size_of t.class
-  below =
-      let wide : places t.class ≡ kind_digits men.last.kind = is.0.len in
-      subst (λ w. shelf * (2 * w) + side_number side + 2 * y < size_of t.class) (sym wide)
-      (row_below men.last.kind shelf (side_number side) y (size_of t.class) (side_few side) y_in (subst (λ w. (shelf + 1) * (2 * w) ≤ size_of t.class) wide within))
+  below = grind (arith, places, kind_digits, side_number, size_of, row_below, side_few)
 
   told : TellsMen passed t.class (code_of t.class number) (stand_on men on square) side
   told = subst (λ (b : Bool). TellsMen b t.class (code_of t.class number) (stand_on men on square) side) is.1 (is.0.tells side y y_in)

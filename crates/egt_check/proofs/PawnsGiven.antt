@@ -88,9 +88,6 @@ fits_pawn : (man : Man) (to : ℕ) (kind : Kind) → FitsPromotion (promotes man
 fits_pawn man to kind fits = grind (arith, promotes, is_pawn, pawn_told)
 
 module _ (p : Setup) (b : ℕ) (m : Move) where
-  captured : (kind : Kind) → IsOfficer kind → IsPromotingCaptureFrom p b kind m → IsMoveFrom p b m
-  captured kind officer is = grind arith
-
   advanced : (man : Man) (promo : Option Kind) → FitsPromotion (promotes man m.to) promo → IsAdvanceFrom p b promo m → IsMoveFrom p b m
   advanced man promo fits is = grind (arith, fits_pawn)
 

@@ -1,7 +1,7 @@
 -- A row of entries, judged by the greatest bytes of the moves.
-use Rattle.std.proofs.Common.{◌≡◌, ℕ, ◌+◌, ◌<◌, Bool, arith, subst}
-use Rattle.egt_check.specs.Prelude.{Side, code_of, kind_digits, kind_less, IsShelfOf, number_in, stand_with}
-use Rattle.egt_check.specs.Prelude.{TellsMen, ShelfMen, Stand, IsRaised, TableValue, Column, column_score}
+use Rattle.std.proofs.Common.{◌≡◌, ℕ, ◌+◌, ◌<◌, Bool, arith}
+use Rattle.egt_check.specs.Prelude.{Side, code_of, kind_digits, kind_less, IsShelfOf, number_in, stand_with, TellsMen}
+use Rattle.egt_check.specs.Prelude.{ShelfMen, Stand, IsRaised, TableValue, Column, column_score}
 
 -- the greatest of one number is that number
 pub raised_alone : (In : ℕ → Type 0) (f : ℕ → ℕ) (v t : ℕ) → In t → ((u : ℕ) → In u → u ≡ t) → IsRaised 0 In f v → v ≡ f t
@@ -11,9 +11,6 @@ module _ (passed : Bool) (t : TableValue) (column : Column) (men : ShelfMen) (sh
     (one : (passed : Bool) (c x y : ℕ) (stand : Stand) (side : Side) → TellsMen passed c x stand side → TellsMen passed c y stand side → x ≡ y) where
   abbrev Told : ℕ → ℕ → Type 0
   Told digit code = TellsMen passed t.class code (stand_with men (digit + kind_less men.last.kind)) side
-
-  told : (digit : ℕ) → digit < kind_digits men.last.kind → Told digit (code_of t.class (number_in t.class shelf side digit))
-  told digit below = subst (λ b. TellsMen b t.class (code_of t.class (number_in t.class shelf side digit)) (stand_with men (digit + kind_less men.last.kind)) side) is.1 (is.0.tells side digit below)
 
   -- a lane of the row is the score at one code
   pub lane_is : (digit v : ℕ) → digit < kind_digits men.last.kind → IsRaised 0 (Told digit) (column_score t column) v → v ≡ column_score t column (code_of t.class (number_in t.class shelf side digit))

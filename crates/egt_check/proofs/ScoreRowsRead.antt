@@ -1,12 +1,12 @@
 -- The scores of codes, read from rows and put in them.
-use Rattle.std.proofs.Common.{◌≡◌, ◌⊎◌, ℕ, ◌+◌, ◌*◌, ◌/◌, ◌%◌, ◌<◌, ◌≤◌, ◌∙◌, if◌then◌else◌, ◌==◌, List, []}
-use Rattle.std.proofs.Common.{length, set, replicate, slice_index, arith, sym, ap, subst, inl, inr, slice_index_or}
+use Rattle.std.proofs.Common.{◌≡◌, ◌⊎◌, ℕ, ◌+◌, ◌*◌, ◌/◌, ◌%◌, ◌<◌, ◌≤◌, ◌∙◌, if◌then◌else◌, ◌==◌, List, [], length}
+use Rattle.std.proofs.Common.{set, replicate, slice_index, arith, sym, ap, subst, inl, inr, slice_index_or}
 use Rattle.egt_check.specs.Prelude.{bit_at, cases_eq, cases_lt, bit_at-lt, get_or-replicate, get_or-set_other}
 use Rattle.egt_check.specs.Prelude.{get_or-set_same, nat_tests, get_or-map-range_with_len, length-map-range_with_len}
-use Rattle.egt_check.specs.Prelude.{div-add-mod', div_below, div-mul-add, mod-mul-add, mod_below, get_or-eq_default}
-use Rattle.egt_check.specs.Prelude.{length-replicate, side_number, Has, Man, Side, SquareSet, code_of}
-use Rattle.egt_check.specs.Prelude.{number_of, places, kind_digits, kind_less, AreMenOf, IsShelf, IsWithin, number_in}
-use Rattle.egt_check.specs.Prelude.{size_of, ShelfMen, side_few, square_in, IsShelfRow}
+use Rattle.egt_check.specs.Prelude.{div-add-mod', div_below, mod_below, get_or-eq_default, length-replicate}
+use Rattle.egt_check.specs.Prelude.{side_number, Has, Man, Side, SquareSet, code_of, number_of, places, kind_digits}
+use Rattle.egt_check.specs.Prelude.{kind_less, AreMenOf, IsShelf, IsWithin, number_in, size_of, ShelfMen, side_few}
+use Rattle.egt_check.specs.Prelude.{square_in, IsShelfRow}
 use Rattle.egt_check.specs.ScoreRows.{AreWholeRows, IsLaneIn, IsMaskOf, score_of, scores_in}
 
 module _ (c less shelves : ℕ) (rows : List (List ℕ)) where
@@ -23,30 +23,6 @@ module _ (c less shelves : ℕ) (rows : List (List ℕ)) where
 
 -- the row and the lane of a number
 module _ (c shelf : ℕ) (side : Side) (digit : ℕ) (below : digit < places c) where
-  rest_below : side_number side + 2 * digit < 2 * places c
-  rest_below = let few = side_few side in omega (arith, few, below)
-
-  number_is : number_in c shelf side digit ≡ shelf * (2 * places c) + (side_number side + 2 * digit)
-  number_is = omega arith
-
-  pub shelf_is : number_in c shelf side digit / (2 * places c) ≡ shelf
-  shelf_is = ap (λ n. n / (2 * places c)) number_is ∙ div-mul-add shelf (2 * places c) (side_number side + 2 * digit) rest_below
-
-  rest_is : number_in c shelf side digit % (2 * places c) ≡ side_number side + 2 * digit
-  rest_is = ap (λ n. n % (2 * places c)) number_is ∙ mod-mul-add shelf (2 * places c) (side_number side + 2 * digit) rest_below
-
-  pub side_is : number_in c shelf side digit % (2 * places c) % 2 ≡ side_number side
-  side_is = let is = rest_is in let few = side_few side in omega (arith, is, few)
-
-  pub digit_is : number_in c shelf side digit % (2 * places c) / 2 ≡ digit
-  digit_is = let is = rest_is in let few = side_few side in omega (arith, is, few)
-
-  pub score_is : (less shelves : ℕ) (rows : List (List ℕ)) → score_of c less shelves rows (number_in c shelf side digit) ≡ slice_index (slice_index_or rows (side_number side * shelves + shelf) []) (digit + less)
-  score_is less shelves rows =
-      ap (λ s. slice_index (slice_index_or rows (s * shelves + number_in c shelf side digit / (2 * places c)) []) (number_in c shelf side digit % (2 * places c) / 2 + less)) side_is
-      ∙ ap (λ r. slice_index (slice_index_or rows (side_number side * shelves + r) []) (number_in c shelf side digit % (2 * places c) / 2 + less)) shelf_is
-      ∙ ap (λ d. slice_index (slice_index_or rows (side_number side * shelves + shelf) []) (d + less)) digit_is
-
   pub read : (less shelves : ℕ) (rows : List (List ℕ)) → code_of c (number_in c shelf side digit) < size_of c → number_of c (code_of c (number_in c shelf side digit)) ≡ number_in c shelf side digit
       → slice_index (scores_in c less shelves rows) (code_of c (number_in c shelf side digit)) ≡ slice_index (slice_index_or rows (side_number side * shelves + shelf) []) (digit + less)
   read less shelves rows in_class stands = grind (arith, score_at_code, code_of, number_in)

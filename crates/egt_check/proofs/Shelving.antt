@@ -115,13 +115,4 @@ one_is_free : AreFree one_free
 one_is_free h = grind arith
 
 pub free_more : (places longer : Places) (n : ℕ) → AreFreeSoFar places n → longer ≡ places ++ None ∷ [] → AreFreeSoFar longer (n + 1)
-free_more places longer n so_far e = record { count = count; free = free }
-  where
-    count : length longer ≡ n + 1
-    count = ap length e ∙ length-append places one_free ∙ ap (λ k. k + 1) so_far.count
-
-    free : AreFree longer
-    free c = elim (cases_lt c (length places)) [
-      | inl below ↦ ap (λ xs. get_or xs c None) e ∙ get_or_append_left places one_free None c below ∙ so_far.free c
-      | inr high ↦ ap (λ xs. get_or xs c None) e ∙ get_or-append_right places one_free (length places) c None refl high ∙ one_is_free (c - length places)
-    ]
+free_more places longer n so_far e = grind (arith, length-append, cases_lt, get_or_append_left, get_or-append_right, one_is_free)

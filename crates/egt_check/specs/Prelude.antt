@@ -139,7 +139,7 @@ pub use Rattle.egt_lanes.specs.Near.{IsVoidOrNear}
 pub use Rattle.egt_lanes.specs.Raised.{IsRaised}
 pub use Rattle.egt_lanes.specs.Scores.{byte_score, due_score, reach_due_score, reach_score, zeroing_score}
 pub use Rattle.egt_moves.proofs.Admissible.{pawn_told}
-pub use Rattle.egt_moves.specs.Arena.{Draw, EachMove, Loss, NoMove, Value, Win}
+pub use Rattle.egt_moves.specs.WinLossDraw.{Draw, EachMove, Loss, NoMove, Value, Win}
 pub use Rattle.egt_moves.specs.Chess.{Zeroes, chess}
 pub use Rattle.egt_moves.specs.DecidedMoves.{decided_zeroes, leads_to_one}
 pub use Rattle.egt_moves.specs.Entries.{IsLeast, SameKind}

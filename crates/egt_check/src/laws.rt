@@ -18,8 +18,8 @@ use egt_index::laws::{
     a_code_is_an_index_or_void, codes_spell_one_position, codes_tell_their_men,
     codes_tell_turned_men, numbers_stand_for_codes,
 };
+use egt_moves::dead::one_reach;
 use egt_moves::laws::{one_value, one_zeroing_distance};
-use egt_moves::reaching::one_reach;
 use egt_steps::facts::facts;
 use egt_steps::laws::{captures_lead_to_three_men, quiet_moves_are_quiet_steps};
 use egt_steps::pawn_laws::pawns_moves_are_of_four_kinds;

@@ -1,11 +1,11 @@
 -- The table of classes by two men is right at each pair.
 use Rattle.std.proofs.Common.{◌≡◌, ◌≢◌, ℕ, ◌+◌, ◌*◌, ◌<◌, ◌≤◌, ◌&&◌, Bool, true, false, not, cond, eqb, ltb, Option}
-use Rattle.std.proofs.Common.{Some, None, IfSome, if◌then◌else◌, refl, sym, ap₂, ◌∙◌, arith}
-use Rattle.egt_class.specs.Prelude.{and_parts, ltb-true, eqb-true, eq-eqb, eqb_tells, Side, White, Black}
-use Rattle.egt_class.specs.Prelude.{Kind, Q, R, B, N, P, K, Man, other_side, kind_number, side_number, stands_here}
-use Rattle.egt_class.specs.Prelude.{count_of, Setup, all_below, passes_below, materials, material_of, men_in}
-use Rattle.egt_class.specs.Prelude.{has_equal_sides, IsOf, men_beside, agree_at, man_of, slot_of, kind_slot, first_slot}
-use Rattle.egt_class.specs.Prelude.{class_at, flip_at, AreNonKings}
+use Rattle.std.proofs.Common.{Some, IfSome, if◌then◌else◌, refl, sym, ap₂, ◌∙◌, arith}
+use Rattle.egt_class.specs.Prelude.{and_parts, ltb-true, eqb-true, eq-eqb, eqb_tells, Side, White, Black, Kind, Q, R, B}
+use Rattle.egt_class.specs.Prelude.{N, P, K, Man, other_side, kind_number, side_number, stands_here, count_of, Setup}
+use Rattle.egt_class.specs.Prelude.{all_below, passes_below, materials, material_of, men_in, has_equal_sides, IsOf}
+use Rattle.egt_class.specs.Prelude.{men_beside, agree_at, man_of, slot_of, kind_slot, first_slot, class_at, flip_at}
+use Rattle.egt_class.specs.Prelude.{AreNonKings}
 use Rattle.egt_class.proofs.Agreeing.{all_agree}
 use Rattle.egt_class.proofs.NonKings.{kind_few}
 
@@ -66,16 +66,7 @@ slot_is : (first : ℕ) (kind : Kind) → kind ≢ K → kind_slot first kind �
 slot_is first kind other = grind arith
 
 slots : (s t : Side) (k l : Kind) → k ≢ K → l ≢ K → one_where (6 * side_number s + kind_number k) (6 * side_number t + kind_number l) ≡ one_where (kind_slot (first_slot s) k) (kind_slot (first_slot t) l)
-slots s t k l k_other l_other =
-    let a = kind_few k k_other in
-    let b = kind_few l l_other in
-    let c = slot_is (first_slot s) k k_other in
-    let d = slot_is (first_slot t) l l_other in
-    by_sides s t c d a b
-  where
-    by_sides : (s t : Side) → kind_slot (first_slot s) k ≡ first_slot s + kind_number k → kind_slot (first_slot t) l ≡ first_slot t + kind_number l → kind_number k < 5 → kind_number l < 5
-        → one_where (6 * side_number s + kind_number k) (6 * side_number t + kind_number l) ≡ one_where (kind_slot (first_slot s) k) (kind_slot (first_slot t) l)
-    by_sides s t c d a b = grind (arith, same_test)
+slots s t k l k_other l_other = grind (arith, kind_few, slot_is, first_slot, kind_slot, kind_number, side_number, same_test)
 
 some_slot : (first : ℕ) (kind : Kind) → 1 ≤ first → kind ≢ K → 1 ≤ kind_slot first kind
 some_slot first kind some other = let is = slot_is first kind other in omega arith
@@ -87,20 +78,10 @@ none_where : (a : ℕ) → 1 ≤ a → one_where a 0 ≡ 0
 none_where a some = grind (arith, eqb_tells, cond)
 
 here_by_slot : (man : Man) (o : Option Man) → man.kind ≢ K → IfSome o (λ m. m.kind ≢ K) → stands_here man o ≡ one_where (slot_of (Some man)) (slot_of o)
-here_by_slot man None man_other o_other =
-    let some = some_slot (first_slot man.side) man.kind (first_some man.side) man_other in
-    sym (none_where (slot_of (Some man)) some)
-here_by_slot man (Some other) man_other o_other = slots man.side other.side man.kind other.kind man_other o_other
+here_by_slot man h1 man_other o_other = grind (arith, some_slot, first_slot, first_some, none_where, slot_of, slots)
 
 pub slot_below : (o : Option Man) → IfSome o (λ m. m.kind ≢ K) → slot_of o < 11
-slot_below None other = omega arith
-slot_below (Some man) other =
-    let few = kind_few man.kind other in
-    let is = slot_is (first_slot man.side) man.kind other in
-    let low = first_low man.side in omega arith
-  where
-    first_low : (side : Side) → first_slot side ≤ 6
-    first_low side = grind arith
+slot_below h0 other = grind (arith, kind_few, slot_is, first_slot)
 
 -- whose men beside the kings are a pair's is of the pair's class
 pub pair_is_of : (p : Setup) (first second : Option Man) → AreNonKings p first second → IsOf (class_at (11 * slot_of first + slot_of second)) (flip_at (11 * slot_of first + slot_of second)) p

@@ -19,7 +19,7 @@ pub use Rattle.egt_entries.specs.declared.outcome.Outcome.{Outcome}
 pub use Rattle.egt_entries.specs.declared.rule.Rule.{Rule}
 pub use Rattle.egt_index.specs.Code.{Spells}
 pub use Rattle.egt_index.specs.Index.{IsVoid}
-pub use Rattle.egt_moves.specs.Arena.{Draw, Ends, IsStalemate, Loss, NoMove, SomeMove, Value, Win}
+pub use Rattle.egt_moves.specs.WinLossDraw.{Draw, Ends, IsStalemate, Loss, NoMove, SomeMove, Value, Win}
 pub use Rattle.egt_moves.specs.Chess.{chess}
 pub use Rattle.egt_moves.specs.Legal.{IsLegal, Leads}
 pub use Rattle.egt_moves.specs.Standing.{StandsAs}

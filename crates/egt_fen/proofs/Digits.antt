@@ -1,6 +1,6 @@
 -- The digits of a clock.
-use Rattle.std.proofs.Common.{◌≡◌, ℕ, zero, suc, ◌+◌, ◌-◌, ◌*◌, ◌^◌, ◌<◌, ◌≤◌, true, List, [], ◌∷◌, length, take}
-use Rattle.std.proofs.Common.{get_or, arith, lit≤}
+use Rattle.std.proofs.Common.{◌≡◌, ℕ, zero, suc, ◌+◌, ◌-◌, ◌*◌, ◌<◌, ◌≤◌, true, List, [], ◌∷◌, length, take, get_or}
+use Rattle.std.proofs.Common.{arith, lit≤}
 use Rattle.egt_fen.specs.Prelude.{digit_value, is_ascii_digit, list_all, digits_value, AllDigits, and_parts, nat_tests}
 use Rattle.egt_fen.specs.Prelude.{digits_value_more, digits_value-lt, digits_value-take-le, pow-le-pow_right}
 
@@ -29,10 +29,7 @@ AllDigits-from_test (d ∷ ds) h =
 
 -- nine digits write a number below ten to the ninth
 pub digits_value_small : (ds : List ℕ) → AllDigits 10 ds → length ds ≤ 9 → digits_value 10 ds < 1000000000
-digits_value_small ds all few =
-    let n = digits_value-lt 10 ds all in
-    let below : 10 ^ length ds ≤ 10 ^ 9 = pow-le-pow_right (lit≤ tt) few in
-    omega arith
+digits_value_small ds all few = grind (arith, digits_value-lt, pow-le-pow_right, lit≤)
 
 -- one more digit
 pub record OneMore (ds : List ℕ) (i value : ℕ) : Type 0 where

@@ -1,8 +1,7 @@
 -- A text has one first fault at most, and none where it spells a position.
-use Rattle.std.proofs.Common.{◌≡◌, ℕ, List, Result, Ok, Err, sym, ap, ◌∙◌, subst, arith}
-use Rattle.egt_fen.specs.Prelude.{MatchResult, PosFault, MenCount, KingCount, PawnRank, EpMismatch, WaitingInCheck, Man}
-use Rattle.egt_fen.specs.Prelude.{Setup, IsAdmissible, FenFault, Fen, fault_of, Parts, parts_of, Spells, IsSetupFault}
-use Rattle.egt_fen.specs.Prelude.{IsFirstFault}
+use Rattle.std.proofs.Common.{◌≡◌, ℕ, List, subst, arith}
+use Rattle.egt_fen.specs.Prelude.{MatchResult, PosFault, Man, Setup, IsAdmissible, FenFault, Fen, fault_of, parts_of}
+use Rattle.egt_fen.specs.Prelude.{Spells, IsSetupFault, IsFirstFault}
 use Rattle.egt_fen.proofs.Spelling.{parts_with, spelled_read, spelled_admits}
 use Rattle.egt_board.specs.Listed as listed
 
@@ -10,18 +9,10 @@ one_setup_fault : (list : List (Man × ℕ)) (p : Setup) (a b : PosFault) → li
 one_setup_fault list p a b x y = grind arith
 
 pub one_fault : (text : List ℕ) (one other : FenFault) → IsFirstFault text one → IsFirstFault text other → one ≡ other
-one_fault text one other x y = at (parts_of text) x y
-  where
-    at : (r : Result Parts FenFault) → MatchResult r (λ parts. IsSetupFault parts one) (λ first. one ≡ first) → MatchResult r (λ parts. IsSetupFault parts other) (λ first. other ≡ first) → one ≡ other
-    at (Ok p) a b = a.named ∙ ap fault_of (one_setup_fault p.men (listed.setup_of p.men p.side p.target) a.of b.of a.first b.first) ∙ sym b.named
-    at (Err e) a b = a ∙ sym b
+one_fault text one other x y = grind (arith, parts_of, fault_of, one_setup_fault)
 
 admissible_fault : (list : List (Man × ℕ)) (p : Setup) (fault : PosFault) → listed.FitsBoard list → IsAdmissible p → listed.IsFirstFault fault list p → ⊥
-admissible_fault list p MenCount fits admissible x = x fits
-admissible_fault list p KingCount fits admissible x = x.1 admissible.kings
-admissible_fault list p PawnRank fits admissible x = x.2 admissible.pawns
-admissible_fault list p EpMismatch fits admissible x = x.3 admissible.target
-admissible_fault list p WaitingInCheck fits admissible x = admissible.quiet x.4
+admissible_fault list p h2 fits admissible x = grind arith
 
 pub spelled_faultless : (text : List ℕ) (fen : Fen) (fault : FenFault) → Spells text fen → IsFirstFault text fault → ⊥
 spelled_faultless text fen fault s x =

@@ -87,10 +87,7 @@ ranks-at men (suc rank) q q_in =
 
 -- nothing stands beyond the board
 free_beyond : (men : Placement) (q : ℕ) → ((s : ℕ) (man : Man) → Stands men s man → s < 64) → 64 ≤ q → placement.get men q ≡ None
-free_beyond men q on_board beyond = at (placement.get men q) refl
-  where
-    at : (o : Option Man) → placement.get men q ≡ o → placement.get men q ≡ None
-    at o e = grind arith
+free_beyond men q on_board beyond = grind arith
 
 -- the men of the eight ranks make the placement
 pub men_of-ranks : (men : Placement) → ((s : ℕ) (man : Man) → Stands men s man → s < 64) → board.men_of (listed_ranks men 7) ≡ men

@@ -4,9 +4,9 @@ use Rattle.std.proofs.Common.{[], ◌∷◌, ◌++◌, length, get_or, take, fil
 use Rattle.egt_fen.specs.Prelude.{slice_split, onto_first, list_all, join_with_byte, is_ascii_digit, decimal, AllDigits}
 use Rattle.egt_fen.specs.Prelude.{digits_value, and_from, and_parts, ltb-true, lt-ltb, le-leb, ne_eqb, nat_tests}
 use Rattle.egt_fen.specs.Prelude.{list_all-append, decimal_is_IsNumeral, decimal_nonempty, length-decimal-le, Side}
-use Rattle.egt_fen.specs.Prelude.{White, Black, Kind, Man, Placement, file_of, rank_of, letter_of}
-use Rattle.egt_fen.specs.Prelude.{line_of, is_space, has_bytes, runs_of, counter_of, gap_text, squares_text, squares_of}
-use Rattle.egt_fen.specs.Prelude.{rank_text, ranks_text, placement_text, side_text, target_text}
+use Rattle.egt_fen.specs.Prelude.{Kind, Man, Placement, file_of, rank_of, letter_of, line_of, is_space, has_bytes}
+use Rattle.egt_fen.specs.Prelude.{runs_of, counter_of, gap_text, squares_text, squares_of, rank_text, ranks_text}
+use Rattle.egt_fen.specs.Prelude.{placement_text, side_text, target_text}
 use Rattle.egt_fen.proofs.Digits.{IsDigit, digit_is}
 
 -- above the space, and so no carriage return either
@@ -22,8 +22,7 @@ ink-append : (xs ys : List ℕ) → list_all is_ink xs ≡ true → list_all is_
 ink-append xs ys x y = list_all-append is_ink xs ys ∙ and_from (list_all is_ink xs) (list_all is_ink ys) x y
 
 gap_ink : (gap : ℕ) → list_all is_ink (gap_text gap) ≡ true
-gap_ink zero = refl
-gap_ink (suc n) = and_from (is_ink (49 + n)) true (lt-ltb 32 (49 + n) (omega arith)) refl
+gap_ink h0 = grind (arith, and_from, lt-ltb)
 
 letter_ink : (side : Side) (kind : Kind) → is_ink (letter_of (record { side = side; kind = kind })) ≡ true
 letter_ink side kind = grind arith
@@ -48,8 +47,7 @@ unfolding placement_text
 placement_word men = record { ink = ranks_ink men 7; some = after_some (rank_text men 7) (ranks_text men 6) 47 }
 
 pub side_word : (side : Side) → IsWord (side_text side)
-side_word White = record { ink = refl; some = omega arith }
-side_word Black = record { ink = refl; some = omega arith }
+side_word h0 = grind arith
 
 pub target_word : (target : Option ℕ) → IsWord (target_text target)
 target_word None = record { ink = refl; some = omega arith }

@@ -18,26 +18,14 @@ letter_slash : (c : ℕ) (man : Man) → c < 256 → man_of c ≡ Some man → i
 letter_slash c man small e = not_both (is_slash c) (is_some (man_of c)) (slash_no_letter c small) (ap is_some e)
 
 letter_width : (c : ℕ) (man : Man) → c < 256 → man_of c ≡ Some man → width_of c ≡ 1
-letter_width c man small e =
-    ap (λ b. cond b (c - 48) (cond (is_some (man_of c)) 1 0)) (not_both (leb 49 c && leb c 56) (is_some (man_of c)) (digit_no_letter c small) (ap is_some e))
-    ∙ ap (λ b. cond b 1 0) (ap is_some e)
+letter_width c man small e = grind (arith, is_some, man_of, not_both, leb, digit_no_letter)
 
 -- a letter puts its man on the next square
 put : (men : List (Man × ℕ)) (slash : Bool) (width : ℕ) (o : Option Man) (man : Man) (rest : List ℕ) (rank file : ℕ) (after : Option (List (Man × ℕ)))
     → slash ≡ false → width ≡ 1 → o ≡ Some man → file < 8
     → option_map (λ ms. men ++ ms) (cond slash after (cond (ltb 0 width && leb (file + width) 8) (option_map (λ ms. on_square (8 * rank + file) o ++ ms) (men_left rest rank (file + width))) None))
     ≡ option_map (λ ms. (men ++ (man, 8 * rank + file) ∷ []) ++ ms) (men_left rest rank (file + 1))
-put men slash width o man rest rank file after es ew eo room =
-    ap (λ b. option_map (λ ms. men ++ ms) (cond b after (cond (ltb 0 width && leb (file + width) 8) (option_map (λ ms. on_square (8 * rank + file) o ++ ms) (men_left rest rank (file + width))) None))) es
-    ∙ ap (λ w. option_map (λ ms. men ++ ms) (cond (ltb 0 w && leb (file + w) 8) (option_map (λ ms. on_square (8 * rank + file) o ++ ms) (men_left rest rank (file + w))) None)) ew
-    ∙ ap (λ b. option_map (λ ms. men ++ ms) (cond (true && b) (option_map (λ ms. on_square (8 * rank + file) o ++ ms) (men_left rest rank (file + 1))) None)) (le-leb (file + 1) 8 (omega arith))
-    ∙ ap (λ m. option_map (λ ms. men ++ ms) (option_map (λ ms. on_square (8 * rank + file) m ++ ms) (men_left rest rank (file + 1)))) eo
-    ∙ joined (men_left rest rank (file + 1))
-  where
-    joined : (left : Option (List (Man × ℕ))) → option_map (λ ms. men ++ ms) (option_map (λ ms. on_square (8 * rank + file) (Some man) ++ ms) left)
-        ≡ option_map (λ ms. (men ++ (man, 8 * rank + file) ∷ []) ++ ms) left
-    joined None = refl
-    joined (Some ms) = ap Some (sym (append_assoc men ((man, 8 * rank + file) ∷ []) ms))
+put men slash width o man rest rank file after es ew eo room = grind (arith, option_map, ltb, leb, on_square, men_left, le-leb, append_assoc)
 
 pub men_left-letter : (men new : List (Man × ℕ)) (c : ℕ) (man : Man) (rest : List ℕ) (rank file s : ℕ) → c < 256 → man_of c ≡ Some man → file < 8 → s ≡ 8 * rank + file → new ≡ men ++ (man, s) ∷ []
     → option_map (λ ms. men ++ ms) (men_left (c ∷ rest) rank file) ≡ option_map (λ ms. new ++ ms) (men_left rest rank (file + 1))

@@ -1,10 +1,9 @@
 -- The written placement, read again.
 use Rattle.std.proofs.Common.{◌≡◌, ℕ, zero, suc, ◌+◌, ◌-◌, ◌*◌, ◌<◌, ◌≤◌, Bool, false, cond, ◌&&◌, ltb, leb, List, []}
 use Rattle.std.proofs.Common.{◌∷◌, ◌++◌, length, Option, Some, None, arith, refl, sym, ap, ◌∙◌}
-use Rattle.egt_fen.specs.Prelude.{option_map, add-zero, lt-ltb, le-leb, append_assoc, append-nil, Side, White, Black}
-use Rattle.egt_fen.specs.Prelude.{Kind, Q, R, B, N, P, K, Man, Placement, man_of, letter_of, is_slash, width_of}
-use Rattle.egt_fen.specs.Prelude.{on_square, placement_of, men_left, gap_text, squares_text, squares_of, rank_text}
-use Rattle.egt_fen.specs.Prelude.{ranks_text, placement_text}
+use Rattle.egt_fen.specs.Prelude.{option_map, add-zero, lt-ltb, le-leb, append_assoc, append-nil, Side, Kind, Man}
+use Rattle.egt_fen.specs.Prelude.{Placement, man_of, letter_of, is_slash, width_of, on_square, placement_of, men_left}
+use Rattle.egt_fen.specs.Prelude.{gap_text, squares_text, squares_of, rank_text, ranks_text, placement_text}
 use Rattle.egt_fen.proofs.Written.{length-squares_of}
 use Rattle.egt_fen.proofs.Letters.{men_left-letter}
 use Rattle.egt_fen.proofs.Ranks.{men_left_is}
@@ -20,15 +19,7 @@ record IsGap (n : ℕ) : Type 0 where
   empty : man_of (49 + n) ≡ None
 
 gap_is : (n : ℕ) → n < 8 → IsGap n
-gap_is zero n_in = record { slash = refl; width = refl; empty = refl }
-gap_is (suc zero) n_in = record { slash = refl; width = refl; empty = refl }
-gap_is (suc (suc zero)) n_in = record { slash = refl; width = refl; empty = refl }
-gap_is (suc (suc (suc zero))) n_in = record { slash = refl; width = refl; empty = refl }
-gap_is (suc (suc (suc (suc zero)))) n_in = record { slash = refl; width = refl; empty = refl }
-gap_is (suc (suc (suc (suc (suc zero))))) n_in = record { slash = refl; width = refl; empty = refl }
-gap_is (suc (suc (suc (suc (suc (suc zero)))))) n_in = record { slash = refl; width = refl; empty = refl }
-gap_is (suc (suc (suc (suc (suc (suc (suc zero))))))) n_in = record { slash = refl; width = refl; empty = refl }
-gap_is (suc (suc (suc (suc (suc (suc (suc (suc n)))))))) n_in = absurd (omega arith)
+gap_is h0 n_in = grind arith
 
 map_nothing : (o : Option Men) → option_map (λ men. men) o ≡ o
 map_nothing o = grind arith
@@ -38,34 +29,14 @@ skip : (slash : Bool) (width n : ℕ) (o : Option Man) (rest : List ℕ) (rank f
     → slash ≡ false → width ≡ suc n → o ≡ None → file + suc n ≤ 8
     → cond slash after (cond (ltb 0 width && leb (file + width) 8) (option_map (λ men. on_square (8 * rank + file) o ++ men) (men_left rest rank (file + width))) None)
     ≡ men_left rest rank (file + suc n)
-skip slash width n o rest rank file after es ew eo room =
-    ap (λ b. cond b after (cond (ltb 0 width && leb (file + width) 8) (option_map (λ men. on_square (8 * rank + file) o ++ men) (men_left rest rank (file + width))) None)) es
-    ∙ ap (λ w. cond (ltb 0 w && leb (file + w) 8) (option_map (λ men. on_square (8 * rank + file) o ++ men) (men_left rest rank (file + w))) None) ew
-    ∙ ap (λ b. cond (b && leb (file + suc n) 8) (option_map (λ men. on_square (8 * rank + file) o ++ men) (men_left rest rank (file + suc n))) None) (lt-ltb 0 (suc n) (omega arith))
-    ∙ ap (λ b. cond b (option_map (λ men. on_square (8 * rank + file) o ++ men) (men_left rest rank (file + suc n))) None) (le-leb (file + suc n) 8 room)
-    ∙ ap (λ m. option_map (λ men. on_square (8 * rank + file) m ++ men) (men_left rest rank (file + suc n))) eo
-    ∙ map_nothing (men_left rest rank (file + suc n))
+skip slash width n o rest rank file after es ew eo room = grind (arith, ltb, leb, option_map, on_square, men_left, lt-ltb, le-leb, map_nothing)
 
 gap_read : (gap rank file : ℕ) (rest : List ℕ) → file + gap ≤ 8 → men_left (gap_text gap ++ rest) rank file ≡ men_left rest rank (file + gap)
-gap_read zero rank file rest room = ap (men_left rest rank) (sym (add-zero file))
-gap_read (suc n) rank file rest room =
-    let is = gap_is n (omega arith) in
-    skip (is_slash (49 + n)) (width_of (49 + n)) n (man_of (49 + n)) rest rank file _ is.slash is.width is.empty room
+gap_read h0 rank file rest room = grind (arith, men_left, add-zero, gap_is, skip, is_slash, width_of, man_of)
 
 -- a letter is below 256 and its man is the one that was written
 letter_read : (side : Side) (kind : Kind) → (letter_of (record { side = side; kind = kind }) < 256) × (man_of (letter_of (record { side = side; kind = kind })) ≡ Some (record { side = side; kind = kind }))
-letter_read White Q = (omega arith, refl)
-letter_read White R = (omega arith, refl)
-letter_read White B = (omega arith, refl)
-letter_read White N = (omega arith, refl)
-letter_read White P = (omega arith, refl)
-letter_read White K = (omega arith, refl)
-letter_read Black Q = (omega arith, refl)
-letter_read Black R = (omega arith, refl)
-letter_read Black B = (omega arith, refl)
-letter_read Black N = (omega arith, refl)
-letter_read Black P = (omega arith, refl)
-letter_read Black K = (omega arith, refl)
+letter_read h0 h1 = grind arith
 
 man_read : (man : Man) (rank file : ℕ) (rest : List ℕ) → file < 8 → men_left (letter_of man ∷ rest) rank file ≡ option_map (λ men. (man, 8 * rank + file) ∷ men) (men_left rest rank (file + 1))
 man_read man rank file rest room =

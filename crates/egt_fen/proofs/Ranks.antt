@@ -17,8 +17,7 @@ cond_same : {A : Type 0} (a : Bool) (x : A) → cond a x x ≡ x
 cond_same a x = grind arith
 
 cond_swap : {A : Type 0} (a b : Bool) (x y : A) → cond a (cond b x y) y ≡ cond b (cond a x y) y
-cond_swap true b x y = refl
-cond_swap false b x y = sym (cond_same b y)
+cond_swap h0 b x y = grind (arith, cond_same)
 
 -- the rest of a rank from this file on
 abbrev fills : ℕ → List ℕ → Bool
@@ -57,9 +56,7 @@ rest_of-start rank part parts = elim (cases_Bool (eqb (length parts) rank)) [
 
 -- the end of a rank leaves whole ones
 rest_of-end : (rank file : ℕ) (parts : List (List ℕ)) → rest_of rank file ([] ∷ parts) ≡ cond (eqb file 8) (whole rank parts) None
-rest_of-end rank file parts =
-    ap (λ n. cond (eqb (length parts) rank) (cond (eqb n 8) (cond (list_all is_rank parts) (Some (men_of_ranks parts)) None) None) None) (add-zero file)
-    ∙ cond_swap (eqb (length parts) rank) (eqb file 8) (cond (list_all is_rank parts) (Some (men_of_ranks parts)) None) None
+rest_of-end rank file parts = grind (arith, eqb, list_all, is_rank, men_of_ranks, add-zero, cond_swap)
 
 -- there is a first part
 split_some : (cs : List ℕ) → (part : List ℕ) × (parts : List (List ℕ)) × (slice_split is_slash cs ≡ part ∷ parts)
@@ -75,34 +72,13 @@ split_some (c ∷ cs) = elim (is_slash c) as (λ b. (part : List ℕ) × (parts 
 
 -- a slash ends a rank
 slash : (rank file : ℕ) (part : List ℕ) (parts : List (List ℕ)) → cond (eqb file 8 && ltb 0 rank) (rest_of (rank - 1) 0 (part ∷ parts)) None ≡ rest_of rank file ([] ∷ part ∷ parts)
-slash rank file part parts =
-    cond_and (eqb file 8) (ltb 0 rank) (rest_of (rank - 1) 0 (part ∷ parts)) None
-    ∙ ap (λ x. cond (eqb file 8) x None) (below rank)
-    ∙ sym (rest_of-end rank file (part ∷ parts))
-  where
-    pred : (r : ℕ) → suc r - 1 ≡ r
-    pred r = omega arith
-
-    below : (r : ℕ) → cond (ltb 0 r) (rest_of (r - 1) 0 (part ∷ parts)) None ≡ whole r (part ∷ parts)
-    below zero = sym (ap (λ b. cond b (cond (list_all is_rank (part ∷ parts)) (Some (men_of_ranks (part ∷ parts))) None) None) (ne_eqb (suc (length parts)) 0 (λ e. omega arith)))
-    below (suc r) =
-        ap (λ b. cond b (rest_of (suc r - 1) 0 (part ∷ parts)) None) (lt-ltb 0 (suc r) (omega arith))
-        ∙ ap (λ n. rest_of n 0 (part ∷ parts)) (pred r)
-        ∙ rest_of-start r part parts
+slash rank file part parts = grind (arith, cond_and, eqb, ltb, rest_of-end, list_all, is_rank, men_of_ranks, ne_eqb, lt-ltb, rest_of-start)
 
 -- the tests of a byte and of what is left of its rank
 tests : (wide all room equal ranks full : Bool) (first row rows : Men) → (room ≡ false → full ≡ false)
     → cond (wide && room) (option_map (λ men. first ++ men) (cond equal (cond (all && full) (cond ranks (Some (row ++ rows)) None) None) None)) None
     ≡ cond equal (cond (wide && all && full) (cond ranks (Some ((first ++ row) ++ rows)) None) None) None
-tests false all room equal ranks full first row rows narrow = sym (cond_same equal None)
-tests true false false equal ranks full first row rows narrow = sym (cond_same equal None)
-tests true true false equal ranks full first row rows narrow =
-    sym (ap (λ b. cond equal (cond b (cond ranks (Some ((first ++ row) ++ rows)) None) None) None) (narrow refl) ∙ cond_same equal None)
-tests true all true false ranks full first row rows narrow = refl
-tests true false true true ranks full first row rows narrow = refl
-tests true true true true ranks false first row rows narrow = refl
-tests true true true true false true first row rows narrow = refl
-tests true true true true true true first row rows narrow = ap Some (sym (append_assoc first row rows))
+tests h0 all room equal ranks full first row rows narrow = grind (arith, cond_same, append_assoc)
 
 -- a byte that stands for squares goes on with its rank
 byte : (rank file : ℕ) (c : ℕ) (part : List ℕ) (parts : List (List ℕ))
@@ -148,10 +124,4 @@ men_left_by_rank (c ∷ cs) rank file =
 
 pub men_left_is : (field : List ℕ) → men_left field 7 0 ≡ placement_of field
 unfolding placement_of
-men_left_is field =
-    let some = split_some field in
-    men_left_by_rank field 7 0
-    ∙ ap (rest_of 7 0) some.2
-    ∙ rest_of-start 7 some.0 some.1
-    ∙ sym (ap (whole 8) some.2)
-    ∙ sym (cond_and (eqb (length (ranks_of field)) 8) (list_all is_rank (ranks_of field)) (Some (men_of_ranks (ranks_of field))) None)
+men_left_is field = grind (arith, split_some, men_left_by_rank, rest_of-start, cond_and, eqb, ranks_of, list_all, is_rank, men_of_ranks)

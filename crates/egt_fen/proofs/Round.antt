@@ -1,13 +1,13 @@
 -- The written text of a position with its clocks spells it, and no bytes spell two.
-use Rattle.std.proofs.Common.{◌≡◌, ℕ, ◌+◌, ◌-◌, ◌*◌, ◌/◌, ◌%◌, ◌<◌, ◌⊎◌, inl, inr, cond, leb, List, [], ◌∷◌, Option}
-use Rattle.std.proofs.Common.{Some, None, arith, refl, sym, ap, ◌∙◌, subst}
+use Rattle.std.proofs.Common.{◌≡◌, ℕ, ◌-◌, ◌<◌, ◌⊎◌, leb, List, [], ◌∷◌, Option, Some, None, arith, refl, sym, ap, ◌∙◌}
+use Rattle.std.proofs.Common.{subst}
 use Rattle.egt_fen.specs.Prelude.{and_from, le-leb, props, setup_of, Setup, IsAdmissible, Placement, FitsTarget}
-use Rattle.egt_fen.specs.Prelude.{target_rank, Fen, Side, White, Black, Fields, fields_of, named, runs_of, side_of}
-use Rattle.egt_fen.specs.Prelude.{file_of, rank_of, is_file, is_passed_rank, target_of, both, counter_of, clocks_of}
-use Rattle.egt_fen.specs.Prelude.{Parts, canonical, fields_text, placement_text, side_text, target_text, Spells}
-use Rattle.egt_fen.specs.Prelude.{decimal}
+use Rattle.egt_fen.specs.Prelude.{target_rank, Fen, Side, Fields, fields_of, named, runs_of, side_of, file_of, rank_of}
+use Rattle.egt_fen.specs.Prelude.{is_file, is_passed_rank, target_of, both, counter_of, clocks_of, Parts, canonical}
+use Rattle.egt_fen.specs.Prelude.{fields_text, placement_text, side_text, target_text, Spells, decimal}
 use Rattle.egt_fen.proofs.Found.{listed_ranks, men_of-ranks, ranks-FitsBoard}
-use Rattle.egt_fen.proofs.Ink.{AreWords, placement_word, side_word, target_word, decimal_word, runs_of-words, line_of-words, counter_read}
+use Rattle.egt_fen.proofs.Ink.{AreWords, placement_word, side_word, target_word, decimal_word, runs_of-words}
+use Rattle.egt_fen.proofs.Ink.{line_of-words, counter_read}
 use Rattle.egt_fen.proofs.Parsed.{placement_read}
 use Rattle.egt_fen.proofs.Spelling.{parts_with, spelled_read, ok_is}
 
@@ -51,29 +51,18 @@ IsWritable None = Unit {0}
 IsWritable (Some s) = (rank_of s ≡ 2) ⊎ (rank_of s ≡ 5)
 
 square_read : (s : ℕ) → IsWritable (Some s) → target_of (target_text (Some s)) ≡ Some (Some s)
-square_read s passed =
-    ap (λ b. cond b (Some (Some (8 * (49 + rank_of s - 49) + (97 + file_of s - 97)))) None)
-    (and_from (is_file (97 + file_of s)) (is_passed_rank (49 + rank_of s))
-    (and_from (leb 97 (97 + file_of s)) (leb (97 + file_of s) 104) (le-leb 97 (97 + file_of s) (omega arith)) (le-leb (97 + file_of s) 104 (omega arith)))
-    (elim passed [ inl third ↦ ap (λ r. is_passed_rank (49 + r)) third | inr sixth ↦ ap (λ r. is_passed_rank (49 + r)) sixth ]))
-    ∙ ap (λ n. Some (Some n)) (number s)
-  where
-    number : (n : ℕ) → 8 * (49 + n / 8 - 49) + (97 + n % 8 - 97) ≡ n
-    number n = omega arith
+square_read s passed = grind (arith, rank_of, file_of, and_from, is_file, is_passed_rank, leb, le-leb)
 
 target_read : (target : Option ℕ) → IsWritable target → target_of (target_text target) ≡ Some target
-target_read None writable = refl
-target_read (Some s) writable = square_read s writable
+target_read h0 writable = grind (arith, square_read)
 
 -- the ranks that a target has with either side to move
 rank_writable : (side : Side) (s : ℕ) → rank_of s ≡ target_rank side → IsWritable (Some s)
-rank_writable White s rank = inr rank
-rank_writable Black s rank = inl rank
+rank_writable h0 s rank = grind arith
 
 -- so the target of an admissible position can be written
 target_writable : (men : Placement) (side : Side) (target : Option ℕ) → FitsTarget men side target → IsWritable target
-target_writable men side None fits = tt
-target_writable men side (Some s) fits = rank_writable side s fits.rank
+target_writable men side h2 fits = grind (arith, rank_writable)
 
 clocks_read : (fen : Fen) → clocks_of (Some (decimal fen.halfmove, decimal fen.fullmove)) ≡ Some (fen.halfmove, fen.fullmove)
 clocks_read fen =

@@ -1,6 +1,6 @@
 -- The runs of a text: where the first ends and the rest begins.
 use Rattle.std.proofs.Common.{◌≡◌, ◌≢◌, ℕ, suc, ◌+◌, ◌<◌, Bool, true, false, cond, not, ltb, List, [], ◌∷◌, length}
-use Rattle.std.proofs.Common.{take, drop, get_or, filter, Some, None, unwrap_or, arith, refl, sym, ap, ◌∙◌, subst}
+use Rattle.std.proofs.Common.{take, drop, get_or, filter, unwrap_or, arith, refl, sym, ap, ◌∙◌, subst}
 use Rattle.egt_fen.specs.Prelude.{slice_split, position_or_len, position, onto_first, false≢true, ne_eqb, eqb-false}
 use Rattle.egt_fen.specs.Prelude.{ltb-false, slice_split-cons_yes, prefix_len-le-length, is_space, is_other, has_bytes}
 use Rattle.egt_fen.specs.Prelude.{runs_of}
@@ -11,14 +11,7 @@ runs_of-nil = refl
 
 -- a place that is found, or else the length
 pub place_or_len : (p : ℕ → Bool) (xs : List ℕ) → unwrap_or (position p xs) (length xs) ≡ position_or_len p xs
-place_or_len p xs = at (ltb (position_or_len p xs) (length xs)) refl
-  where
-    at : (b : Bool) → b ≡ ltb (position_or_len p xs) (length xs) → unwrap_or (cond b (Some (position_or_len p xs)) None) (length xs) ≡ position_or_len p xs
-    at true e = refl
-    at false e =
-        let le = prefix_len-le-length (λ x. not (p x)) xs in
-        let ge = ltb-false (position_or_len p xs) (length xs) (sym e) in
-        omega arith
+place_or_len p xs = grind (arith, ltb, position_or_len, unwrap_or, prefix_len-le-length, ltb-false)
 
 abbrev run_len : List ℕ → ℕ
 run_len xs = position_or_len is_space xs
@@ -61,10 +54,7 @@ run_has_bytes (x ∷ xs) some other = at (is_space x) (ne_eqb x 32 other)
 -- a run ends at the first space
 pub runs_of-run : (xs : List ℕ) → 0 < length xs → get_or xs 0 0 ≢ 32 → runs_of xs ≡ take (run_len xs) xs ∷ runs_of (drop (run_len xs) xs)
 unfolding runs_of
-runs_of-run xs some other =
-    ap (filter has_bytes) (split_is xs)
-    ∙ ap (λ b. cond b (take (run_len xs) xs ∷ filter has_bytes (parts_behind (drop (run_len xs) xs))) (filter has_bytes (parts_behind (drop (run_len xs) xs)))) (run_has_bytes xs some other)
-    ∙ ap (λ rest. take (run_len xs) xs ∷ rest) (sym (behind_is xs))
+runs_of-run xs some other = grind (arith, has_bytes, split_is, run_has_bytes, behind_is)
 
 abbrev space_len : List ℕ → ℕ
 space_len xs = position_or_len is_other xs

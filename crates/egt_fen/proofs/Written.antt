@@ -24,15 +24,11 @@ squares_text-at men rank file gap file_in =
 
 pub squares_text-free : (text : List ℕ) (men : Placement) (rank file gap : ℕ) → file < 8 → placement.get men (8 * rank + file) ≡ None
     → text ++ squares_text gap (drop file (squares_of men rank)) ≡ text ++ squares_text (gap + 1) (drop (file + 1) (squares_of men rank))
-squares_text-free text men rank file gap file_in free =
-    ap (λ xs. text ++ xs) (squares_text-at men rank file gap file_in ∙ ap (λ o. squares_text gap (o ∷ drop (file + 1) (squares_of men rank))) free)
+squares_text-free text men rank file gap file_in free = grind (arith, squares_text-at, squares_text, squares_of)
 
 pub squares_text-man : (text : List ℕ) (men : Placement) (man : Man) (rank file gap : ℕ) → file < 8 → placement.get men (8 * rank + file) ≡ Some man
     → text ++ squares_text gap (drop file (squares_of men rank)) ≡ ((text ++ gap_text gap) ++ letter_of man ∷ []) ++ squares_text 0 (drop (file + 1) (squares_of men rank))
-squares_text-man text men man rank file gap file_in there =
-    ap (λ xs. text ++ xs) (squares_text-at men rank file gap file_in ∙ ap (λ o. squares_text gap (o ∷ drop (file + 1) (squares_of men rank))) there)
-    ∙ sym (append_assoc text (gap_text gap) (letter_of man ∷ squares_text 0 (drop (file + 1) (squares_of men rank))))
-    ∙ sym (append_assoc (text ++ gap_text gap) (letter_of man ∷ []) (squares_text 0 (drop (file + 1) (squares_of men rank))))
+squares_text-man text men man rank file gap file_in there = grind (arith, squares_text-at, squares_text, squares_of, append_assoc, gap_text, letter_of)
 
 -- behind the last square
 pub squares_text-end : (text : List ℕ) (men : Placement) (rank file gap : ℕ) → 8 ≤ file → text ++ squares_text gap (drop file (squares_of men rank)) ≡ text ++ gap_text gap
@@ -44,16 +40,11 @@ below men zero = []
 below men (suc rank) = 47 ∷ ranks_text men rank
 
 ranks_text-below : (men : Placement) (rank : ℕ) → ranks_text men rank ≡ rank_text men rank ++ below men rank
-ranks_text-below men zero = sym (append-nil (rank_text men 0))
-ranks_text-below men (suc rank) = refl
+ranks_text-below men h1 = grind (arith, append-nil, rank_text)
 
 pub below-first : (men : Placement) (text : List ℕ) → (text ++ rank_text men 7) ++ below men 7 ≡ text ++ placement_text men
 unfolding placement_text
 below-first men text = append_assoc text (rank_text men 7) (below men 7)
 
 pub below-more : (men : Placement) (rank next : ℕ) (text : List ℕ) → rank ≡ suc next → text ++ below men rank ≡ ((text ++ 47 ∷ []) ++ rank_text men next) ++ below men next
-below-more men rank next text e =
-    ap (λ r. text ++ below men r) e
-    ∙ ap (λ xs. text ++ 47 ∷ xs) (ranks_text-below men next)
-    ∙ sym (append_assoc text (47 ∷ []) (rank_text men next ++ below men next))
-    ∙ sym (append_assoc (text ++ 47 ∷ []) (rank_text men next) (below men next))
+below-more men rank next text e = grind (arith, ranks_text-below, append_assoc, rank_text)

@@ -7,8 +7,8 @@ use Rattle.egt_graph.specs.Prelude.{le-ltb, or_from, get_or_append_left, get_or_
 use Rattle.egt_graph.specs.Prelude.{length-replicate, sum_by_more, Graph, is_empty, is_lost_before, is_won_before}
 use Rattle.egt_graph.specs.Prelude.{mated_within, Adds, IsFilled, IsBegun, outs, leaves, has_moves, count_of, decided}
 use Rattle.egt_graph.specs.Prelude.{entry_at, later_at, is_loss, is_win_of, is_loss_of, waits_at, is_winning}
-use Rattle.egt_graph.specs.Prelude.{is_win_from, done_of, Amid, Await, Exit, Win, Loss, Draw, is_node, blocks_of, IsRun}
-use Rattle.egt_graph.specs.Prelude.{IsSchedule, Running}
+use Rattle.egt_graph.specs.Prelude.{is_win_from, done_of, Amid, Await, Exit, is_node, blocks_of, IsRun, IsSchedule}
+use Rattle.egt_graph.specs.Prelude.{Running}
 use Rattle.egt_graph.proofs.Lists.{all_count, count_by-cons}
 use Rattle.egt_graph.proofs.Holding.{decided_none}
 use Rattle.egt_graph.proofs.Nodes.{outs_none, leaves_none}

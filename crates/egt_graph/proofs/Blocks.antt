@@ -1,13 +1,18 @@
 -- The nodes of a round by their entries, and blocks whose moves were taken back.
-use Rattle.std.proofs.Common.{◌≡◌, ◌≢◌, ℕ, zero, suc, ◌+◌, ◌*◌, ◌/◌, ◌<◌, ◌≤◌, Bool, true, false, cond, not, ◌&&◌, ◌||◌, eqb, ltb, List, [], ◌∷◌, length, slice_index, slice_index_or, get_or, set, take, refl, sym, ap, ◌∙◌, inl, inr, ◌⊎◌, ⊎_elim, arith, filter, count_by, All}
+use Rattle.std.proofs.Common.{◌≡◌, ◌≢◌, ℕ, zero, suc, ◌+◌, ◌*◌, ◌/◌, ◌<◌, ◌≤◌, Bool, true, false, cond, not, ◌&&◌, ◌||◌}
+use Rattle.std.proofs.Common.{eqb, ltb, List, [], ◌∷◌, length, slice_index_or, get_or, set, take, refl, sym, ap, ◌∙◌}
+use Rattle.std.proofs.Common.{inl, inr, ◌⊎◌, ⊎_elim, arith, filter, count_by, All}
 use Rattle.std.specs.List.{range_with_len, list_any}
-use Rattle.std.proofs.lemmas.Bool.{cases_Bool, cases_eq, cases_order, eq-eqb, ne_eqb, or_cases, or_left, or_right, or_from, and_from, and_parts, and_left, lt-ltb, le-ltb, both_ways, not_from_false, not-true, false_from_ne_true}
+use Rattle.std.proofs.lemmas.Bool.{cases_Bool, cases_eq, cases_order, eq-eqb, ne_eqb, or_cases, or_left, or_right}
+use Rattle.std.proofs.lemmas.Bool.{or_from, and_from, and_parts, and_left, lt-ltb, le-ltb, both_ways, not_from_false}
+use Rattle.std.proofs.lemmas.Bool.{not-true, false_from_ne_true}
 use Rattle.std.proofs.lemmas.List.{get_or-set_same, get_or-set_other, take_all}
 use Rattle.std.proofs.lemmas.List.Elements.{All-cons, All-nil}
 use Rattle.egt_graph.specs.Graph.{Graph, IsNode, IsGame}
 use Rattle.egt_graph.specs.Value.{mated_within, mates_within, mated_before, mates_before, is_lost_before, is_won_before}
 use Rattle.egt_graph.specs.Frontier.{is_node, is_ranked, front, entry_front, is_entry_of_round, block_len}
-use Rattle.egt_graph.specs.Columns.{outs, leaves, count_of, decided, entry_at, is_known_win, is_known_loss, waits_at, is_winning, Amid, done_of, done_by}
+use Rattle.egt_graph.specs.Columns.{outs, leaves, count_of, decided, entry_at, is_known_win, is_known_loss, waits_at}
+use Rattle.egt_graph.specs.Columns.{is_winning, Amid, done_of, done_by}
 use Rattle.egt_graph.specs.declared.game.Exit.{Exit}
 use Rattle.egt_graph.specs.declared.game.Exit.TheVariants.{Win, Loss, Draw}
 use Rattle.egt_graph.proofs.Lists.{count_yes, count_no, count_by-cons, any_same_on, count_same_on}
@@ -23,10 +28,7 @@ use Rattle.egt_graph.proofs.Steps.{counted_at, counted_past, counted_le, counted
 -- ---- the entries of a round
 
 later_of_no_round : (g : Graph) (r i : ℕ) (win loss : Bool) → entry_at g r i ≡ 1 → is_entry_of_round r (decided (entry_at g r i) win loss (r + 1)) ≡ false
-later_of_no_round g r i win loss e = ap (is_entry_of_round r) (decided_open (entry_at g r i) (r + 1) win loss (eq-eqb (entry_at g r i) 1 e)) ∙ cases win loss
-  where
-    cases : (w l : Bool) → is_entry_of_round r (cond w (2 + 2 * (r + 1)) (cond l (3 + 2 * (r + 1)) 1)) ≡ false
-    cases w l = grind (arith, draw_of_no_round)
+later_of_no_round g r i win loss e = grind (arith, is_entry_of_round, decided_open, entry_at, eq-eqb, draw_of_no_round)
 
 -- what the entry of a node of the round says of it
 pub data Found (g : Graph) (r i : ℕ) : Type 0 where
@@ -34,12 +36,7 @@ pub data Found (g : Graph) (r i : ℕ) : Type 0 where
   Loses : entry_at g r i ≡ 3 + 2 * r → mated_within g r i ≡ true → mated_before g r i ≡ false → Found g r i
 
 unranked : (g : Graph) (r i : ℕ) → (mates_within g r i ≡ true → mates_before g r i ≡ false → ⊥) → (mated_within g r i ≡ true → mated_before g r i ≡ false → ⊥) → is_ranked g r i ≡ false
-unranked g r i p q = false_from_ne_true _ (λ t.
-    let u = and_parts (is_node g i) _ t in
-    ⊎_elim
-    (λ a. let v = and_parts (mates_within g r i) (not (mates_before g r i)) a in p v.0 (not-true _ v.1))
-    (λ b. let v = and_parts (mated_within g r i) (not (mated_before g r i)) b in q v.0 (not-true _ v.1))
-    (or_cases (mates_within g r i && not (mates_before g r i)) _ u.1))
+unranked g r i p q = grind (arith, false_from_ne_true, and_parts, is_node, mates_within, mates_before, not-true, mated_within, mated_before, or_cases)
 
 classified : (g : Graph) → IsGame g → (r i : ℕ) → IsNode g i → (v : Exit) → Spells g r i v
     → (Found g r i × (is_ranked g r i ≡ true)) ⊎ ((is_ranked g r i ≡ false) × ((win loss : Bool) → is_entry_of_round r (decided (entry_at g r i) win loss (r + 1)) ≡ false))
@@ -105,15 +102,11 @@ ranked_by_entry g law r i win loss = elim (cases_Bool (is_node g i)) [
 ]
   where
     entry_of_found : Found g r i → is_entry_of_round r (entry_at g r i) ≡ true
-    entry_of_found (Wins e a b) = ap (is_entry_of_round r) e ∙ or_left _ _ (eq-eqb (2 + 2 * r) (2 + 2 * r) refl)
-    entry_of_found (Loses e a b) = ap (is_entry_of_round r) e ∙ or_right (eqb (3 + 2 * r) (2 + 2 * r)) _ (eq-eqb (3 + 2 * r) (3 + 2 * r) refl)
+    entry_of_found h0 = grind (arith, is_entry_of_round, or_left, eq-eqb, or_right, eqb)
 
 pub front_by_entries : (g : Graph) → IsGame g → (r block : ℕ) (done : ℕ → Bool) (due won : ℕ) (es ws : List ℕ) → Amid g r done due won es ws → length es ≡ g.size
     → entry_front es r block ≡ front g r block
-front_by_entries g law r block done due won es ws h long =
-    ap (λ n. filter (λ i. is_entry_of_round r (slice_index es i)) (range_with_len (4096 * block) (block_len n block))) long
-    ∙ filter_range_same _ (is_ranked g r) (4096 * block) (block_len g.size block)
-    (λ i low high. ap (is_entry_of_round r) (h.entry i) ∙ ranked_by_entry g law r i _ _)
+front_by_entries g law r block done due won es ws h long = grind (arith, is_entry_of_round, range_with_len, block_len, filter_range_same, is_ranked, ranked_by_entry)
 
 -- ---- what stands in a block
 

@@ -1,6 +1,6 @@
 -- From one round to the next.
 use Rattle.std.proofs.Common.{◌≡◌, ℕ, zero, suc, ◌+◌, Bool, true, false, cond, not, ◌&&◌, ◌||◌, eqb, List, slice_index}
-use Rattle.std.proofs.Common.{refl, sym, ap, ap₂, ◌∙◌, inl, inr, arith, count_by}
+use Rattle.std.proofs.Common.{sym, ap, ap₂, ◌∙◌, inl, inr, arith, count_by}
 use Rattle.egt_graph.specs.Prelude.{list_any, list_all, cases_Bool, ne_eqb, Graph, IsNode, IsGame, is_empty, has_move}
 use Rattle.egt_graph.specs.Prelude.{is_lost_before, is_won_before, mated_within, mates_within, mated_before}
 use Rattle.egt_graph.specs.Prelude.{mates_before, is_node, outs, leaves, has_moves, decided, entry_at, is_known_win}

@@ -278,9 +278,7 @@ number (Some n) = n
 number None = 0
 
 near_exit_passes : (n k : ℕ) (e : Exit) → near_outside e ≡ Some k → k ≤ n → is_near_exit (suc n) e ≡ true
-near_exit_passes n k (Win m) is le = let same : m ≡ k = ap number is in lt-ltb m (suc n) (omega (arith, same, le))
-near_exit_passes n k (Loss m) is le = let same : m ≡ k = ap number is in lt-ltb m (suc n) (omega (arith, same, le))
-near_exit_passes n k Draw is le = cc
+near_exit_passes n k h2 is le = grind (arith, lt-ltb)
 
 near_exit_tells : (n : ℕ) (e : Exit) → is_near_exit (suc n) e ≡ true → (k : ℕ) × (k ≤ n) × (near_outside e ≡ Some k)
 near_exit_tells n (Win k) t = (k, (let lt = ltb-true k (suc n) t in omega (arith, lt)), refl)

@@ -1,14 +1,21 @@
 -- When a run is over: no node is open once a round is closed exactly where no node has a rank above it.
-use Rattle.std.proofs.Common.{◌≡◌, ◌≢◌, ℕ, zero, suc, ◌+◌, ◌*◌, ◌<◌, ◌≤◌, Bool, true, false, cond, not, ◌&&◌, ◌||◌, eqb, ltb, List, [], ◌∷◌, slice_index, slice_index_or, refl, sym, ap, ap₂, ◌∙◌, inl, inr, ◌⊎◌, ⊎_elim, arith, count_by, IsTrue}
+use Rattle.std.proofs.Common.{◌≡◌, ◌≢◌, ℕ, zero, suc, ◌+◌, ◌*◌, ◌<◌, ◌≤◌, Bool, true, false, cond, not, ◌&&◌, ◌||◌, eqb}
+use Rattle.std.proofs.Common.{ltb, List, [], ◌∷◌, slice_index, refl, sym, ap, ap₂, ◌∙◌, inl, inr, ◌⊎◌, ⊎_elim, arith}
+use Rattle.std.proofs.Common.{count_by, IsTrue}
 use Rattle.std.specs.List.{list_any, list_all}
-use Rattle.std.proofs.lemmas.Bool.{false≢true, cases_Bool, eq-eqb, ne_eqb, eqb-true, eqb-false, both_ways, or_cases, or_left, or_right, or_parts, or_from, and_parts, and_from, lt-ltb, le-ltb, le-leb, lt-leb, ltb-true, cases_order, false_from_ne_true}
+use Rattle.std.proofs.lemmas.Bool.{false≢true, cases_Bool, eq-eqb, ne_eqb, eqb-true, eqb-false, both_ways, or_cases}
+use Rattle.std.proofs.lemmas.Bool.{or_left, or_right, or_parts, or_from, and_parts, and_from, lt-ltb, le-ltb, le-leb}
+use Rattle.std.proofs.lemmas.Bool.{lt-leb, ltb-true, cases_order, false_from_ne_true}
 use Rattle.egt_graph.specs.Graph.{Graph, IsNode, IsGame, HasShortDistance}
-use Rattle.egt_graph.specs.Value.{is_empty, has_move, is_lost_before, is_won_before, mated_within, mates_within, decided_within, SomeAbove, NoneAbove}
+use Rattle.egt_graph.specs.Value.{is_empty, has_move, is_lost_before, is_won_before, mated_within, mates_within}
+use Rattle.egt_graph.specs.Value.{decided_within, SomeAbove, NoneAbove}
 use Rattle.egt_graph.specs.Frontier.{is_node, is_entry_of_round}
-use Rattle.egt_graph.specs.Columns.{outs, leaves, has_moves, entry_at, waits_at, later_at, is_win_from, is_loss, is_open, is_open_at, Await}
+use Rattle.egt_graph.specs.Columns.{outs, leaves, has_moves, entry_at, waits_at, later_at, is_win_from, is_loss}
+use Rattle.egt_graph.specs.Columns.{is_open, is_open_at, Await}
 use Rattle.egt_graph.specs.declared.game.Exit.{Exit}
 use Rattle.egt_graph.specs.declared.game.Exit.TheVariants.{Win, Loss, Draw}
-use Rattle.egt_graph.proofs.Lists.{all_weaker, all_weaker_on, any_weaker, any_weaker_on, count_same, count_same_on, count_split, none_fails}
+use Rattle.egt_graph.proofs.Lists.{all_weaker, all_weaker_on, any_weaker, any_weaker_on, count_same, count_same_on}
+use Rattle.egt_graph.proofs.Lists.{count_split, none_fails}
 use Rattle.egt_graph.proofs.Values.{never_both_ever, mates_le, mated_le, mates_more, mated_more}
 use Rattle.egt_graph.proofs.Nodes.{test_from_node, node_from_test, outs_at, leaves_at, outs_are_nodes}
 use Rattle.egt_graph.proofs.Exits.{left_has_moves}
@@ -125,9 +132,7 @@ open_loss : (n m w l : ℕ) (f : Bool) → is_open m (3 + 2 * n) w l f ≡ true 
 open_loss n m w l f h = ⊎_elim (of_round_loss n m) (λ b. let e = eqb-true (3 + 2 * n) 1 (and_parts (eqb (3 + 2 * n) 1) (f || (ltb 0 w && eqb w l)) b).0 in absurd (omega arith)) (or_cases (is_entry_of_round m (3 + 2 * n)) _ h)
 
 open_draw : (m w l : ℕ) (f : Bool) → is_open m 1 w l f ≡ true → (f ≡ true) ⊎ ((0 < w) × (w ≡ l))
-open_draw m w l f h = ⊎_elim (λ a. absurd (both_ways _ (draw_of_no_round m) a))
-    (λ b. ⊎_elim inl (λ c. let t = and_parts (ltb 0 w) (eqb w l) c in inr (ltb-true 0 w t.0, eqb-true w l t.1)) (or_cases f _ b))
-    (or_cases (is_entry_of_round m 1) _ h)
+open_draw m w l f h = grind (arith, both_ways, draw_of_no_round, and_parts, ltb, eqb, ltb-true, eqb-true, or_cases, is_entry_of_round)
 
 above : (g : Graph) → IsGame g → (r : ℕ) (done : ℕ → Bool) → ((j : ℕ) → IsNode g j → done j ≡ true) → (i : ℕ) → IsNode g i
     → (v : Exit) → Spells g (suc r) i v

@@ -1,5 +1,6 @@
 -- The nodes of a block, by its places.
-use Rattle.std.proofs.Common.{◌≡◌, ℕ, zero, suc, ◌+◌, ◌-◌, ◌*◌, ◌<◌, ◌≤◌, min, Bool, true, false, cond, List, ◌∷◌, length, map, slice_index, get_or, drop, refl, sym, ap, ap₂, ◌∙◌, arith, filter, All}
+use Rattle.std.proofs.Common.{◌≡◌, ℕ, zero, suc, ◌+◌, ◌-◌, ◌*◌, ◌<◌, ◌≤◌, min, Bool, cond, List, ◌∷◌, length, map}
+use Rattle.std.proofs.Common.{slice_index, get_or, drop, refl, sym, ap, ap₂, ◌∙◌, arith, filter, All}
 use Rattle.std.specs.List.{range_with_len, slice_range}
 use Rattle.std.proofs.lemmas.List.Elements.{All-cons, All-nil}
 use Rattle.std.proofs.lemmas.List.{get_or-take, get_or-drop, length-take, length-drop}

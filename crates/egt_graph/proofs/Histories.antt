@@ -7,8 +7,8 @@ use Rattle.egt_graph.specs.Prelude.{true≢false, length-set, length-replicate, 
 use Rattle.egt_graph.specs.Prelude.{get_or-set_other, Graph, IsNode, IsGame, IsAlike, AreRanks, SomeAbove, NoneAbove}
 use Rattle.egt_graph.specs.Prelude.{mated_within, mates_within, mated_before, mates_before, decided_within, is_empty}
 use Rattle.egt_graph.specs.Prelude.{is_lost_before, is_won_before, HasRank, blocks_of, front, State, begun, listed}
-use Rattle.egt_graph.specs.Prelude.{listed_in, is_posted_in, none_posted, ClosesIn, ClosesRunning, Event, Expanded}
-use Rattle.egt_graph.specs.Prelude.{Received, Closed, Steps, Runs, is_next, is_end, ticked_by, ticked_after, phase_by}
+use Rattle.egt_graph.specs.Prelude.{is_posted_in, none_posted, ClosesIn, ClosesRunning, Event, Expanded, Received}
+use Rattle.egt_graph.specs.Prelude.{Closed, Steps, Runs, is_next, is_end, ticked_by, ticked_after, phase_by}
 use Rattle.egt_graph.specs.Prelude.{phase_after, is_running, AfterEvents, EventsLeave, EachRoundIsOfItsRank}
 use Rattle.egt_graph.specs.Prelude.{FinishedRunsAgree, Phase, Posted, Repeat, Stale, Close, Exit, Win, Loss, Draw}
 use Rattle.egt_graph.specs.declared.answer.Phase.TheVariants.{Running, Finished as IsOver, TooDeep as IsPastLimit}
@@ -143,11 +143,7 @@ going running end is t = grind arith
 
 posted_while : (g : Graph) (limit : ℕ) (events : List Event) (v : State) → Went g limit (begun g limit) events v → (b : ℕ) → b < blocks_of g.size
     → (p : Phase) → v.phase ≡ p → is_posted_in p v.posted b ≡ (list_any is_end events || ticked_after b false events)
-posted_while g limit events v h b lt Running e =
-    h.ticks b lt (ap is_running e) ∙ ap (λ f. ticked_after b f events) (get_or-replicate (blocks_of g.size) b false false lt)
-    ∙ sym (ap (λ x. x || ticked_after b false events) (going _ _ h.running (ap is_running e)))
-posted_while g limit events v h b lt IsOver e = sym (or_left _ _ (ended _ _ h.running (ap is_running e)))
-posted_while g limit events v h b lt IsPastLimit e = sym (or_left _ _ (ended _ _ h.running (ap is_running e)))
+posted_while g limit events v h b lt h7 e = grind (arith, is_running, ticked_after, get_or-replicate, blocks_of, going, or_left, ended)
 
 pub events_leave : EventsLeave
 events_leave g limit events v runs =

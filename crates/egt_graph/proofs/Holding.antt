@@ -1,6 +1,7 @@
 -- Entries and counters as moves are taken back, over any account of what they hold.
-use Rattle.std.proofs.Common.{◌≡◌, ℕ, ◌+◌, ◌*◌, ◌<◌, Bool, true, false, cond, ◌&&◌, ◌||◌, eqb, ltb, List, slice_index, refl, sym, ap, ap₂, ◌∙◌, inl, inr, arith}
-use Rattle.std.proofs.lemmas.Bool.{false≢true, cases_Bool, ltb-true, ltb-false, ne_eqb, eqb-true, and_right}
+use Rattle.std.proofs.Common.{◌≡◌, ℕ, ◌+◌, ◌*◌, ◌<◌, Bool, true, false, cond, ◌&&◌, ◌||◌, eqb, ltb, List, slice_index}
+use Rattle.std.proofs.Common.{sym, ap, ap₂, ◌∙◌, inl, inr, arith}
+use Rattle.std.proofs.lemmas.Bool.{cases_Bool, ltb-true, ltb-false, ne_eqb, eqb-true, and_right}
 use Rattle.egt_graph.specs.Columns.{count_of, decided, Hold, Marks, TakesBack}
 
 pub decided_open : (b n : ℕ) (win loss : Bool) → eqb b 1 ≡ true → decided b win loss n ≡ cond win (2 + 2 * n) (cond loss (3 + 2 * n) 1)

@@ -35,8 +35,7 @@ pub all_weaker : {X : Type 0} (p q : X → Bool) → ((x : X) → p x ≡ true �
 all_weaker p q w xs h = contains_all q xs (λ x has. w x (all_contains p xs x h has))
 
 pub any_same : {X : Type 0} (p q : X → Bool) → ((x : X) → p x ≡ q x) → (xs : List X) → list_any p xs ≡ list_any q xs
-any_same p q e [] = refl
-any_same p q e (x ∷ xs) = ap₂ (λ a b. a || b) (e x) (any_same p q e xs)
+any_same p q e h3 = grind (arith, ap₂)
 
 -- some element passes p, and each passes q
 pub any_all_clash : {X : Type 0} (P : X → Type 0) (p q : X → Bool) → ((x : X) → P x → p x ≡ true → q x ≡ true → ⊥) → (xs : List X) → All P xs → list_any p xs ≡ true → list_all q xs ≡ true → ⊥
@@ -66,8 +65,7 @@ count_split p q r e (x ∷ xs) =
     omega arith
 
 pub count_same : {X : Type 0} (p q : X → Bool) → ((x : X) → p x ≡ q x) → (xs : List X) → count_by p xs ≡ count_by q xs
-count_same p q e [] = refl
-count_same p q e (x ∷ xs) = count_by-cons p x xs ∙ ap₂ (λ a b. cond a 1 0 + b) (e x) (count_same p q e xs) ∙ sym (count_by-cons q x xs)
+count_same p q e h3 = grind (arith, count_by-cons, ap₂)
 
 pub count_yes : {X : Type 0} (p : X → Bool) (x : X) (xs : List X) → p x ≡ true → count_by p (x ∷ xs) ≡ 1 + count_by p xs
 count_yes p x xs h = count_by-cons p x xs ∙ ap (λ b. cond b 1 0 + count_by p xs) h

@@ -1,6 +1,6 @@
 -- The nearest mate, ply by ply: what is found in a round is what is one ply further away, and where nothing more is found all is known.
-use Rattle.std.proofs.Common.{◌≡◌, ◌≢◌, ℕ, zero, suc, ◌+◌, ◌*◌, ◌/◌, ◌<◌, ◌≤◌, ◌⊎◌, Bool, true, false, cond, ◌||◌, eqb}
-use Rattle.std.proofs.Common.{ltb, List, [], ◌∷◌, ◌++◌, length, slice_index, slice_index_or, get_or, refl, sym, ap, ◌∙◌}
+use Rattle.std.proofs.Common.{◌≡◌, ◌≢◌, ℕ, zero, suc, ◌+◌, ◌*◌, ◌<◌, ◌≤◌, ◌⊎◌, Bool, true, false, cond, ◌||◌, eqb, ltb}
+use Rattle.std.proofs.Common.{List, [], ◌∷◌, ◌++◌, length, slice_index, slice_index_or, get_or, refl, sym, ap, ◌∙◌}
 use Rattle.std.proofs.Common.{subst, inl, inr, ⊎_elim, arith, All, Contains, count_by, Option, Some, None}
 use Rattle.egt_graph.specs.Prelude.{list_any, false≢true, cases_Bool, cases_lt, cases_eq, or_cases, or_left, or_right}
 use Rattle.egt_graph.specs.Prelude.{ltb-true, lt-ltb, le-ltb, eq-eqb, ne_eqb, both_ways, get_or_default, length_push}
@@ -9,14 +9,14 @@ use Rattle.egt_graph.specs.Prelude.{Contains-append_cases, Graph, IsNode, IsGame
 use Rattle.egt_graph.specs.Prelude.{count_of, decided, Marks, is_loss_of, is_win_of, Adds, IsFilled, is_near_exit}
 use Rattle.egt_graph.specs.Prelude.{near_within, near_before, HasNear, near_entry_of, IsShort, AreNears, SomeFar}
 use Rattle.egt_graph.specs.Prelude.{near_at, IsNearing, IsNearingTo, led_from, found_by, Finds, AreFound, NoneLater}
-use Rattle.egt_graph.specs.Prelude.{near_of_entry, AreTold, IsOver, Exit, Win, Loss, Draw, Nearing}
+use Rattle.egt_graph.specs.Prelude.{near_of_entry, AreTold, IsOver, Exit, Nearing}
 use Rattle.egt_graph.proofs.Beginning.{at_every, Filled_more, pushed, outside}
 use Rattle.egt_graph.proofs.Exits.{below_next}
 use Rattle.egt_graph.proofs.Values.{stays_later}
 use Rattle.egt_graph.proofs.Holding.{decided_open, decided_shut, decided_mark, win_is_no_draw}
-use Rattle.egt_graph.proofs.Lists.{any_weaker, any_or, some_counts, counted_contains, contains_counted}
+use Rattle.egt_graph.proofs.Lists.{any_weaker, any_or, some_counts, counted_contains, contains_counted, any_contains}
+use Rattle.egt_graph.proofs.Lists.{contains_any}
 use Rattle.egt_graph.proofs.Nodes.{node_from_test, test_from_node, leaves_at, leaves_none, or_false}
-use Rattle.egt_graph.proofs.Lists.{any_contains, contains_any}
 
 pub same_both : (a b : Bool) → (a ≡ true → b ≡ true) → (b ≡ true → a ≡ true) → a ≡ b
 same_both a b there back = grind arith

@@ -22,10 +22,7 @@ filter_range_none p a (suc n) h =
     rw (h a (omega arith) (omega arith)) (filter_range_none p (a + 1) n (λ k low high. h k (omega arith) (omega arith)))
 
 pub filter_range_quiet : (p : ℕ → Bool) (n m : ℕ) → ((k : ℕ) → n ≤ k → k < n + m → p k ≡ false) → filter p (range_with_len 0 (n + m)) ≡ filter p (range_with_len 0 n)
-filter_range_quiet p n m h =
-    let e : 0 + n ≡ n = omega arith in
-    ap (filter p) (range_with_len-append 0 n m) ∙ filter-append p (range_with_len 0 n) (range_with_len (0 + n) m)
-    ∙ ap (λ xs. filter p (range_with_len 0 n) ++ xs) (rw e (filter_range_none p n m h)) ∙ append-nil (filter p (range_with_len 0 n))
+filter_range_quiet p n m h = grind (arith, range_with_len-append, filter-append, range_with_len, filter_range_none, append-nil)
 
 pub length-filter_range : (p : ℕ → Bool) (a n : ℕ) → length (filter p (range_with_len a n)) ≤ n
 length-filter_range p a n = grind (arith, length-filter, count_by-le-length, length-range_with_len)
@@ -38,9 +35,7 @@ pub filter_below_yes : (p : ℕ → Bool) (n : ℕ) → p n ≡ true → filter 
 filter_below_yes p n h = grind (arith, filter_range_more)
 
 pub filter_below_no : (p : ℕ → Bool) (n : ℕ) → p n ≡ false → filter p (range_with_len 0 (n + 1)) ≡ filter p (range_with_len 0 n)
-filter_below_no p n h =
-    let e : 0 + n ≡ n = omega arith in
-    filter_range_more p 0 n ∙ rw (e, h) (append-nil (filter p (range_with_len 0 n)))
+filter_below_no p n h = grind (arith, filter_range_more, append-nil, range_with_len)
 
 -- a load without an entry of the round
 pub frontier_quiet : (entries : List ℕ) (n m : ℕ) → ((k : ℕ) → m ≤ k → k < m + 16 → IsFalse (is_entry_of_round n (slice_index entries k))) → frontier_below entries n (m + 16) ≡ frontier_below entries n m

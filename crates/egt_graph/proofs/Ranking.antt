@@ -1,10 +1,10 @@
 -- What entries say of ranks, and when no further rank can come.
 use Rattle.std.proofs.Common.{◌≡◌, ℕ, zero, suc, ◌+◌, ◌*◌, ◌<◌, ◌≤◌, Bool, true, false, cond, eqb, List, length}
 use Rattle.std.proofs.Common.{slice_index, refl, sym, ap, ap₂, ◌∙◌, inl, inr, ⊎_elim, arith, IsFalse}
-use Rattle.egt_graph.specs.Prelude.{cases_Bool, eq-eqb, both_ways, or_cases, or_left, or_right, cases_order}
-use Rattle.egt_graph.specs.Prelude.{false_from_ne_true, ext_get_or, Graph, IsNode, IsGame, mated_within, mates_within}
-use Rattle.egt_graph.specs.Prelude.{decided_within, HasRank, IsWithin, entry_of, AreRanks, NoneAbove, is_node, entry_at}
-use Rattle.egt_graph.specs.Prelude.{Exit, Win, Loss, Draw, mated_before, mates_before}
+use Rattle.egt_graph.specs.Prelude.{cases_Bool, eq-eqb, both_ways, or_cases, or_left, or_right, false_from_ne_true}
+use Rattle.egt_graph.specs.Prelude.{ext_get_or, Graph, IsNode, IsGame, mated_within, mates_within, decided_within}
+use Rattle.egt_graph.specs.Prelude.{HasRank, IsWithin, entry_of, AreRanks, NoneAbove, is_node, entry_at, Exit, Win}
+use Rattle.egt_graph.specs.Prelude.{Loss, Draw, mated_before, mates_before}
 use Rattle.egt_graph.proofs.Values.{never_both_ever, mates_before_lt, mated_before_lt}
 use Rattle.egt_graph.proofs.Nodes.{test_from_node, node_from_test}
 use Rattle.egt_graph.proofs.Holding.{decided_open, decided_shut, win_is_no_draw, loss_is_no_draw}
@@ -82,15 +82,7 @@ one_first : (within before : ℕ → Bool) → ((n m : ℕ) → n < m → within
 one_first within before later n m a b = grind (arith, both_ways)
 
 pub one_value : (g : Graph) → IsGame g → (i : ℕ) → IsNode g i → (v w : Exit) → HasRank g i v → HasRank g i w → v ≡ w
-one_value g law i node (Win n) (Win m) a b = ap Win (one_first (λ k. mates_within g k i) (λ k. mates_before g k i) (mates_before_lt g i) n m a b)
-one_value g law i node (Loss n) (Loss m) a b = ap Loss (one_first (λ k. mated_within g k i) (λ k. mated_before g k i) (mated_before_lt g i) n m a b)
-one_value g law i node Draw Draw a b = refl
-one_value g law i node (Win n) (Loss m) a b = absurd (never_both_ever g law n m i node a.0 b.0)
-one_value g law i node (Loss n) (Win m) a b = absurd (never_both_ever g law m n i node b.0 a.0)
-one_value g law i node (Win n) Draw a b = absurd (both_ways _ (b n).0 a.0)
-one_value g law i node (Loss n) Draw a b = absurd (both_ways _ (b n).1 a.0)
-one_value g law i node Draw (Win m) a b = absurd (both_ways _ (a m).0 b.0)
-one_value g law i node Draw (Loss m) a b = absurd (both_ways _ (a m).1 b.0)
+one_value g law i node h4 h5 a b = grind (arith, one_first, mates_within, mates_before, mates_before_lt, mated_within, mated_before, mated_before_lt, never_both_ever, both_ways)
 
 pub same_ranks : (g : Graph) → IsGame g → (limit limit' : ℕ) (es es' : List ℕ) → AreRanks g limit es → AreRanks g limit' es' → es ≡ es'
 same_ranks g law limit limit' es es' a b = ext_get_or 0 es es' (a.all ∙ sym b.all) same

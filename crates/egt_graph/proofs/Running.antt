@@ -6,7 +6,7 @@ use Rattle.egt_graph.specs.Prelude.{drop_all, append-nil, take_all, length-set, 
 use Rattle.egt_graph.specs.Prelude.{get_or_past, length-replicate, Graph, IsNode, IsGame, SomeAbove, NoneAbove, front}
 use Rattle.egt_graph.specs.Prelude.{entry_front, blocks_of, State, listed, listed_in, IsRun, Holds, IsSchedule, leaves}
 use Rattle.egt_graph.specs.Prelude.{count_of, done_of, Amid, Await, Marks, TakesBack, is_open_at, Phase, Running}
-use Rattle.egt_graph.specs.Prelude.{Finished, Exit, is_node, cases_Bool, cases_lt}
+use Rattle.egt_graph.specs.Prelude.{Finished, Exit, is_node, cases_Bool}
 use Rattle.egt_graph.proofs.Lists.{contains_counted}
 use Rattle.egt_graph.proofs.Nodes.{node_from_test, leaves_none}
 use Rattle.egt_graph.proofs.Exits.{lost_exits_mark, won_exits_take, won_exits_waited, later_next}

@@ -3,8 +3,7 @@ use Rattle.std.proofs.Common.{◌≡◌, ℕ, zero, suc, ◌+◌, ◌<◌, ◌�
 use Rattle.std.proofs.Common.{⊎_elim, arith}
 use Rattle.egt_graph.specs.Prelude.{list_any, list_all, or_cases, or_left, or_right, and_parts, and_from, false≢true}
 use Rattle.egt_graph.specs.Prelude.{lt-ltb, ltb-true, cases_order, Graph, IsNode, IsGame, is_lost_before, is_won_before}
-use Rattle.egt_graph.specs.Prelude.{has_move, mated_within, mates_within, mated_before, mates_before, Exit, Win, Loss}
-use Rattle.egt_graph.specs.Prelude.{Draw}
+use Rattle.egt_graph.specs.Prelude.{has_move, mated_within, mates_within, mated_before, mates_before, Exit}
 use Rattle.egt_graph.proofs.Lists.{any_weaker, all_weaker, any_all_clash}
 
 pub lost_before_more : (n : ℕ) (e : Exit) → is_lost_before n e ≡ true → is_lost_before (suc n) e ≡ true

@@ -1,15 +1,15 @@
 -- The men of a class where a turn takes them, and the code of their squares.
 use Rattle.std.proofs.Common.{◌≡◌, ◌≢◌, ℕ, ◌/◌, ◌%◌, ◌<◌, ◌≤◌, ◌&&◌, Bool, true, false, cond, ltb, eqb, List, [], ◌∷◌}
-use Rattle.std.proofs.Common.{◌++◌, map, Option, Some, None, arith, refl, sym, ap, ◌∙◌, inl, inr, subst, slice_index}
-use Rattle.egt_index.specs.Prelude.{option_map, option_to_list, cases_eq, and_parts, eqb-true, ltb-true, map-append}
-use Rattle.egt_index.specs.Prelude.{White, Black, Man, Colours, king_of, side_number, men_of, Placement, Stands}
-use Rattle.egt_index.specs.Prelude.{get-remove_same, get-remove_other, IsSettled, Setup, IsAdmissible, IsKingOn}
-use Rattle.egt_index.specs.Prelude.{IsSetBy, turned_square, turned_man, turned_side, all_below, passes_below, Material}
-use Rattle.egt_index.specs.Prelude.{material_of, IsOf, king_square, placed, target_digits, target_digit, number_from}
-use Rattle.egt_index.specs.Prelude.{AreDigits, Facts, AreCounted, Picks, Goes, king_base, base_of, men_beside}
-use Rattle.egt_index.specs.Prelude.{has_pawns, has_target, IsListed, Tells, Entry, men_among, rest_of, list_of, IsOff}
-use Rattle.egt_index.specs.Prelude.{AllApart, AllStand, Stood, entry_after, IsInOrder, IsOrdered, IsStandAfter}
-use Rattle.egt_index.specs.Prelude.{HasDigit, turned_with, IsTurn, TurnCode, Stand}
+use Rattle.std.proofs.Common.{◌++◌, map, Option, Some, arith, refl, sym, ap, ◌∙◌, inl, inr, subst, slice_index}
+use Rattle.egt_index.specs.Prelude.{option_map, option_to_list, cases_eq, and_parts, eqb-true, ltb-true, White, Black}
+use Rattle.egt_index.specs.Prelude.{Man, Colours, king_of, side_number, men_of, Placement, Stands, get-remove_same}
+use Rattle.egt_index.specs.Prelude.{get-remove_other, IsSettled, Setup, IsAdmissible, IsKingOn, IsSetBy, turned_square}
+use Rattle.egt_index.specs.Prelude.{turned_man, turned_side, all_below, passes_below, Material, material_of, IsOf}
+use Rattle.egt_index.specs.Prelude.{king_square, placed, target_digits, target_digit, number_from, AreDigits, Facts}
+use Rattle.egt_index.specs.Prelude.{AreCounted, Picks, Goes, king_base, base_of, men_beside, has_pawns, has_target}
+use Rattle.egt_index.specs.Prelude.{IsListed, Tells, Entry, men_among, rest_of, list_of, IsOff, AllApart, AllStand}
+use Rattle.egt_index.specs.Prelude.{Stood, entry_after, IsInOrder, IsOrdered, IsStandAfter, HasDigit, turned_with}
+use Rattle.egt_index.specs.Prelude.{IsTurn, TurnCode, Stand}
 use Rattle.std.specs.FinMap as placement
 use Rattle.egt_board.specs.Symmetry.{square_if, square_of, KeepsPlay}
 use Rattle.egt_index.specs.Code as code_words

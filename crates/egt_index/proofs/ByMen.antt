@@ -1,5 +1,5 @@
 -- What the men of a position without a target tell of it.
-use Rattle.std.proofs.Common.{arith, ◌≡◌, ℕ, None, Option, IfSome, false, Bool, refl, sym, ap, inl, subst}
+use Rattle.std.proofs.Common.{arith, ◌≡◌, ℕ, None, Option, IfSome, false, Bool, refl, sym, inl, subst}
 use Rattle.egt_index.specs.Prelude.{option_map, is_some, Man, Side, ahead, HasPawnBeside, other_side, IsSettled}
 use Rattle.egt_index.specs.Prelude.{SettlesTo, Setup, IsAdmissible, IsOf, AreNonKings, Facts, Entry, HasStand, Stood}
 use Rattle.egt_index.specs.Prelude.{list_of, Stand}
@@ -20,5 +20,4 @@ found_beside p one other first second first_is second_is is = grind arith
 -- they stand as in the class
 pub stand_of_men : Facts → (c : ℕ) (flipped told : Bool) (p : Setup) (stand : Stand) (side : Side) → told ≡ flipped → IsAdmissible p → IsOf c flipped p → Stood c flipped p.men (list_of stand) → p.side ≡ side → p.target ≡ None
     → HasStand c told stand side false p
-stand_of_men facts c flipped told p stand side told_is ok is_of stood side_is none = subst (λ (f : Bool). HasStand c f stand side false p) (sym told_is)
-    (settled_stand facts c flipped p p stand side false ok is_of stood (sym side_is) (ap (λ (o : Option ℕ). is_some o) none) (settles_to_itself p none))
+stand_of_men facts c flipped told p stand side told_is ok is_of stood side_is none = grind (arith, settled_stand, is_some, settles_to_itself)

@@ -1,10 +1,9 @@
 -- Men counted on the squares of a placement, and taken off one by one.
 use Rattle.std.proofs.Common.{◌≡◌, ◌≢◌, ℕ, zero, suc, ◌+◌, ◌<◌, ◌≤◌, ◌⊎◌, cond, List, [], ◌∷◌, Option, Some, None}
 use Rattle.std.proofs.Common.{arith, refl, sym, ap, ◌∙◌, inl, inr, subst, slice_index_or}
-use Rattle.egt_index.specs.Prelude.{cases_eq, eq-eqb, eqb_tells, sum_by-cons, Side, Kind, Q, R, B, N, P, K, Man}
-use Rattle.egt_index.specs.Prelude.{kind_number, side_number, man_number, stands_here, count_of, Placement, Stands}
-use Rattle.egt_index.specs.Prelude.{same_men, get-remove_same, get-remove_other, total, is_man, tally, AreCounted}
-use Rattle.egt_index.specs.Prelude.{Least, men_of}
+use Rattle.egt_index.specs.Prelude.{cases_eq, eq-eqb, eqb_tells, sum_by-cons, Kind, Q, R, B, N, P, K, Man, kind_number}
+use Rattle.egt_index.specs.Prelude.{side_number, man_number, stands_here, count_of, Placement, Stands, same_men}
+use Rattle.egt_index.specs.Prelude.{get-remove_same, get-remove_other, total, is_man, tally, AreCounted, Least, men_of}
 use Rattle.std.specs.FinMap as placement
 use Rattle.egt_index.proofs.Listing.{get_none}
 use Rattle.egt_board.proofs.Sides.{kind_few}
@@ -20,15 +19,7 @@ kind_back kind = grind arith
 
 -- men of one number are the same
 pub man_told : (man other : Man) → man_number man ≡ man_number other → man ≡ other
-man_told man other same =
-    let below = kind_few man.kind in
-    let below' = kind_few other.kind in
-    let kinds : kind_number man.kind ≡ kind_number other.kind = omega arith in
-    let sides : side_number man.side ≡ side_number other.side = omega arith in
-    same_man man other (side_told man.side other.side sides) (sym (kind_back man.kind) ∙ ap kind_at kinds ∙ kind_back other.kind)
-  where
-    same_man : (man other : Man) → man.side ≡ other.side → man.kind ≡ other.kind → man ≡ other
-    same_man man other side kind = grind arith
+man_told man other same = grind (arith, kind_few, kind_number, side_number, side_told, kind_back, kind_at)
 
 here_one : (men : Placement) (s : ℕ) (man : Man) → Stands men s man → stands_here man (placement.get men s) ≡ 1
 here_one men s man stands = ap (stands_here man) stands ∙ ap (λ b. cond b 1 0) (eq-eqb (man_number man) (man_number man) refl)

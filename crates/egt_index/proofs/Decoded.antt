@@ -10,7 +10,7 @@ use Rattle.egt_index.proofs.MixedDigits.{number_from-same}
 use Rattle.egt_index.proofs.Coding.{last_digits, side_told}
 use Rattle.egt_index.proofs.Coded.{number_append}
 use Rattle.egt_index.proofs.Listing.{listed}
-use Rattle.egt_index.proofs.OnePosition.{a_pawn_each, one_pawn_each, one_square, same_setup}
+use Rattle.egt_index.proofs.OnePosition.{one_pawn_each, one_square, same_setup}
 use Rattle.egt_board.proofs.Parts.{heads, tails}
 
 pub flag : Bool → ℕ

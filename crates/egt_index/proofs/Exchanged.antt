@@ -1,10 +1,10 @@
 -- The men of a class whose sides have the same, with colours exchanged.
 use Rattle.std.proofs.Common.{◌≡◌, ℕ, ◌<◌, not, Bool, true, false, eqb, List, [], ◌∷◌, ◌++◌, Some, None, refl, sym, ap}
 use Rattle.std.proofs.Common.{◌∙◌, subst, ◌||◌, arith}
-use Rattle.egt_index.specs.Prelude.{option_to_list, false≢true, eqb-true, Side, White, Black, Man, Colours, king_of}
-use Rattle.egt_index.specs.Prelude.{man_number, man_by, side_by, Placement, turned_man, all_below, passes_below}
-use Rattle.egt_index.specs.Prelude.{material_of, materials, has_equal_sides, men_beside, men_in_order, Entry, men_among}
-use Rattle.egt_index.specs.Prelude.{list_of, AllStand, IsFilled, Stood, on_square_of, Stand}
+use Rattle.egt_index.specs.Prelude.{option_to_list, false≢true, eqb-true, White, Black, Man, Colours, king_of}
+use Rattle.egt_index.specs.Prelude.{man_number, man_by, Placement, turned_man, all_below, passes_below, material_of}
+use Rattle.egt_index.specs.Prelude.{materials, has_equal_sides, men_beside, men_in_order, Entry, men_among, list_of}
+use Rattle.egt_index.specs.Prelude.{AllStand, IsFilled, Stood, on_square_of, Stand}
 use Rattle.egt_index.proofs.Counted.{man_told}
 use Rattle.egt_index.proofs.Standing.{turned_back}
 use Rattle.egt_index.proofs.Tested.{implied}

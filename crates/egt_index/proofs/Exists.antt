@@ -1,10 +1,10 @@
 -- Each position of a class has one index, and positions have one index where they settle to images of one another.
 use Rattle.std.proofs.Common.{◌≡◌, ◌≢◌, ℕ, zero, suc, ◌+◌, ◌/◌, ◌%◌, ◌<◌, ◌⊎◌, Bool, true, false, eqb, Option, Some}
-use Rattle.std.proofs.Common.{None, arith, refl, sym, ◌∙◌, inl, inr, subst}
-use Rattle.egt_index.specs.Prelude.{cases_eq, false≢true, White, king_of, Setup, IsAdmissible, IsSettled, SettlesTo}
-use Rattle.egt_index.specs.Prelude.{KeepsPlay, AreImages, Decided, decided_eq, some_or_none_below, material_of}
-use Rattle.egt_index.specs.Prelude.{has_equal_sides, IsOf, size_of, base_of, has_pawns, Spells, square_of, Facts}
-use Rattle.egt_index.specs.Prelude.{IsIndex, SettleAlike, CodeOf, Best, CodeAfter, lesser}
+use Rattle.std.proofs.Common.{None, arith, refl, sym, inl, inr, subst}
+use Rattle.egt_index.specs.Prelude.{cases_eq, White, king_of, Setup, IsAdmissible, IsSettled, SettlesTo, KeepsPlay}
+use Rattle.egt_index.specs.Prelude.{AreImages, Decided, decided_eq, some_or_none_below, material_of, IsOf, size_of}
+use Rattle.egt_index.specs.Prelude.{base_of, has_pawns, Spells, square_of, Facts, IsIndex, SettleAlike, CodeOf, Best}
+use Rattle.egt_index.specs.Prelude.{CodeAfter, lesser}
 use Rattle.egt_index.proofs.Best.{code_found, code_missing, after_turn, best_none, best_after, index_found, index_there}
 use Rattle.egt_index.proofs.Classes.{pawns_there, spells_class}
 use Rattle.egt_index.proofs.Coding.{code_below}

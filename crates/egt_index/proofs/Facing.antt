@@ -68,9 +68,4 @@ module _ (men : Placement) (man : Man) (t to : ℕ) where
       ]
 
       back : IsKeptFrom men t man to man.side → bit_at without t ≡ 1
-      back safe =
-          let sheltered : bit_at kept t ≡ 1 = (theirs enemy differ).1 (λ attacked. safe (by_theirs attacked)) in
-          elim (cases_eq (bit_at attacking t) 1) [
-            | inl one ↦ absurd (safe (by_him (attacks.0 one)))
-            | inr none ↦ let few = bit_at-lt attacking t in omega arith
-          ]
+      back safe = grind (arith, bit_at, differ, by_theirs, cases_eq, by_him, attacks, bit_at-lt)

@@ -6,7 +6,7 @@ use Rattle.egt_index.specs.Prelude.{IfMoved, Entry, Man, White, Black, king_of, 
 use Rattle.egt_index.specs.Prelude.{IsAdmissible, turned_man, turned_square, Material, material_of, Beats, IsFirstOfTwo}
 use Rattle.egt_index.specs.Prelude.{Keeps, Spells, king_square, men_at, placed, square_of, target_digits, number_from}
 use Rattle.egt_index.specs.Prelude.{number_of, AreDigits, Facts, base_of, king_base, men_beside, has_pawns, has_target}
-use Rattle.egt_index.specs.Prelude.{list_of, AllStand, IsListed, IsOff, IsTurn, Stand, option_to_list}
+use Rattle.egt_index.specs.Prelude.{list_of, AllStand, IsListed, IsTurn, Stand}
 use Rattle.egt_index.proofs.Beating.{SpelledHome, stands_after}
 use Rattle.egt_index.proofs.Coding.{all_digits}
 use Rattle.egt_index.proofs.Listing.{AreApart, apart_of, get_here, listed, listed_stands}

@@ -1,10 +1,10 @@
 -- The first man of a class's name tells in what colours a position of the class is.
-use Rattle.std.proofs.Common.{◌≡◌, ℕ, ◌<◌, ◌++◌, not, Bool, true, false, eqb, List, Option, Some, None, arith, refl, ap}
-use Rattle.std.proofs.Common.{◌∙◌, subst, inl, inr, ◌↔◌, IsTrue, slice_index_or}
-use Rattle.egt_index.specs.Prelude.{option_to_list, and_parts, eqb-true, false≢true, get_or_default, Man, White, Black}
-use Rattle.egt_index.specs.Prelude.{HasBeside, StandsBeside, other_side, Stands, Setup, IsAdmissible, all_below}
-use Rattle.egt_index.specs.Prelude.{passes_below, materials, material_of, men_in, has_equal_sides, IsOf, Facts}
-use Rattle.egt_index.specs.Prelude.{tells_colours, men_beside, Entry, Holds, IsAmong, NON_KINGS}
+use Rattle.std.proofs.Common.{◌≡◌, ℕ, ◌<◌, ◌++◌, not, Bool, true, false, List, Option, Some, None, arith, refl, subst}
+use Rattle.std.proofs.Common.{inl, inr, ◌↔◌, IsTrue, slice_index_or}
+use Rattle.egt_index.specs.Prelude.{option_to_list, eqb-true, false≢true, get_or_default, Man, White, Black, HasBeside}
+use Rattle.egt_index.specs.Prelude.{StandsBeside, Stands, Setup, IsAdmissible, all_below, passes_below, materials}
+use Rattle.egt_index.specs.Prelude.{material_of, men_in, has_equal_sides, IsOf, Facts, tells_colours, men_beside, Entry}
+use Rattle.egt_index.specs.Prelude.{Holds, IsAmong, NON_KINGS}
 use Rattle.egt_index.proofs.Counted.{counted_some}
 use Rattle.egt_index.proofs.Standing.{kings_on, among_own}
 use Rattle.egt_index.proofs.Tested.{one_of}

@@ -1,9 +1,8 @@
 -- The code that a position's digits make.
-use Rattle.std.proofs.Common.{◌≡◌, ℕ, ◌+◌, ◌*◌, ◌<◌, false, cond, [], ◌∷◌, ◌++◌, map, arith, sym, ap, ◌∙◌, subst}
+use Rattle.std.proofs.Common.{◌≡◌, ℕ, ◌+◌, ◌<◌, false, cond, [], ◌∷◌, ◌++◌, arith, subst}
 use Rattle.egt_index.specs.Prelude.{White, Black, king_of, side_number, Setup, IsAdmissible, IsKingOn, IsSettled}
-use Rattle.egt_index.specs.Prelude.{Material, material_of, IsOf, number_from, number_of, king_base, base_of, bases}
-use Rattle.egt_index.specs.Prelude.{men_bases, men_beside, has_pawns, has_target, king_square, target_digits, Goes}
-use Rattle.egt_index.specs.Prelude.{IsLeastCode}
+use Rattle.egt_index.specs.Prelude.{Material, material_of, IsOf, number_from, number_of, king_base, bases, men_beside}
+use Rattle.egt_index.specs.Prelude.{has_pawns, has_target, king_square, target_digits, Goes, IsLeastCode}
 use Rattle.std.specs.FinMap as placement
 use Rattle.egt_index.proofs.Coded.{digits_more, ends_by, last_by, number_append, picks_code}
 use Rattle.egt_index.proofs.Turned.{counted_of, target_has_digit}
@@ -22,9 +21,6 @@ code_made c p s high number code ok settled is_of king below is goes coded =
   where
     m : Material
     m = material_of c
-
-    none_before : 0 * king_base (has_pawns m) + high ≡ high
-    none_before = omega arith
 
     same : number_of (bases m) ((high ∷ goes.digits) ++ last_by m p) ≡ code
     same = grind (arith, number_append, ends_by, last_by)

@@ -1,6 +1,6 @@
 -- The men of a position on the squares that its stand or its frame tells.
 use Rattle.std.proofs.Common.{arith, ◌≡◌, ℕ, Bool, false, sym, subst, ◌↔◌}
-use Rattle.egt_index.specs.Prelude.{Side, men_of, Placement, IsFree, Setup, AreCounted, HasStand, IsOff, list_of, Stand}
+use Rattle.egt_index.specs.Prelude.{Side, men_of, IsFree, Setup, AreCounted, HasStand, IsOff, list_of, Stand}
 use Rattle.egt_index.proofs.After.{all_there}
 use Rattle.egt_index.proofs.Setups.{free_of, off_of}
 use Rattle.egt_index.proofs.Turned.{counted_of}

@@ -1,10 +1,10 @@
 -- The men before the last one.
-use Rattle.std.proofs.Common.{◌≡◌, ◌≢◌, ℕ, ◌<◌, ◌≤◌, Bool, List, [], ◌∷◌, ◌++◌, Option, Some, None, IfSome, arith, refl}
-use Rattle.std.proofs.Common.{sym, ap, ◌∙◌, subst}
-use Rattle.egt_index.specs.Prelude.{option_to_list, king_of, men_of, IsFree, Man, White, Black, material_of}
-use Rattle.egt_index.specs.Prelude.{king_square, TellsLast, IsBefore, IsNoneBefore, last_of, king_base, has_pawns}
-use Rattle.egt_index.specs.Prelude.{men_beside, Splits, Tells, AllApart, Entry, IsOff, list_of, before_last, with_entry}
-use Rattle.egt_index.specs.Prelude.{with_last, Stand}
+use Rattle.std.proofs.Common.{◌≡◌, ◌≢◌, ℕ, ◌<◌, ◌≤◌, Bool, List, [], ◌∷◌, ◌++◌, Option, None, IfSome, arith, refl, sym}
+use Rattle.std.proofs.Common.{ap, ◌∙◌, subst}
+use Rattle.egt_index.specs.Prelude.{option_to_list, king_of, men_of, IsFree, Man, Black, material_of, king_square}
+use Rattle.egt_index.specs.Prelude.{TellsLast, IsBefore, IsNoneBefore, last_of, king_base, has_pawns, men_beside}
+use Rattle.egt_index.specs.Prelude.{Splits, Tells, AllApart, Entry, IsOff, list_of, before_last, with_entry, with_last}
+use Rattle.egt_index.specs.Prelude.{Stand}
 use Rattle.std.specs.FinMap as map
 use Rattle.egt_index.proofs.Boarding.{apart_before, entry_free, entry_put, off_all, one_at_most, two_at_most}
 use Rattle.egt_index.proofs.Splitting.{all_told, spells_men, spells_no_men}

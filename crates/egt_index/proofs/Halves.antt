@@ -1,10 +1,10 @@
 -- Numbers of positions and the codes that they stand for.
 use Rattle.std.proofs.Common.{◌≡◌, ℕ, ◌+◌, ◌-◌, ◌*◌, ◌/◌, ◌%◌, ◌<◌, ◌≤◌, ◌==◌, nat_lt, Bool, true, false, cond, [], ◌∷◌}
-use Rattle.std.proofs.Common.{Option, Some, None, arith, refl, sym, ap, ◌∙◌, inl, inr, subst}
-use Rattle.egt_index.specs.Prelude.{cases_lt, eqb-true, false≢true, lt-ltb, nat_tests, mul-le-mul_right, side_number}
-use Rattle.egt_index.specs.Prelude.{Man, Side, all_below, passes_below, Material, material_of, materials}
-use Rattle.egt_index.specs.Prelude.{number_from, product, digits_at, kind_digits, last_of, IsShelfBehind, number_in}
-use Rattle.egt_index.specs.Prelude.{bases, has_target, men_beside, size_of, Ends}
+use Rattle.std.proofs.Common.{Option, Some, None, arith, refl, sym, ap, ◌∙◌, subst}
+use Rattle.egt_index.specs.Prelude.{cases_lt, eqb-true, lt-ltb, mul-le-mul_right, side_number, Man, Side, all_below}
+use Rattle.egt_index.specs.Prelude.{passes_below, Material, material_of, materials, number_from, product, digits_at}
+use Rattle.egt_index.specs.Prelude.{kind_digits, last_of, IsShelfBehind, number_in, bases, has_target, men_beside}
+use Rattle.egt_index.specs.Prelude.{size_of, Ends}
 use Rattle.egt_index.specs.Numbers.{code_of, half_of, number_of, places}
 use Rattle.egt_index.proofs.OnePosition.{one_pawn_each}
 use Rattle.egt_index.proofs.Placing.{some_digits}
@@ -84,52 +84,19 @@ number_odd : (c code : ℕ) → has_target (material_of c) ≡ true → code % 2
 number_odd c code has odd = let is = number_targets c code has in let one = ap (λ d. d * half_of c) odd in omega arith
 
 pub code_below : (c n : ℕ) → n < size_of c → code_of c n < size_of c
-code_below c n lt = of_targets c
-    (λ none. let is = code_plain c n none in omega arith)
-    (λ has. let twice = half_twice c has in elim (cases_lt n (half_of c)) [
-      | inl low ↦ let is = code_low c n has low in omega arith
-      | inr high ↦ let is = code_high c n has high in omega arith
-    ])
+code_below c n lt = grind (arith, of_targets, code_plain, half_twice, cases_lt, half_of, code_low, code_high)
 
 pub number_below : (c n : ℕ) → code_of c n < size_of c → n < size_of c
-number_below c n lt = of_targets c
-    (λ none. let is = code_plain c n none in omega arith)
-    (λ has. let twice = half_twice c has in elim (cases_lt n (half_of c)) [
-      | inl low ↦ omega arith
-      | inr high ↦ let is = code_high c n has high in omega arith
-    ])
+number_below c n lt = grind (arith, of_targets, code_plain, half_twice, cases_lt, half_of, code_high)
 
 pub number_within : (c code : ℕ) → code < size_of c → number_of c code < size_of c
-number_within c code lt = of_targets c
-    (λ none. let is = number_plain c code none in omega arith)
-    (λ has. let twice = half_twice c has in elim (cases_lt (code % 2) 1) [
-      | inl low ↦ let is = number_even c code has (omega arith) in omega arith
-      | inr high ↦ let is = number_odd c code has (omega arith) in omega arith
-    ])
+number_within c code lt = grind (arith, of_targets, number_plain, half_twice, cases_lt, number_even, number_odd)
 
 pub code_back : (c code : ℕ) → code < size_of c → code_of c (number_of c code) ≡ code
-code_back c code lt = of_targets c
-    (λ none. code_plain c (number_of c code) none ∙ number_plain c code none)
-    (λ has. let twice = half_twice c has in elim (cases_lt (code % 2) 1) [
-      | inl low ↦
-          let is = number_even c code has (omega arith) in
-          let there = code_low c (number_of c code) has (omega arith) in omega arith
-      | inr high ↦
-          let is = number_odd c code has (omega arith) in
-          let there = code_high c (number_of c code) has (omega arith) in omega arith
-    ])
+code_back c code lt = grind (arith, of_targets, code_plain, number_of, number_plain, half_twice, cases_lt, number_even, code_low, number_odd, code_high)
 
 pub number_back : (c n : ℕ) → n < size_of c → number_of c (code_of c n) ≡ n
-number_back c n lt = of_targets c
-    (λ none. number_plain c (code_of c n) none ∙ code_plain c n none)
-    (λ has. let twice = half_twice c has in elim (cases_lt n (half_of c)) [
-      | inl low ↦
-          let is = code_low c n has low in
-          let there = number_even c (code_of c n) has (omega arith) in omega arith
-      | inr high ↦
-          let is = code_high c n has high in
-          let there = number_odd c (code_of c n) has (omega arith) in omega arith
-    ])
+number_back c n lt = grind (arith, of_targets, number_plain, code_of, code_plain, half_twice, cases_lt, half_of, code_low, number_even, code_high, number_odd)
 
 -- ---- shelves of numbers
 
@@ -188,15 +155,7 @@ module _ (passed : Bool) (c shelf high : ℕ) (at : IsShelfBehind passed c shelf
   low_in = let within = at.within in let few = side_few side in let is = low_is in omega arith
 
   coded : (passed : Bool) → IsShelfBehind passed c shelf high → has_target (material_of c) ≡ true → code_of c number ≡ low * 2 + cond passed 1 0
-  coded false at has =
-      let first = at.first in let is = low_is in let below = low_in in
-      let same : number ≡ low = omega arith in
-      ap (code_of c) same ∙ code_low c low has below ∙ (omega arith)
-  coded true at has =
-      let first = at.first in let is = low_is in
-      let same : number ≡ low + half_of c = omega arith in
-      let code = code_high c (low + half_of c) has (omega arith) in
-      ap (code_of c) same ∙ (omega arith)
+  coded h0 at has = grind (arith, low_is, low_in, code_of, code_low, half_of, code_high)
 
   plain : (passed : Bool) → passed ≡ false → IsShelfBehind passed c shelf high → has_target (material_of c) ≡ false → code_of c number ≡ low
   plain passed e h none = grind (arith, low_is, code_plain)

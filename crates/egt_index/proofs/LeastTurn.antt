@@ -1,6 +1,6 @@
 -- The least code over the turns that bring the white king home, which is that over all.
 use Rattle.std.proofs.Common.{◌≡◌, ◌≢◌, ℕ, ◌/◌, ◌%◌, ◌<◌, ◌≤◌, ◌⊎◌, not, Bool, true, false, cond, eqb, min, Option}
-use Rattle.std.proofs.Common.{Some, None, IfSome, arith, refl, sym, ap, ◌∙◌, inl, inr, subst}
+use Rattle.std.proofs.Common.{Some, None, IfSome, arith, sym, ap, ◌∙◌, inl, inr, subst}
 use Rattle.egt_index.specs.Prelude.{cases_eq, cases_lt, false≢true, White, Black, king_of, Stands, Setup, IsAdmissible}
 use Rattle.egt_index.specs.Prelude.{KeepsPlay, turned_man, turned_square, material_of, has_equal_sides, IsOf, Spells}
 use Rattle.egt_index.specs.Prelude.{Facts, symmetries, AreHome, FlipCode, LeastWith, has_pawns, IsTurn, TurnCode}

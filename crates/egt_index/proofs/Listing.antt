@@ -1,9 +1,9 @@
 -- Placements given by a list of men.
-use Rattle.std.proofs.Common.{◌≡◌, ◌≢◌, ℕ, zero, suc, ◌<◌, List, [], ◌∷◌, ◌++◌, length, map, cond, Some, None}
-use Rattle.std.proofs.Common.{arith, sym, ap, ◌∙◌, inl, inr, subst, slice_index}
+use Rattle.std.proofs.Common.{◌≡◌, ◌≢◌, ℕ, zero, suc, ◌<◌, List, [], ◌∷◌, ◌++◌, length, map, cond, Some, None, arith}
+use Rattle.std.proofs.Common.{sym, ap, ◌∙◌, inl, inr, subst, slice_index}
 use Rattle.egt_index.specs.Prelude.{nat_cmp, nat_cmp_total, cases_eq, map-append, Man, Placement, Stands, IsFree}
-use Rattle.egt_index.specs.Prelude.{same_men, tied, untied, get-remove_same, get-remove_other, get-insert_same}
-use Rattle.egt_index.specs.Prelude.{get-insert_other, men_of, entry_of, squares_of, IsListed}
+use Rattle.egt_index.specs.Prelude.{same_men, tied, untied, get-remove_same, get-remove_other, men_of, entry_of}
+use Rattle.egt_index.specs.Prelude.{squares_of, IsListed}
 use Rattle.std.specs.FinMap as placement
 
 -- no two men on one square: none of those behind stands where one does

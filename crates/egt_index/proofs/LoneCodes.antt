@@ -1,6 +1,6 @@
 -- The codes of a class with one man beside the kings.
-use Rattle.std.proofs.Common.{◌≡◌, ℕ, ◌+◌, ◌-◌, ◌*◌, ◌<◌, ◌≤◌, ◌&&◌, Bool, false, cond, List, [], ◌∷◌, ◌++◌, map}
-use Rattle.std.proofs.Common.{None, arith, refl, sym, ap, ◌∙◌, subst}
+use Rattle.std.proofs.Common.{◌≡◌, ℕ, ◌+◌, ◌-◌, ◌*◌, ◌<◌, ◌≤◌, ◌&&◌, Bool, false, cond, List, [], ◌∷◌, ◌++◌, map, None}
+use Rattle.std.proofs.Common.{arith, refl, sym, subst}
 use Rattle.egt_index.specs.Prelude.{side_number, Kind, Man, Side, White, Black, Material, material_of, king_square}
 use Rattle.egt_index.specs.Prelude.{number_from, number_of, product, IsLoneMan, IsLoneRow, lone_stand, kind_digits}
 use Rattle.egt_index.specs.Prelude.{kind_less, bases, has_pawn, has_pawns, has_target, king_base, man_of, men_bases}

@@ -1,9 +1,9 @@
 -- The number of the digits of men on their squares.
 use Rattle.std.proofs.Common.{◌≡◌, ◌≢◌, ℕ, ◌+◌, ◌-◌, ◌*◌, ◌/◌, ◌<◌, ◌≤◌, Bool, [], ◌++◌, Some, None, IfSome, arith}
 use Rattle.std.proofs.Common.{refl, sym, ap, ◌∙◌, subst}
-use Rattle.egt_index.specs.Prelude.{map-append, option_to_list, Kind, Q, R, B, N, P, K, Man, Side, White, Black}
-use Rattle.egt_index.specs.Prelude.{king_of, side_number, kind_number, MayStand, square_by_digit, kind_digits}
-use Rattle.egt_index.specs.Prelude.{kind_less, base_by, Splits, Tells, Entry, HasDigit, men_among, rest_of, Stand}
+use Rattle.egt_index.specs.Prelude.{map-append, option_to_list, Kind, P, K, Man, Side, White, Black, king_of}
+use Rattle.egt_index.specs.Prelude.{side_number, kind_number, MayStand, square_by_digit, kind_digits, kind_less}
+use Rattle.egt_index.specs.Prelude.{base_by, Splits, Tells, Entry, HasDigit, men_among, rest_of, Stand}
 use Rattle.egt_index.proofs.Splitting.{all_told, tells_one}
 
 -- the digit of a square

@@ -1,6 +1,6 @@
 -- Numbers of mixed digits: in order as their digits are, and each of one list of digits.
 use Rattle.std.proofs.Common.{◌≡◌, ℕ, ◌+◌, ◌*◌, ◌<◌, ◌≤◌, ◌⊎◌, List, [], ◌∷◌, arith, refl, ap, subst, mul_assoc}
-use Rattle.egt_index.specs.Prelude.{cases_lt, mul-le-mul_right, number_from, number_of, AreDigits, product}
+use Rattle.egt_index.specs.Prelude.{cases_lt, number_from, number_of, AreDigits, product}
 
 -- a digit behind does not make up for a greater number before it
 higher : (a b base digit other : ℕ) → a < b → digit < base → a * base + digit < b * base + other

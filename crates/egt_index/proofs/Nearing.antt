@@ -84,9 +84,7 @@ kings_of_two facts c flips stand side passed p first second c_in has home = elim
 
 -- kings on the same squares come to the same
 same_kings : (stand : Stand) (t white black : ℕ) → stand.white ≡ white → stand.black ≡ black → kings_after stand t ≡ 64 * turned_square (t % 8) (eqb (t / 8) 1) white + turned_square (t % 8) (eqb (t / 8) 1) black
-same_kings stand t white black white_is black_is =
-    ap (λ w. 64 * turned_square (t % 8) (eqb (t / 8) 1) w + turned_square (t % 8) (eqb (t / 8) 1) stand.black) white_is
-    ∙ ap (λ b. 64 * turned_square (t % 8) (eqb (t / 8) 1) white + turned_square (t % 8) (eqb (t / 8) 1) b) black_is
+same_kings stand t white black white_is black_is = grind (arith, turned_square, eqb)
 
 -- where one turn brings the white king home, or two do
 pub nearest_of_one : Facts → (c : ℕ) (flips : Bool) (white black first kings : ℕ) → c < 36 → AreHome (has_pawns (material_of c)) flips white first None

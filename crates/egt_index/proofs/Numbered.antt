@@ -1,7 +1,7 @@
 -- Which codes of the numbers of a shelf are indexes.
-use Rattle.std.proofs.Common.{◌≡◌, ◌≢◌, ◌↔◌, ℕ, ◌+◌, ◌*◌, ◌/◌, ◌<◌, Bool, true, false, if◌then◌else◌, Some, None, arith}
-use Rattle.std.proofs.Common.{refl, sym, ap, ◌∙◌, subst, inl, inr}
-use Rattle.egt_index.specs.Prelude.{bit_at, cases_eq, cases_lt, bit_at-zero, king_of, side_number, pawn_of, IsSettled}
+use Rattle.std.proofs.Common.{◌≡◌, ◌≢◌, ◌↔◌, ℕ, ◌+◌, ◌*◌, ◌/◌, ◌<◌, Bool, true, false, if◌then◌else◌, Some, arith, sym}
+use Rattle.std.proofs.Common.{ap, ◌∙◌, subst, inl, inr}
+use Rattle.egt_index.specs.Prelude.{bit_at, cases_eq, bit_at-zero, king_of, side_number, pawn_of, IsSettled}
 use Rattle.egt_index.specs.Prelude.{IsAdmissible, Setup, Man, Side, White, Black, Material, material_of, AreBehind}
 use Rattle.egt_index.specs.Prelude.{SpellsAt, Spells, Facts, TellsLast, IsFront, IsVoidFront, IsIndex, IsVoid}
 use Rattle.egt_index.specs.Prelude.{IsNumbered, code_of, places, AreInOrder, AreMade, IsMade, TellsIndex, row_len}

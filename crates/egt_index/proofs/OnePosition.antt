@@ -1,10 +1,10 @@
 -- A code spells one position.
-use Rattle.std.proofs.Common.{◌≡◌, ℕ, ◌+◌, ◌-◌, ◌⊎◌, ◌||◌, ◌==◌, not, Bool, true, false, cond, IsTrue, List, [], ◌∷◌}
-use Rattle.std.proofs.Common.{Option, Some, None, arith, refl, sym, ap, ◌∙◌, inl, inr, subst}
-use Rattle.egt_index.specs.Prelude.{false≢true, cases_lt, eqb-true, Side, White, Black, P, Man, other_side, king_of}
-use Rattle.egt_index.specs.Prelude.{pawn_of, Placement, Stands, men_of, Setup, IsTarget, FitsTarget, all_below}
-use Rattle.egt_index.specs.Prelude.{passes_below, Material, material_of, materials, beside, AreDigits, men_bases}
-use Rattle.egt_index.specs.Prelude.{has_target, Spells, HasTargetDigit, men_at, target_digit, target_digits, IsListed}
+use Rattle.std.proofs.Common.{◌≡◌, ℕ, ◌-◌, ◌||◌, ◌==◌, not, Bool, true, false, List, [], ◌∷◌, Option, arith, refl, sym}
+use Rattle.std.proofs.Common.{ap, ◌∙◌, inl, inr, subst}
+use Rattle.egt_index.specs.Prelude.{false≢true, cases_lt, eqb-true, Side, P, Man, other_side, king_of, pawn_of}
+use Rattle.egt_index.specs.Prelude.{Placement, Stands, men_of, Setup, IsTarget, FitsTarget, all_below, passes_below}
+use Rattle.egt_index.specs.Prelude.{Material, material_of, materials, beside, AreDigits, men_bases, has_target, Spells}
+use Rattle.egt_index.specs.Prelude.{HasTargetDigit, men_at, target_digit, target_digits, IsListed}
 use Rattle.egt_index.proofs.Listing.{listed}
 use Rattle.egt_index.proofs.Coding.{SameSpelling, spells_same}
 use Rattle.egt_index.proofs.Tested.{implied}

@@ -1,10 +1,10 @@
 -- The least code of a position: each man in turn on the least square that is left to it.
 use Rattle.std.proofs.Common.{◌≡◌, ℕ, ◌+◌, ◌*◌, ◌<◌, ◌⊎◌, Bool, true, false, ltb, List, [], ◌∷◌, map, arith, refl, sym}
-use Rattle.std.proofs.Common.{ap, ◌∙◌, inl, inr, subst}
-use Rattle.egt_index.specs.Prelude.{cases_eq, cases_lt, ltb-true, Side, White, Kind, K, Man}
-use Rattle.egt_index.specs.Prelude.{Placement, Stands, get-remove_same, get-remove_other, men_of, all_below}
-use Rattle.egt_index.specs.Prelude.{passes_below, number_from, AreDigits, base_by, base_of, king_square}
-use Rattle.egt_index.specs.Prelude.{square_by_digit, square_of, placed, AreCounted, Picks}
+use Rattle.std.proofs.Common.{ap, ◌∙◌, inl, inr}
+use Rattle.egt_index.specs.Prelude.{cases_eq, cases_lt, ltb-true, Side, White, Kind, K, Man, Placement, Stands}
+use Rattle.egt_index.specs.Prelude.{get-remove_same, get-remove_other, men_of, all_below, passes_below, number_from}
+use Rattle.egt_index.specs.Prelude.{AreDigits, base_by, base_of, king_square, square_by_digit, square_of, placed}
+use Rattle.egt_index.specs.Prelude.{AreCounted, Picks}
 use Rattle.std.specs.FinMap as placement
 use Rattle.egt_index.proofs.MixedDigits.{number_from-lt}
 use Rattle.egt_index.proofs.Listing.{AreApart, first_back, remove_first, get_here}
@@ -69,9 +69,6 @@ picks_least pawns men (man ∷ list) (d ∷ ds) (e ∷ es) are theirs picks is a
       of_rest same (picks_least pawns (placement.remove men (square_of pawns man d)) list ds es are.1 theirs.1 picks.2 rest_is apart.1)
 ]
   where
-    conses : d ≡ e → ds ≡ es → d ∷ ds ≡ e ∷ es
-    conses h k = cc
-
     of_rest : d ≡ e → (ds ≡ es) ⊎ ((high : ℕ) → number_from high (map (base_of pawns) list) ds < number_from high (map (base_of pawns) list) es)
         → (d ∷ ds ≡ e ∷ es) ⊎ ((high : ℕ) → number_from (high * base_of pawns man + d) (map (base_of pawns) list) ds < number_from (high * base_of pawns man + e) (map (base_of pawns) list) es)
     of_rest same h = grind arith

@@ -6,11 +6,11 @@ use Rattle.egt_index.specs.Prelude.{bit_at, option_to_list, cases_eq, cases_lt, 
 use Rattle.egt_index.specs.Prelude.{bit_at_cat_high, bit_at_mask_below, bit_at_mask_inside, bit_at_ones}
 use Rattle.egt_index.specs.Prelude.{bit_at_ones_above, ones_shl, IsAttacked, IsInCheck, king_of, side_number, men_of}
 use Rattle.egt_index.specs.Prelude.{setup_of, other_side, Placement, Stands, IsFree, get-insert_other, IsKeptFrom}
-use Rattle.egt_index.specs.Prelude.{IsAdmissible, Kind, Q, R, B, N, P, K, Man, Side, White, Black, Material}
-use Rattle.egt_index.specs.Prelude.{material_of, square_by_digit, number_from, TellsLast, IsFront, IsMade, IsPlaced}
-use Rattle.egt_index.specs.Prelude.{waiting, kind_digits, kind_less, last_of, base_by, has_target, man_of, men_beside}
-use Rattle.egt_index.specs.Prelude.{Splits, SpellsMen, Tells, AllApart, AreEqual, Entry, IsInOrder, IsOff, list_of}
-use Rattle.egt_index.specs.Prelude.{with_last, Front, Stand}
+use Rattle.egt_index.specs.Prelude.{IsAdmissible, Kind, P, Man, Side, White, Black, Material, material_of}
+use Rattle.egt_index.specs.Prelude.{square_by_digit, number_from, TellsLast, IsFront, IsMade, IsPlaced, waiting}
+use Rattle.egt_index.specs.Prelude.{kind_digits, kind_less, last_of, base_by, has_target, man_of, men_beside, Splits}
+use Rattle.egt_index.specs.Prelude.{SpellsMen, Tells, AllApart, AreEqual, Entry, IsInOrder, IsOff, list_of, with_last}
+use Rattle.egt_index.specs.Prelude.{Front, Stand}
 use Rattle.std.specs.FinMap as map
 use Rattle.egt_index.proofs.FrameMen.{men_are}
 use Rattle.egt_index.proofs.Fronts.{all_apart, board_with, few_with, free_before, list_before}
@@ -179,12 +179,7 @@ module _ (c high : ℕ) (man : Man) (c_in : c < 36) (last : last_of (men_beside 
     }
 
     attacked_in : AllApart (list_of stand) → AreKings stand → (side : Side) → IsInCheck (men_of (list_of stand)) (other_side side) → IsAttacked (map.insert front.board (square k) man) (waiting side front.stand) side
-    attacked_in apart kings White check =
-        subst (λ (men : Placement). IsAttacked men front.stand.black White) (sym (board apart))
-        (subst (λ s. IsAttacked (men_of (list_of stand)) s White) (kings.black.only check.square check.stands) check.attacked)
-    attacked_in apart kings Black check =
-        subst (λ (men : Placement). IsAttacked men front.stand.white Black) (sym (board apart))
-        (subst (λ s. IsAttacked (men_of (list_of stand)) s Black) (kings.white.only check.square check.stands) check.attacked)
+    attacked_in apart kings h2 check = grind (arith, apart, kings, men, board, men_of, list_of)
 
     -- in a position without a target he stands where he may
     placed_where : IsMade false c front.stand man mover k → IsPlaced front man mover k

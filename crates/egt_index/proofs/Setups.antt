@@ -1,13 +1,13 @@
 -- The men that a number spells, as a board and as a setup.
 use Rattle.std.proofs.Common.{◌≡◌, ◌≢◌, ℕ, ◌<◌, ◌&&◌, not, Bool, true, false, eqb, List, [], ◌∷◌, ◌++◌, length, map}
 use Rattle.std.proofs.Common.{Option, arith, refl, sym, ap, ◌∙◌, inl, inr, subst}
-use Rattle.egt_index.specs.Prelude.{option_to_list, is_some, and_parts, eq-eqb, Side, White, Black, Kind, Q, R, B, N, P}
-use Rattle.egt_index.specs.Prelude.{K, Man, king_of, kind_number, side_number, men_of, setup_of, FitsBoard, MayStand}
-use Rattle.egt_index.specs.Prelude.{PawnsFit, Placement, Stands, IsFree, IsSettled, Setup, IsAdmissible, IsKingOn}
-use Rattle.egt_index.specs.Prelude.{all_below, passes_below, material_of, materials, Spells, square_by_digit, placed}
-use Rattle.egt_index.specs.Prelude.{AreDigits, base_by, base_of, men_beside, men_in_order, has_pawns, SpellsMen, Ends}
-use Rattle.egt_index.specs.Prelude.{IsListed, IsTold, men_among, rest_of, list_of, IsOff, AllApart, AllStand, Stood}
-use Rattle.egt_index.specs.Prelude.{HasStand, Stand}
+use Rattle.egt_index.specs.Prelude.{option_to_list, is_some, and_parts, eq-eqb, Side, White, Black, Kind, Man, king_of}
+use Rattle.egt_index.specs.Prelude.{kind_number, side_number, men_of, setup_of, FitsBoard, MayStand, PawnsFit}
+use Rattle.egt_index.specs.Prelude.{Placement, Stands, IsFree, IsSettled, Setup, IsAdmissible, IsKingOn, all_below}
+use Rattle.egt_index.specs.Prelude.{passes_below, material_of, materials, Spells, square_by_digit, placed, AreDigits}
+use Rattle.egt_index.specs.Prelude.{base_by, base_of, men_beside, men_in_order, has_pawns, SpellsMen, Ends, IsListed}
+use Rattle.egt_index.specs.Prelude.{IsTold, men_among, rest_of, list_of, IsOff, AllApart, AllStand, Stood, HasStand}
+use Rattle.egt_index.specs.Prelude.{Stand}
 use Rattle.egt_index.proofs.Classes.{spells_class}
 use Rattle.egt_index.proofs.Coded.{few_men, placed_few}
 use Rattle.egt_index.proofs.Decoded.{decoded_spells}
@@ -119,14 +119,10 @@ kings_spelled c high stand c_in men apart = record {
     none = ap are_no_kings (tails (tails (men_spelled c high (list_of stand) men))) ∙ passes_below (λ c. are_no_kings (men_beside (material_of c))) 36 c all_no_kings c_in
 
     of_white : (t : ℕ) → IsListed (list_of stand) (king_of White) t → t ≡ stand.white
-    of_white t (inl h) = sym h.1
-    of_white t (inr (inl h)) = absurd (let sides = ap (λ m. side_number m.side) h.0 in omega arith)
-    of_white t (inr (inr h)) = absurd (no_king_listed others White t none h)
+    of_white t h1 = grind (arith, side_number, no_king_listed, others, none)
 
     of_black : (t : ℕ) → IsListed (list_of stand) (king_of Black) t → t ≡ stand.black
-    of_black t (inl h) = absurd (let sides = ap (λ m. side_number m.side) h.0 in omega arith)
-    of_black t (inr (inl h)) = sym h.1
-    of_black t (inr (inr h)) = absurd (no_king_listed others Black t none h)
+    of_black t h1 = grind (arith, side_number, no_king_listed, others, none)
 
 more_stand : (e : Man × ℕ) (list some : List (Man × ℕ)) → IsOff some e.1 → AllStand false (men_of list) some → AllStand false (men_of (e ∷ list)) some
 more_stand e list [] off all = tt

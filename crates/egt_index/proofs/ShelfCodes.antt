@@ -1,11 +1,11 @@
 -- The men of a shelf's codes.
-use Rattle.std.proofs.Common.{◌≡◌, ◌≢◌, ◌↔◌, ℕ, ◌+◌, ◌-◌, ◌*◌, ◌%◌, ◌<◌, ◌≤◌, Bool, true, cond, inl, inr, List}
-use Rattle.std.proofs.Common.{[], ◌∷◌, ◌++◌, Option, Some, None, IfSome, arith, refl, sym, ap, ◌∙◌, subst}
-use Rattle.egt_index.specs.Prelude.{option_to_list, cases_lt, king_of, MayStand, Man, Side, White, Black, material_of}
-use Rattle.egt_index.specs.Prelude.{king_square, number_from, IsBefore, kind_digits, kind_less, code_of, half_of}
-use Rattle.egt_index.specs.Prelude.{places, last_of, AreMenOf, IsShelf, IsShelfBehind, IsShelfOf, number_in, stand_with}
-use Rattle.egt_index.specs.Prelude.{has_pawns, has_target, king_base, men_beside, men_in_order, SpellsMen, Tells}
-use Rattle.egt_index.specs.Prelude.{TellsMen, Entry, list_of, rest_of, with_last, ShelfMen, Stand}
+use Rattle.std.proofs.Common.{◌≡◌, ◌≢◌, ◌↔◌, ℕ, ◌+◌, ◌-◌, ◌*◌, ◌%◌, ◌<◌, ◌≤◌, Bool, true, cond, List, [], ◌∷◌, ◌++◌}
+use Rattle.std.proofs.Common.{Option, Some, None, IfSome, arith, refl, sym, ap, subst}
+use Rattle.egt_index.specs.Prelude.{option_to_list, king_of, MayStand, Man, Side, White, Black, material_of}
+use Rattle.egt_index.specs.Prelude.{king_square, IsBefore, kind_digits, kind_less, code_of, half_of, places, last_of}
+use Rattle.egt_index.specs.Prelude.{AreMenOf, IsShelf, IsShelfBehind, IsShelfOf, number_in, stand_with, has_pawns}
+use Rattle.egt_index.specs.Prelude.{has_target, king_base, men_beside, men_in_order, SpellsMen, Tells, TellsMen}
+use Rattle.egt_index.specs.Prelude.{list_of, rest_of, with_last, ShelfMen, Stand}
 use Rattle.egt_index.proofs.Halves.{code_high, code_low, places_of_last}
 use Rattle.egt_index.proofs.Numbered.{ends}
 use Rattle.egt_index.proofs.Opposed.{may_stand}
@@ -29,10 +29,7 @@ module _ (passed : Bool) (c shelf high : ℕ) (men : ShelfMen) (c_in : c < 36) (
         (before.men (high * kind_digits men.last.kind + digit) (Some (men.last, digit + kind_less men.last.kind)) (tells c high men.last c_in last other digit below))
       where
         same : with_last stand (Some (men.last, digit + kind_less men.last.kind)) ≡ stand_with men (digit + kind_less men.last.kind)
-        same =
-            ap (λ (s : ℕ). record { white = s; black = stand.black; next = stand.next; last = Some (men.last, digit + kind_less men.last.kind) }) white
-            ∙ ap (λ (s : ℕ). record { white = men.white; black = s; next = stand.next; last = Some (men.last, digit + kind_less men.last.kind) }) black
-            ∙ ap (λ (e : Entry). record { white = men.white; black = men.black; next = e; last = Some (men.last, digit + kind_less men.last.kind) }) next
+        same = grind (arith, stand, kind_less)
 
     all_men : king_of White ∷ king_of Black ∷ men.one ∷ men.last ∷ [] ≡ men_in_order (material_of c)
     all_men = men_spelled c (high * kind_digits men.last.kind + 0) (list_of (stand_with men (0 + kind_less men.last.kind))) (spelled 0 (some_digits men.last.kind))

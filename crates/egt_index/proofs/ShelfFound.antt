@@ -37,10 +37,7 @@ module _ (c : ℕ) (men : ShelfMen) (is_of : AreMenOf c men) where
   size_is = ap (λ (list : List Man). product (map (base_of pawns) list ++ 2 ∷ cond (has_target (material_of c)) (2 ∷ []) [])) (sym is_of.are)
 
   size_by : (b : Bool) → has_target (material_of c) ≡ b → size_of c ≡ king_base pawns * (64 * (one * (places c * (2 * product (cond b (2 ∷ []) [])))))
-  size_by b targets =
-      size_is ∙ ap (λ b. king_base pawns * (64 * (base_of pawns men.one * (base_of pawns men.last * (2 * product (cond b (2 ∷ []) [])))))) targets
-      ∙ ap (λ n. king_base pawns * (64 * (n * (base_of pawns men.last * (2 * product (cond b (2 ∷ []) [])))))) (digit_on pawns men.one.side men.one.kind 0 is_of.one_beside).0
-      ∙ ap (λ n. king_base pawns * (64 * (one * (n * (2 * product (cond b (2 ∷ []) [])))))) ((digit_on pawns men.last.side men.last.kind 0 is_of.last_beside).0 ∙ sym len)
+  size_by b targets = grind (arith, size_is, king_base, base_of, last, product, digit_on, len)
 
   half_is : half_of c ≡ fronts * (2 * places c)
   half_is = of_targets c

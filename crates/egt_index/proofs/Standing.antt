@@ -1,11 +1,11 @@
 -- The men of a class found on their squares.
 use Rattle.std.proofs.Common.{◌≡◌, ◌≢◌, ◌⊎◌, ℕ, ◌<◌, Bool, true, false, cond, List, [], ◌∷◌, ◌++◌, map, Option, Some}
 use Rattle.std.proofs.Common.{None, arith, refl, sym, ap, ◌∙◌, inl, inr, subst, ◌↔◌, IsTrue}
-use Rattle.egt_index.specs.Prelude.{option_to_list, option_map, cases_eq, false≢true, Side, White, Black, Kind, K, Man}
-use Rattle.egt_index.specs.Prelude.{king_of, HasBeside, StandsBeside, is_man, man_number, side_number, other_side}
-use Rattle.egt_index.specs.Prelude.{Placement, Stands, one_man, get-remove_same, get-remove_other, Setup, IsAdmissible}
-use Rattle.egt_index.specs.Prelude.{IsKingOn, turned_man, material_of, men_in, IsOf, tally, AreCounted, men_in_order}
-use Rattle.egt_index.specs.Prelude.{men_beside, Entry, Stood, Holds, IsOn, IsAmong, IsFirst, IsInNameOrder}
+use Rattle.egt_index.specs.Prelude.{option_to_list, option_map, cases_eq, Side, White, Black, K, Man, king_of}
+use Rattle.egt_index.specs.Prelude.{HasBeside, StandsBeside, is_man, other_side, Placement, Stands, one_man}
+use Rattle.egt_index.specs.Prelude.{get-remove_same, get-remove_other, Setup, IsAdmissible, IsKingOn, turned_man}
+use Rattle.egt_index.specs.Prelude.{material_of, men_in, IsOf, tally, AreCounted, men_in_order, men_beside, Entry}
+use Rattle.egt_index.specs.Prelude.{Stood, Holds, IsOn, IsAmong, IsFirst, IsInNameOrder}
 use Rattle.std.specs.FinMap as placement
 use Rattle.egt_index.proofs.Counted.{man_told, count_cons, counted_rest, first_is_there}
 use Rattle.egt_index.proofs.Tallied.{tests_alike, in_class}

@@ -1,11 +1,11 @@
 -- The digits of equal men in order make the least code of a position, and in the other order one that is not.
-use Rattle.std.proofs.Common.{◌≡◌, ℕ, ◌<◌, Bool, false, List, [], ◌∷◌, ◌++◌, map, Option, Some, None, arith, refl, sym}
-use Rattle.std.proofs.Common.{ap, ◌∙◌, inr, subst}
-use Rattle.egt_index.specs.Prelude.{option_map, option_to_list, White, Black, Man, king_of, men_of, Setup, IsAdmissible}
-use Rattle.egt_index.specs.Prelude.{Material, material_of, IsOf, SpellsAt, Beats, Keeps, AreBehind, Spells, square_of}
-use Rattle.egt_index.specs.Prelude.{placed, men_at, number_from, number_of, AreDigits, Facts, IsLeastCode, Picks}
-use Rattle.egt_index.specs.Prelude.{AreCounted, base_of, bases, men_bases, men_in_order, has_pawns, has_target, Entry}
-use Rattle.egt_index.specs.Prelude.{list_of, rest_of, men_among, AllStand, IsInOrder, IsTurn, Stand}
+use Rattle.std.proofs.Common.{◌≡◌, ℕ, ◌<◌, Bool, false, List, [], ◌∷◌, ◌++◌, map, Some, None, arith, refl, sym, ap, ◌∙◌}
+use Rattle.std.proofs.Common.{inr, subst}
+use Rattle.egt_index.specs.Prelude.{option_to_list, White, Black, Man, king_of, men_of, Setup, IsAdmissible, Material}
+use Rattle.egt_index.specs.Prelude.{material_of, IsOf, SpellsAt, Beats, Keeps, AreBehind, Spells, square_of, placed}
+use Rattle.egt_index.specs.Prelude.{men_at, number_from, number_of, AreDigits, Facts, IsLeastCode, Picks, AreCounted}
+use Rattle.egt_index.specs.Prelude.{base_of, bases, men_bases, men_in_order, has_pawns, has_target, Entry, list_of}
+use Rattle.egt_index.specs.Prelude.{rest_of, men_among, AllStand, IsInOrder, IsTurn, Stand}
 use Rattle.egt_index.proofs.After.{AreSorted, all_there, listed_there, ordered, picks_sorted, sorted_rest}
 use Rattle.egt_index.proofs.Coded.{ends_by, last_by, few_men, number_append, picks_code, placed_few}
 use Rattle.egt_index.proofs.Coding.{last_digits}

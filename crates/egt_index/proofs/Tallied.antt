@@ -1,9 +1,9 @@
 -- The men of a class in order are those that its sides have.
-use Rattle.std.proofs.Common.{◌≡◌, ℕ, ◌+◌, ◌*◌, false, cond, eqb, List, [], ◌∷◌, ◌++◌, map, count_by, arith, refl, sym}
-use Rattle.std.proofs.Common.{ap, ◌∙◌, inl, inr}
+use Rattle.std.proofs.Common.{◌≡◌, ℕ, ◌+◌, false, cond, eqb, List, [], ◌∷◌, ◌++◌, map, count_by, arith, refl, sym, ap}
+use Rattle.std.proofs.Common.{◌∙◌}
 use Rattle.egt_index.specs.Prelude.{eq-eqb, eqb_tells, sum_by-cons, sum_by-append, Side, White, Black, Kind, K, Man}
-use Rattle.egt_index.specs.Prelude.{kind_number, side_number, Material, material_of, is_kind, kinds_of, men_in}
-use Rattle.egt_index.specs.Prelude.{men_in_order, man_of, is_man, tally}
+use Rattle.egt_index.specs.Prelude.{side_number, Material, material_of, is_kind, kinds_of, men_in, men_in_order, man_of}
+use Rattle.egt_index.specs.Prelude.{is_man, tally}
 use Rattle.egt_board.proofs.Sides.{kind_few}
 
 -- equal tests of what is equal alike

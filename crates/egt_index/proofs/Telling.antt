@@ -1,5 +1,5 @@
 -- A code is the index of the position that it spells, or void.
-use Rattle.std.proofs.Common.{arith, ℕ, ◌<◌, ◌⊎◌, false, subst, inl, inr}
+use Rattle.std.proofs.Common.{ℕ, ◌<◌, ◌⊎◌, false, subst, inl, inr}
 use Rattle.egt_index.specs.Prelude.{cases_eq, Decided, Setup, material_of, Spells, decided_spelled, Facts, IsIndex}
 use Rattle.egt_index.specs.Prelude.{IsVoid}
 use Rattle.egt_index.proofs.Classes.{spells_class}

@@ -1,6 +1,5 @@
 -- What tests tell.
-use Rattle.std.proofs.Common.{◌≡◌, ◌⊎◌, ◌||◌, not, Bool, true, false, refl, inl, inr, arith}
-use Rattle.egt_index.specs.Prelude.{false≢true}
+use Rattle.std.proofs.Common.{◌≡◌, ◌⊎◌, ◌||◌, not, Bool, true, arith}
 
 pub implied : (a b : Bool) → a ≡ true → (not a || b) ≡ true → b ≡ true
 implied a b h e = grind arith

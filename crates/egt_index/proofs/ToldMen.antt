@@ -1,9 +1,8 @@
 -- What a code that tells some men spells has these men, and a position with these men is what it spells.
-use Rattle.std.proofs.Common.{◌≡◌, ℕ, ◌+◌, ◌-◌, Bool, true, false, List, Option, Some, None, IfSome, arith, sym}
-use Rattle.std.proofs.Common.{ap, ◌∙◌, subst}
-use Rattle.egt_index.specs.Prelude.{is_some, false≢true, FitsBoard, men_of, setup_of, other_side, HasPawnBeside, ahead}
-use Rattle.egt_index.specs.Prelude.{pawn_of, Placement, Stands, IsSettled, Setup, FitsTarget, IsTarget, Man, Side}
-use Rattle.egt_index.specs.Prelude.{White, Black, Spells, HasPawns, IsTold, TellsMen, HasStand, list_of, Stand}
+use Rattle.std.proofs.Common.{◌≡◌, ℕ, ◌+◌, ◌-◌, Bool, true, false, List, Option, Some, None, arith, sym, ap, ◌∙◌, subst}
+use Rattle.egt_index.specs.Prelude.{is_some, false≢true, FitsBoard, men_of, setup_of, ahead, pawn_of, Placement, Stands}
+use Rattle.egt_index.specs.Prelude.{IsSettled, Setup, FitsTarget, IsTarget, Man, Side, White, Black, Spells, HasPawns}
+use Rattle.egt_index.specs.Prelude.{IsTold, TellsMen, HasStand, list_of, Stand}
 use Rattle.egt_index.proofs.After.{all_apart}
 use Rattle.egt_index.proofs.AtIndex.{target_exists}
 use Rattle.egt_index.proofs.Decoded.{has_pawns_list, spelled_setup}

@@ -1,9 +1,8 @@
 -- Kings on neighbouring squares attack one another, so no code spells a position with them there.
-use Rattle.std.proofs.Common.{◌≡◌, ◌≢◌, ◌⊎◌, ℕ, ◌+◌, ◌<◌, ◌≤◌, ◌%◌, ◌/◌, Bool, true, false, arith, refl, sym, subst}
-use Rattle.std.proofs.Common.{inl, inr}
+use Rattle.std.proofs.Common.{◌≡◌, ◌≢◌, ◌⊎◌, ℕ, ◌+◌, ◌<◌, ◌≤◌, ◌/◌, Bool, arith, refl, sym, subst}
 use Rattle.egt_index.specs.Prelude.{cases_eq, Side, White, Black, Step, king_of, IsInCheck, Reaches, Rides, Placement}
-use Rattle.egt_index.specs.Prelude.{IsFree, Stands, HasKings, IsKingOn, Setup, Away, material_of, Spells, row_len}
-use Rattle.egt_index.specs.Prelude.{SpellsMen, AllStand, AreNear, HasStand, list_of, Stand}
+use Rattle.egt_index.specs.Prelude.{IsFree, IsKingOn, Setup, Away, material_of, Spells, row_len, SpellsMen, AreNear}
+use Rattle.egt_index.specs.Prelude.{HasStand, list_of, Stand}
 use Rattle.egt_index.proofs.RowMen.{apart_in_row, men_on_row}
 use Rattle.egt_index.proofs.Setups.{kings_spelled}
 

@@ -1,13 +1,12 @@
 -- The code of each image of a settled position, in the colours of the class.
 use Rattle.std.proofs.Common.{◌≡◌, ℕ, ◌<◌, ◌≤◌, ◌⊎◌, ◌&&◌, ◌||◌, not, Bool, true, false, cond, ltb, eqb, Option, Some}
 use Rattle.std.proofs.Common.{None, IfSome, arith, refl, sym, ap, ◌∙◌, inl, inr, subst}
-use Rattle.egt_index.specs.Prelude.{is_some, cases_lt, lt-ltb, and_from, and_parts, eqb-true, Side, White}
-use Rattle.egt_index.specs.Prelude.{Black, Kind, P, Man, Colours, other_side, man_by, pawn_of, ahead, HasPawnBeside}
-use Rattle.egt_index.specs.Prelude.{HasNoPawn, Placement, Stands, Setup, IsAdmissible, IsSettled, SettlesTo, FitsTarget}
-use Rattle.egt_index.specs.Prelude.{IsTarget, KeepsPlay, SameMen, ExchangedMen, count_of, IsTurnedBy, turned_side}
-use Rattle.egt_index.specs.Prelude.{all_below, passes_below, material_of, materials, kinds_of, count_in, men_in, IsOf}
-use Rattle.egt_index.specs.Prelude.{men_in_order, has_pawns, has_target, HasTargetDigit, AreCounted, Facts, HasStand}
-use Rattle.egt_index.specs.Prelude.{Stood, list_of, Stand}
+use Rattle.egt_index.specs.Prelude.{is_some, cases_lt, lt-ltb, and_from, eqb-true, Side, White, Black, P, Man, Colours}
+use Rattle.egt_index.specs.Prelude.{other_side, man_by, pawn_of, ahead, HasPawnBeside, HasNoPawn, Placement, Stands}
+use Rattle.egt_index.specs.Prelude.{Setup, IsAdmissible, IsSettled, SettlesTo, FitsTarget, IsTarget, KeepsPlay, SameMen}
+use Rattle.egt_index.specs.Prelude.{ExchangedMen, count_of, IsTurnedBy, turned_side, all_below, passes_below}
+use Rattle.egt_index.specs.Prelude.{material_of, materials, men_in, IsOf, men_in_order, has_pawns, has_target}
+use Rattle.egt_index.specs.Prelude.{HasTargetDigit, AreCounted, Facts, HasStand, Stood, list_of, Stand}
 use Rattle.egt_index.proofs.Counted.{counted_some}
 use Rattle.egt_index.proofs.Tallied.{in_class}
 use Rattle.egt_index.proofs.Tested.{implied}

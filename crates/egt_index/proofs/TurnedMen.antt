@@ -335,10 +335,7 @@ coded_by passed c t n i flips after side t_in number colours keeps tells = recor
 }
 
 either_colours : (flips turns : Bool) → (turns ≡ flips) ⊎ ((turns ≡ not flips) × (differ flips turns ≡ true))
-either_colours true true = inl refl
-either_colours false false = inl refl
-either_colours true false = inr (refl, refl)
-either_colours false true = inr (refl, refl)
+either_colours h0 h1 = grind arith
 
 -- what is the index of a position with the men
 pub index_told : Facts → (passed : Bool) (c i : ℕ) (flips : Bool) (stand : Stand) (side : Side) (q : Setup) → c < 36 → IsFilled stand → HasStand c flips stand side passed q → IsIndex c q i → IsSomeTurnedCodeWith passed c i flips stand side

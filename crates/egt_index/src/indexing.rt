@@ -5,10 +5,11 @@ ghost use Rattle.egt_index.specs.Prelude.{has_equal_sides, IsOf, LeastWith, IsIn
 
 use crate::codes::{number_behind, with_side};
 use crate::digits::king_digit;
+use crate::equal_men::stand_after;
 use crate::facts::facts;
 use crate::home::home;
 use crate::men::{has_equal_sides, has_pawns};
-use crate::stand::{Stand, Standing, exchanged, man_of, stand_after, standing_by, standing_of};
+use crate::stand::{Stand, Standing, exchanged, man_of, standing_by, standing_of};
 use egt_board::{Man, Position, Side, Square};
 use egt_class::laws::men_beside_are_counted;
 use egt_class::{Class, of_men};

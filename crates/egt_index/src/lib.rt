@@ -4,6 +4,7 @@
 pub mod codes;
 pub mod decoding;
 pub mod digits;
+pub mod equal_men;
 pub mod facts;
 pub mod front;
 pub mod home;

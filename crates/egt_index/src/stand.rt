@@ -1,10 +1,10 @@
 //! The men of a class on their squares.
-ghost use Rattle.std.specs.Prelude.{◌≡◌, ◌<◌, ◌%◌, ◌/◌, ◌==◌, ◌↔◌, IsTrue, IfSome, Bool, true, false, None};
+ghost use Rattle.std.specs.Prelude.{◌≡◌, ◌<◌, ◌%◌, ◌/◌, ◌==◌, ◌↔◌, IsTrue, IfSome, Bool, None};
 ghost use Rattle.std.specs.Prelude.{if◌then◌else◌};
 ghost use Rattle.egt_index.specs.Prelude.{option_to_list, option_map, HasAllMen, Setup, IsAdmissible, turned_man};
 ghost use Rattle.egt_index.specs.Prelude.{IsOf, Stood, Holds, IsOn, IsAmong, IsFirst, list_of};
 ghost use Rattle.egt_index.specs.Prelude.{before_last, with_last, IsOff, AllApart, AreNear, entry_after, on_square_of};
-ghost use Rattle.egt_index.specs.Prelude.{IsInOrder, IsOrdered, AreExchanged, IsTurned, IsStandAfter};
+ghost use Rattle.egt_index.specs.Prelude.{IsTurned};
 
 use crate::facts::facts;
 use crate::men::non_kings;
@@ -189,17 +189,6 @@ fn entry_after(entry: Option<(Man, Square)>, turn: u8) -> Option<(Man, Square)>
     }
 }
 
-/// Whether the men beside the kings are equal and the last stands on the lesser square.
-fn is_behind(stand: &Stand) -> bool
-    ensures behind { result ≡ true → AreExchanged stand.now.next stand.now.last }
-    ensures in_order { result ≡ false → IsInOrder stand.now.next stand.now.last }
-{
-    match (stand.next, stand.last) {
-        (Some(first), Some(second)) => first.0 == second.0 && second.1.number() < first.1.number(),
-        _ => false,
-    }
-}
-
 /// Where the turn takes the men.
 pub(crate) fn turned(stand: &Stand, turn: u8) -> Stand
     requires { turn < 16 }
@@ -211,38 +200,6 @@ pub(crate) fn turned(stand: &Stand, turn: u8) -> Stand
         next: entry_after(stand.next, turn),
         last: entry_after(stand.last, turn),
     }
-}
-
-/// The men on their squares, of two equal men the one on the lesser square first.
-pub(crate) fn ordered(stand: &Stand) -> Stand
-    ensures white { result.white ≡ stand.now.white }
-    ensures black { result.black ≡ stand.now.black }
-    ensures both { IsOrdered stand.now.next stand.now.last result.next result.last }
-    ensures in_order { IsInOrder result.next result.last }
-{
-    if is_behind(stand) {
-        Stand {
-            white: stand.white,
-            black: stand.black,
-            next: stand.last,
-            last: stand.next,
-        }
-    } else {
-        Stand {
-            white: stand.white,
-            black: stand.black,
-            next: stand.next,
-            last: stand.last,
-        }
-    }
-}
-
-/// Where the turn takes the men, of two equal men the one on the lesser square first.
-pub(crate) fn stand_after(stand: &Stand, turn: u8) -> Stand
-    requires { turn < 16 }
-    ensures { IsStandAfter (turn % 8) (turn / 8 == 1) stand.now result }
-{
-    ordered(&turned(stand, turn))
 }
 
 /// The man of the one entry on the square of the other, if there are both.

@@ -25,12 +25,7 @@ lane m r = bit_or (less (chosen (below r 127) 127 r) 127) (less (sign m) (sign r
 
 near_of : (m r : ℕ) → r < 65536 → lane m r ≡ 0 → IsVoidOrNear m r
 unfolding lane
-near_of m r r_in none =
-    let over = le_or_l (less (chosen (below r 127) 127 r) 127) (less (sign m) (sign r)) in
-    let apart = le_or_r (less (chosen (below r 127) 127 r) 127) (less (sign m) (sign r)) in
-    let low = none_over r 127 r_in (omega arith) (omega (arith, over, none)) in
-    let same : min m 1 ≡ min r 1 = omega (arith, apart, none, sign_is m, sign_is r) in
-    (omega (arith, low), (λ e. omega (arith, e, same), λ e. omega (arith, e, same)))
+near_of m r r_in none = grind (arith, le_or_l, less, chosen, below, sign, le_or_r, none_over, sign_is)
 
 pub near_at : (xs ys : List ℕ) (i : ℕ) → i < length xs → length ys ≡ length xs → Each1 (Fits w16) ys → get_or (far (length xs) xs ys) i 0 ≡ 0 → IsVoidOrNear (get_or xs i 0) (get_or ys i 0)
 unfolding lane sign

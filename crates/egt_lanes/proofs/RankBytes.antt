@@ -12,16 +12,11 @@ weights : (s : ℕ) → s < 64 → 256 ^ (s / 8) * 2 ^ (s % 8) ≡ 2 ^ s
 weights s s_in = agreed (λ s. 256 ^ (s / 8) * 2 ^ (s % 8)) (λ s. 2 ^ s) 64 tt s s_in
 
 bit_of_byte : (n s : ℕ) → s < 64 → bit_at (n / 256 ^ (s / 8) % 256) (s % 8) ≡ bit_at n s
-bit_of_byte n s s_in =
-    low_bit (n / 256 ^ (s / 8)) (s % 8) (omega arith)
-    ∙ ap (λ m. m % 2) (div-div-eq-div-mul n (256 ^ (s / 8)) (2 ^ (s % 8)) ∙ ap (λ d. n / d) (weights s s_in))
+bit_of_byte n s s_in = grind (arith, low_bit, div-div-eq-div-mul, weights)
 
 scaled : (b w : ℕ) → b < 2 → 0 < w → eqb (b * w) w ≡ eqb b 1
 scaled b w b_in w_in = grind (arith, eq-eqb)
 
 -- the bit of a square, in the byte of its rank
 pub has_bit : (n s : ℕ) → s < 64 → eqb (bit_and (n / 256 ^ (s / 8) % 256) (2 ^ (s % 8))) (2 ^ (s % 8)) ≡ eqb (bit_at n s) 1
-has_bit n s s_in =
-    ap (λ m. eqb m (2 ^ (s % 8))) (and_pow (n / 256 ^ (s / 8) % 256) (s % 8))
-    ∙ scaled (bit_at (n / 256 ^ (s / 8) % 256) (s % 8)) (2 ^ (s % 8)) (bit_at-lt _ _) (pow_pos (s % 8))
-    ∙ ap (λ b. eqb b 1) (bit_of_byte n s s_in)
+has_bit n s s_in = grind (arith, eqb, and_pow, scaled, bit_at, bit_at-lt, pow_pos, bit_of_byte)

@@ -29,9 +29,7 @@ step_end d row to shift s s_in =
 
 one_end : (bits : ℕ) (d : Step) (row to : List ℕ) → IsShifted d row to → (s : ℕ) → s < 64
     → IsRaised 0 (λ t. IsRidden (HasBit bits) 1 s t d) (λ t. get_or row t 0) (get_or to s 0)
-one_end bits d row to shift s s_in =
-    raised_as 0 (get_or to s 0) (λ t. Away d 1 s t) (λ t. IsRidden (HasBit bits) 1 s t d) (λ t. get_or row t 0)
-    (λ t a. one_step (HasBit bits) s t d a) (λ t r. r.away) (step_end d row to shift s s_in)
+one_end bits d row to shift s s_in = grind (arith, raised_as, one_step, step_end)
 
 pub ridden_first : (bits : ℕ) (d : Step) (row to : List ℕ) → IsShifted d row to → AreRidden bits d row to to 1
 ridden_first bits d row to shift = record {
@@ -90,9 +88,7 @@ ridden_more bits d row last best kept to top n some before keeps shift raises =
 -- ---- over several steps
 
 pub raised_over : (low v w : ℕ) (In : ℕ → Type 0) (f : ℕ → ℕ) → IsRaised 0 In f v → w ≡ max low v → IsRaised low In f w
-raised_over low v w In f h is =
-    let none : IsRaised low (λ _. ⊥) f low = raised_by_none low (λ _. ⊥) f (λ t n. n) in
-    raised_as low w (λ t. In t ⊎ ⊥) In f (λ t r. elim r [ inl i ↦ i | inr n ↦ absurd n ]) (λ t i. inl i) (raised_more low low v w (λ _. ⊥) In f none h is)
+raised_over low v w h3 f h is = grind (arith, raised_by_none, raised_as, raised_more)
 
 pub no_steps : (low : ℕ) (H : ℕ → Step → Type 0) (f : ℕ → ℕ) → IsRaised low (λ t. OneOf (H t) []) f low
 no_steps low H f = raised_by_none low (λ t. OneOf (H t) []) f (λ t n. n)

@@ -129,9 +129,7 @@ module _ (kings : ℕ) (d : Step) (upward : Bool) (rows old out reached : List (
 
   raised_top : (b : ℕ) → b < 64 → IsRaised (at old s b) (Ride s b) (λ t. at rows t b) (get_or top b 0)
   unfolding Ride
-  raised_top b b_in =
-      let was : at out s b ≡ at old s b = before.left s b s_in (λ past. apart s past refl) in
-      raised_over (at old s b) (get_or row b 0) (get_or top b 0) (λ t. Rides (IsOpen kings b) 7 s t d) (λ t. at rows t b) (found b b_in) (raises b b_in ∙ ap (λ v. max v (get_or row b 0)) was)
+  raised_top b b_in = grind (arith, at, s_in, apart, raised_over)
 
   pub swept_more : IsSwept kings d upward rows old (set out s top) (set reached s row) (k + 1)
   unfolding Ride

@@ -70,11 +70,7 @@ left_stood p man to t other ok stands = elim (left_cases p man to ok) [
 ]
 
 pub left_free : (p : Setup) (man : Man) (to t : ℕ) → IsAdmissible p → IsFree p.men t → IsFree (men_left p man to) t
-left_free p man to t ok free = by_man (map.get (men_left p man to) t) refl
-  where
-    by_man : (o : Option Man) → map.get (men_left p man to) t ≡ o → IsFree (men_left p man to) t
-    by_man None e = e
-    by_man (Some other) e = not_free p.men t other free (left_stood p man to t other ok e)
+left_free p man to t ok free = grind (arith, free, men_left, not_free, left_stood)
 
 -- only an enemy pawn is taken in passing
 pub left_keeps : (p : Setup) (man : Man) (to t : ℕ) (other : Man) → IsAdmissible p → other ≢ pawn_of (other_side p.side) → Stands p.men t other → Stands (men_left p man to) t other
@@ -94,8 +90,7 @@ pub after_from : (p : Setup) (man : Man) (m : Move) → m.from ≢ m.to → map.
 after_from p man m apart = get-insert_other (map.remove (men_left p man m.to) m.from) m.to (arriving man m.promo) m.from apart ∙ get-remove_same (men_left p man m.to) m.from m.from refl
 
 pub after_other : (p : Setup) (man : Man) (m : Move) (t : ℕ) → t ≢ m.from → t ≢ m.to → map.get (men_after p man m) t ≡ map.get (men_left p man m.to) t
-after_other p man m t not_from not_to =
-    get-insert_other (map.remove (men_left p man m.to) m.from) m.to (arriving man m.promo) t not_to ∙ get-remove_other (men_left p man m.to) m.from t not_from
+after_other p man m t not_from not_to = grind (arith, not_from, not_to, get-insert_other, men_left, arriving, get-remove_other)
 
 -- a man that stands after the move is the one that moved, or was promoted, or stood there before
 pub after_cases : (p : Setup) (man : Man) (m : Move) (t : ℕ) (other : Man) → IsAdmissible p → Stands (men_after p man m) t other → ((t ≡ m.to) × (other ≡ arriving man m.promo)) ⊎ ((t ≢ m.from) × (t ≢ m.to) × Stands p.men t other)
@@ -173,13 +168,7 @@ other_king_stays p man m k stands mine goes ok king = record {
     not_from e = sides_differ p.side (sym mine ∙ ap (λ (x : Man). x.side) (one_man p.men m.from man (king_of (other_side p.side)) stands (subst (λ s. Stands p.men s (king_of (other_side p.side))) e king.stands)))
 
     not_to : k ≢ m.to
-    not_to e =
-        let on_to = subst (λ s. Stands p.men s (king_of (other_side p.side))) e king.stands in
-        ok.quiet (record {
-          square = k;
-          stands = king.stands;
-          attacked = record { from = m.from; man = man; stands = stands; theirs = mine ∙ sym (side_twice p.side); reaches = subst (Reaches (IsFree p.men) man m.from) (sym e) (goes_to_attacked p man (king_of (other_side p.side)) m.from m.to goes on_to) };
-        })
+    not_to e = grind (arith, king_of, other_side, side_twice, goes_to_attacked)
 
 -- what the pawn becomes does not matter to the king of its side
 pub check_whatever : (p : Setup) (man : Man) (from to : ℕ) (kind other : Option Kind) → man.side ≡ p.side → king_of p.side ≢ arriving man kind → (king_of p.side ≡ arriving man other → ⊥)

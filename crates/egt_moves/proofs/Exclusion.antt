@@ -1,6 +1,6 @@
 -- Where checkmate leaves no step, a position is won, lost or neither, and its value is one.
 use Rattle.std.proofs.Common.{◌≡◌, ℕ, zero, suc, ◌≤◌, inl, inr, refl, ap, arith}
-use Rattle.egt_moves.specs.Arena.{Arena, Value, Win, Loss, Draw, Ends, IsMatedWithin, MatesWithin, AvoidsMateFor, CannotMateWithin, HasValue}
+use Rattle.egt_moves.specs.WinLossDraw.{Arena, Value, Win, Loss, Draw, Ends, IsMatedWithin, MatesWithin, AvoidsMateFor, CannotMateWithin, HasValue}
 use Rattle.egt_moves.proofs.Bounds.{win_mates, loss_mated, win_is_least, loss_is_least, mated_not_avoids, mates_not_cannot}
 
 module _ {S : Type 0} (a : Arena S) (ends : Ends a) where

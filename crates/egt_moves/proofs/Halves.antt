@@ -2,7 +2,7 @@
 use Rattle.std.proofs.Common.{ℕ, zero, suc, ◌≤◌, ◌⊎◌, inl, inr, subst, arith, Option, Some, None}
 use Rattle.std.specs.List.{Any, AllByRecursion}
 use Rattle.std.proofs.Math.Logic.{⊎_map, ⊎_swap}
-use Rattle.egt_moves.specs.Arena.{Arena, Value, Win, Loss, HasMove, NoMove, SomeMove, EachMove, IsMatedWithin, MatesWithin, AvoidsMateFor, CannotMateWithin, IsWon, HasValue, AnswersWithin, Next, SameStep, Successors}
+use Rattle.egt_moves.specs.WinLossDraw.{Arena, Value, Win, Loss, HasMove, NoMove, SomeMove, EachMove, IsMatedWithin, MatesWithin, AvoidsMateFor, CannotMateWithin, IsWon, HasValue, AnswersWithin, Next, SameStep, Successors}
 use Rattle.egt_moves.proofs.Bounds.{mates_more}
 use Rattle.egt_moves.proofs.Among.{each_or_some, found_among, common}
 

@@ -1,6 +1,6 @@
 -- How play goes on: a win to a loss one ply less, a loss to a win one ply less or sooner.
 use Rattle.std.proofs.Common.{ℕ, zero, suc, ◌⊎◌, inl, inr}
-use Rattle.egt_moves.specs.Arena.{Arena, Win, Loss, NoMove, SomeMove, EachMove, MatesWithin, CannotMateWithin, IsMatedWithin, AvoidsMateFor, HasValue}
+use Rattle.egt_moves.specs.WinLossDraw.{Arena, Win, Loss, NoMove, SomeMove, EachMove, MatesWithin, CannotMateWithin, IsMatedWithin, AvoidsMateFor, HasValue}
 use Rattle.egt_moves.proofs.Bounds.{not_mated}
 use Rattle.std.proofs.Common.{arith}
 

@@ -1,11 +1,11 @@
 -- What a legal move does to the counts of men.
-use Rattle.std.proofs.Common.{◌≡◌, ◌≢◌, ℕ, ◌+◌, ◌<◌, Option, Some, None, IfSome, true, false, Bool, refl}
-use Rattle.std.proofs.Common.{sym, ap, ◌∙◌, inl, inr, subst, if◌then◌else◌, arith}
-use Rattle.egt_moves.specs.Prelude.{IsSome, is_some, and_parts, Side, Kind}
-use Rattle.egt_moves.specs.Prelude.{P, K, Man, other_side, rank_of, Placement, Stands, get-remove_other, ahead, pawn_of}
-use Rattle.egt_moves.specs.Prelude.{last_rank, IsTarget, target_rank, Setup, IsAdmissible, count_of}
-use Rattle.egt_moves.specs.Prelude.{stands_here, side_twice, Move, Captures, Exchanges, is_pawn, promotes}
-use Rattle.egt_moves.specs.Prelude.{IsOfficer, FitsPromotion, arriving, is_target, takes_in_passing, men_left, Leads}
+use Rattle.std.proofs.Common.{◌≡◌, ◌≢◌, ℕ, ◌+◌, ◌<◌, Option, Some, None, IfSome, true, false, Bool, refl, sym, ap, ◌∙◌}
+use Rattle.std.proofs.Common.{inl, inr, if◌then◌else◌, arith}
+use Rattle.egt_moves.specs.Prelude.{IsSome, is_some, and_parts, Side, Kind, P, K, Man, other_side, rank_of, Placement}
+use Rattle.egt_moves.specs.Prelude.{Stands, get-remove_other, ahead, pawn_of, last_rank, IsTarget, target_rank, Setup}
+use Rattle.egt_moves.specs.Prelude.{IsAdmissible, count_of, stands_here, side_twice, Move, Captures, Exchanges, is_pawn}
+use Rattle.egt_moves.specs.Prelude.{promotes, IsOfficer, FitsPromotion, arriving, is_target, takes_in_passing, men_left}
+use Rattle.egt_moves.specs.Prelude.{Leads}
 use Rattle.std.specs.FinMap as map
 use Rattle.egt_moves.proofs.After.{one_man, not_free, target_is, goes_on_board, goes_not_own}
 use Rattle.egt_moves.proofs.Admissible.{pawn_told}
@@ -51,13 +51,7 @@ module _ (changes : Changes) (p q : Setup) (m : Move) (ok : IsAdmissible p) (ste
   -- the men that are left, with the man that stood on the square arrived at
   counted : (o : Option Man) → map.get left m.from ≡ Some step.man → map.get left m.to ≡ o → (other : Man)
       → count_of q.men other + stands_here other o + stands_here other (Some step.man) ≡ count_of left other + stands_here other (Some (arriving step.man m.promo))
-  counted o from to other =
-      let cleared = changes.cleared left m.from other from_in in
-      let put = changes.put (map.remove left m.from) m.to (arriving step.man m.promo) other to_in in
-      let there : stands_here other (map.get left m.from) ≡ stands_here other (Some step.man) = ap (stands_here other) from in
-      let stood : stands_here other (map.get (map.remove left m.from) m.to) ≡ stands_here other o = ap (stands_here other) (get-remove_other left m.from m.to apart ∙ to) in
-      let after : count_of q.men other ≡ count_of (map.insert (map.remove left m.from) m.to (arriving step.man m.promo)) other = ap (λ (r : Setup). count_of r.men other) step.becomes in
-      omega arith
+  counted o from to other = grind (arith, from_in, arriving, to_in, stands_here, get-remove_other, apart, count_of)
 
   -- a man on the square arrived at is an enemy, and no king
   enemy : (other : Man) → Stands p.men m.to other → (other.side ≡ other_side p.side) × (other.kind ≢ K)
@@ -65,10 +59,7 @@ module _ (changes : Changes) (p q : Setup) (m : Move) (ok : IsAdmissible p) (ste
 
   promoted_if : (taken : Option Man) → (rank_of m.to ≡ last_rank step.man.side → IfSome taken (λ other. other.kind ≢ P)) → (promo : Option Kind) → m.promo ≡ promo
       → IfSome promo (λ kind. (step.man.kind ≡ P) × IsOfficer kind × IfSome taken (λ other. other.kind ≢ P))
-  promoted_if taken last None e = tt
-  promoted_if taken last (Some kind) e =
-      let told = promotion_told step.man m.to kind (subst (FitsPromotion (promotes step.man m.to)) e step.promotion) in
-      (told.0, told.1, last told.2)
+  promoted_if taken last h2 e = grind (arith, promotion_told, promotes)
 
   -- nothing is taken in passing
   module _ (none : takes_in_passing p step.man m.to ≡ false) where

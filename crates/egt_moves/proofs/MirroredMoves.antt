@@ -1,18 +1,17 @@
 -- In a mirror each legal move has its like.
-use Rattle.std.proofs.Common.{◌≡◌, ◌≢◌, ℕ, ◌+◌, ◌/◌, ◌<◌, Bool, true, false, if◌then◌else◌}
-use Rattle.std.proofs.Common.{Option, Some, None, arith, refl, sym, ap, ◌∙◌, subst, inl, inr}
+use Rattle.std.proofs.Common.{◌≡◌, ◌≢◌, ℕ, ◌<◌, Bool, true, false, if◌then◌else◌, Option, Some, None, arith, refl, sym}
+use Rattle.std.proofs.Common.{ap, ◌∙◌, subst, inl, inr}
 use Rattle.egt_moves.specs.Prelude.{option_map, cases_eq, false≢true, and_parts, eqb_tells, Mirror, Files, Ranks}
-use Rattle.egt_moves.specs.Prelude.{Diagonal, Colours, Side, Kind, P, Man, other_side}
-use Rattle.egt_moves.specs.Prelude.{rank_of, Placement, Stands, IsFree, IsHeld, get-remove_same, get-remove_other}
-use Rattle.egt_moves.specs.Prelude.{ahead, HasNoPawn, king_of, IsAttacked, IsInCheck, Setup, IsAdmissible}
-use Rattle.egt_moves.specs.Prelude.{square_by, side_by, man_by, IsMirrored, Allows, Move, chess, Zeroes, Goes, is_pawn}
-use Rattle.egt_moves.specs.Prelude.{promotes, FitsPromotion, arriving, Leads, is_target, takes_in_passing, men_left}
-use Rattle.egt_moves.specs.Prelude.{men_after, is_two_ranks, passed, after, Alike, HasLike, AreMirrored, IsCheckmate}
-use Rattle.egt_moves.specs.Prelude.{goes_on_board}
+use Rattle.egt_moves.specs.Prelude.{Diagonal, Colours, Side, Kind, Man, other_side, rank_of, Placement, Stands, IsFree}
+use Rattle.egt_moves.specs.Prelude.{IsHeld, get-remove_same, get-remove_other, ahead, HasNoPawn, king_of, IsAttacked}
+use Rattle.egt_moves.specs.Prelude.{IsInCheck, Setup, IsAdmissible, square_by, side_by, man_by, IsMirrored, Allows}
+use Rattle.egt_moves.specs.Prelude.{Move, chess, Zeroes, Goes, is_pawn, promotes, FitsPromotion, arriving, Leads}
+use Rattle.egt_moves.specs.Prelude.{is_target, takes_in_passing, men_left, men_after, is_two_ranks, passed, after}
+use Rattle.egt_moves.specs.Prelude.{Alike, HasLike, AreMirrored, IsCheckmate, goes_on_board}
 use Rattle.std.specs.FinMap as map
 use Rattle.egt_board.specs.MirrorLaws as mirrors
 use Rattle.egt_moves.proofs.After.{target_is, after_to, after_from, after_other, after_cases}
-use Rattle.egt_moves.proofs.Admissible.{admissible_after, arrived_pawn, pawn_told, Forward, Leap}
+use Rattle.egt_moves.proofs.Admissible.{admissible_after, arrived_pawn, pawn_told}
 
 -- a mirror that the men allow is allowed by their image
 allows_by : (m : Mirror) (men men' : Placement) → mirrors.ShowsMen m men men' → mirrors.OnBoard men' → Allows m men → Allows m men'
@@ -195,11 +194,6 @@ no_pawn_after p man x ok stands fits none s other there pawn = grind (arith, aft
 
 allows_after : (m : Mirror) (p : Setup) (man : Man) (x : Move) → IsAdmissible p → Stands p.men x.from man → FitsPromotion (promotes man x.to) x.promo → Allows m p.men → Allows m (men_after p man x)
 allows_after m p man x ok stands fits allows = grind (arith, no_pawn_after)
-
--- the square halfway of an advance by two, in the mirror
-halfway_there : (m : Mirror) (F : ℕ → Type 0) (side : Side) (from to : ℕ) → mirrors.Suits m P → Leap F side from to → (square_by m from + square_by m to) / 2 ≡ square_by m ((from + to) / 2)
-unfolding Forward
-halfway_there m F side from to suits l = grind arith
 
 -- the square that a pawn passes, here and in the mirror
 passed_there : (m : Mirror) (p : Setup) (man : Man) (from to : ℕ) → mirrors.Suits m man.kind → from < 64 → Goes p man from to → passed (man_by m man) (square_by m from) (square_by m to) ≡ option_map (square_by m) (passed man from to)

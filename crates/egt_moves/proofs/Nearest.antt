@@ -1,9 +1,8 @@
 -- The nearest checkmate by legal steps of both sides: a least number, that entries which fit show, and that positions which play alike share.
-use Rattle.std.proofs.Common.{◌≡◌, ℕ, zero, suc, ◌≤◌, ◌<◌, ◌⊎◌, ◌↔◌, inl, inr, refl, subst, ap, arith, ◌∙◌}
-use Rattle.std.proofs.Common.{Option, Some, None}
+use Rattle.std.proofs.Common.{◌≡◌, ℕ, zero, suc, ◌≤◌, ◌<◌, ◌⊎◌, ◌↔◌, inl, inr, refl, subst, arith, Option, Some, None}
 use Rattle.egt_moves.specs.Prelude.{⊎_elim, ⊎_swap, cases_lt, Arena, SomeMove, EachMove, IsStalemate, IsMatedWithin}
-use Rattle.egt_moves.specs.Prelude.{MatesWithin, IsDraw, Successors, Alike, ReachesMateWithin}
-use Rattle.egt_moves.specs.Prelude.{IsDead, HasReach, FitsReach, ReachJudgedOver}
+use Rattle.egt_moves.specs.Prelude.{MatesWithin, IsDraw, Successors, Alike, ReachesMateWithin, IsDead, HasReach}
+use Rattle.egt_moves.specs.Prelude.{FitsReach, ReachJudgedOver}
 use Rattle.egt_moves.proofs.Likeness.{alike_backwards}
 use Rattle.egt_moves.proofs.Halves.{each_or_some_move, mated_or_avoids, mates_or_cannot}
 
@@ -162,13 +161,7 @@ module _ {S : Type 0} (a : Arena S) (Own : S → Type 0) (e : S → Option ℕ) 
       least n p o none s = at (e s.0) refl
         where
           at : (x : Option ℕ) → e s.0 ≡ x → (q : S) × (m : a.Move p q) × (e q ≡ Some n)
-          at (Some k) is =
-              let h = subst (HasReach a s.0) is (next p s.0 o s.1) in
-              let le : k ≤ n = least_reach a k n s.0 h s.2 in
-              let ge : n ≤ k = no_less n k p s.0 none s.1 h.0 in
-              let same : k ≡ n = omega arith in
-              (s.0, s.1, is ∙ ap Some same)
-          at None is = absurd (subst (HasReach a s.0) is (next p s.0 o s.1) n s.2)
+          at h0 is = grind (arith, next, least_reach, no_less, none)
 
       go : (p : S) → Own p → (x : Option ℕ) → HasReach a p x → FitsReach a e p x
       go p o (Some zero) h = h.0

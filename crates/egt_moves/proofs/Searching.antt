@@ -1,6 +1,6 @@
 -- How the answer of a search of n + 1 plies comes from those of n plies about the successors.
 use Rattle.std.proofs.Common.{◌≡◌, ℕ, zero, suc, inl, refl, ap, Option, Some, None}
-use Rattle.egt_moves.specs.Arena.{Arena, Value, Win, Loss, Draw, IsStalemate, Ends, AvoidsMateFor, AnswersWithin}
+use Rattle.egt_moves.specs.WinLossDraw.{Arena, Value, Win, Loss, Draw, IsStalemate, Ends, AvoidsMateFor, AnswersWithin}
 use Rattle.egt_moves.proofs.Bounds.{win_mates, loss_mated, mated_more, mates_more, mated_not_avoids, mates_not_cannot}
 use Rattle.egt_moves.proofs.Exclusion.{one_value}
 

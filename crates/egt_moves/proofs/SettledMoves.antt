@@ -1,11 +1,9 @@
 -- A target that no pawn stands ready to take changes no move.
-use Rattle.std.proofs.Common.{◌≡◌, ◌≢◌, ℕ, ◌≤◌, ◌⊎◌, ◌↔◌, Some}
-use Rattle.std.proofs.Common.{arith, sym, ◌∙◌, subst, inl, inr}
-use Rattle.egt_moves.specs.Prelude.{cases_eq, Side, White, Black, P, Man, other_side, rank_of, Stands}
-use Rattle.egt_moves.specs.Prelude.{ahead, home_rank, farthest_advance, Advances}
-use Rattle.egt_moves.specs.Prelude.{target_rank, Setup, IsAdmissible, IsSettled, untargeted}
-use Rattle.egt_moves.specs.Prelude.{SettlesTo, Move, chess, Zeroes, Goes, arriving, Leads, after}
-use Rattle.egt_moves.specs.Prelude.{Alike, KeepsSteps, IsCheckmate}
+use Rattle.std.proofs.Common.{◌≡◌, ◌≢◌, ℕ, ◌≤◌, ◌⊎◌, ◌↔◌, Some, arith, sym, ◌∙◌, subst, inl, inr}
+use Rattle.egt_moves.specs.Prelude.{cases_eq, Side, P, Man, other_side, rank_of, Stands, ahead, home_rank}
+use Rattle.egt_moves.specs.Prelude.{farthest_advance, Advances, target_rank, Setup, IsAdmissible, IsSettled, untargeted}
+use Rattle.egt_moves.specs.Prelude.{SettlesTo, Move, chess, Zeroes, Goes, arriving, Leads, after, Alike, KeepsSteps}
+use Rattle.egt_moves.specs.Prelude.{IsCheckmate}
 use Rattle.std.specs.FinMap as map
 use Rattle.egt_moves.proofs.After.{target_is}
 use Rattle.egt_moves.proofs.Admissible.{Forward, advances_forward, from_home}
@@ -17,25 +15,11 @@ farthest_two side s = grind (arith, rank_of, home_rank)
 -- a pawn that advances to the target comes from the square of the pawn that advanced
 pub advances_from : (F : ℕ → Type 0) (side : Side) (from to : ℕ) → Advances F side from to → rank_of to ≡ target_rank side → from ≡ ahead (other_side side) to
 unfolding Forward
-advances_from F White from to a e =
-    let f = advances_forward F White from to a in let g = a.rides.away.across in let some = a.rides.moves in let most = a.rides.within in let two = farthest_two White from in
-    elim (cases_eq a.rides.count 1) [
-      | inl one ↦ omega arith
-      | inr more ↦ let home : rank_of from ≡ 1 = from_home White from (omega arith) in absurd (omega arith)
-    ]
-advances_from F Black from to a e =
-    let f = advances_forward F Black from to a in let g = a.rides.away.across in let some = a.rides.moves in let most = a.rides.within in let two = farthest_two Black from in
-    elim (cases_eq a.rides.count 1) [
-      | inl one ↦ omega arith
-      | inr more ↦ let home : rank_of from ≡ 6 = from_home Black from (omega arith) in absurd (omega arith)
-    ]
+advances_from h0 h1 from to a e = grind (arith, advances_forward, farthest_two, cases_eq, rank_of, from_home)
 
 -- no pawn arrives on a target that none stands ready to take
 not_to_target : (p : Setup) (man : Man) (from to : ℕ) → IsAdmissible p → ¬ IsSettled p → Stands p.men from man → man.side ≡ p.side → man.kind ≡ P → Goes p man from to → p.target ≢ Some to
 not_to_target p man from to ok unsettled stands mine pawn goes e = grind (arith, target_is, rank_of, target_rank)
-
-untargeted_admissible : (p : Setup) → IsAdmissible p → IsAdmissible (untargeted p)
-untargeted_admissible p ok = record { few = ok.few; on_board = ok.on_board; kings = ok.kings; pawns = ok.pawns; target = tt; quiet = ok.quiet }
 
 goes_without : (p : Setup) (man : Man) (from to : ℕ) → IsAdmissible p → ¬ IsSettled p → Stands p.men from man → man.side ≡ p.side → Goes p man from to → Goes (untargeted p) man from to
 goes_without p man from to ok unsettled stands mine h = grind (arith, not_to_target)

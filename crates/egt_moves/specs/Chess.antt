@@ -4,7 +4,7 @@ use Rattle.egt_board.specs.Prelude.{other_side, Placement, Stands, IsHeld, Setup
 use Rattle.egt_board.specs.declared.man.Kind.TheVariants.{P}
 use Rattle.egt_board.specs.declared.man.Man.{Man}
 use Rattle.egt_moves.specs.declared.chess_move.Move.{Move}
-use Rattle.egt_moves.specs.Arena.{Arena}
+use Rattle.egt_moves.specs.WinLossDraw.{Arena}
 use Rattle.egt_moves.specs.Legal.{Leads}
 use Rattle.egt_moves.specs.Standing.{IsCheckmate}
 

@@ -1,6 +1,6 @@
 -- Entries of a table: what each must be beside those of the successors. One look forward, no search.
 use Rattle.std.specs.Prelude.{◌≡◌, ◌≢◌, ℕ, zero, suc, ◌≤◌, ◌⊎◌}
-use Rattle.egt_moves.specs.Arena.{Arena, Value, Win, Loss, Draw, SomeMove, EachMove, IsStalemate, Ends, HasValue}
+use Rattle.egt_moves.specs.WinLossDraw.{Arena, Value, Win, Loss, Draw, SomeMove, EachMove, IsStalemate, Ends, HasValue}
 use Rattle.egt_moves.specs.Zeroing.{HasZeroing}
 
 -- both are wins, both are losses or both are draws

@@ -4,7 +4,7 @@ use Rattle.egt_board.specs.declared.man.Side.{Side}
 use Rattle.egt_board.specs.declared.man.Side.TheVariants.{White, Black}
 use Rattle.egt_moves.specs.declared.found.Search.{Search}
 use Rattle.egt_moves.specs.declared.found.Search.TheVariants.{Mate, NotWithin}
-use Rattle.egt_moves.specs.Arena.{Value, Win, Loss}
+use Rattle.egt_moves.specs.WinLossDraw.{Value, Win, Loss}
 
 -- that the winner mates in n plies, as the side to move sees it
 abbrev pub mate_by : Side → Side → ℕ → Value

@@ -1,4 +1,4 @@
-pub mod Arena
+pub mod WinLossDraw
 pub mod Zeroing
 pub mod Entries
 pub mod Likeness

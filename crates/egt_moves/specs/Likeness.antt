@@ -1,6 +1,6 @@
 -- Positions that play alike: each step of the one has its like from the other.
 use Rattle.std.specs.Prelude.{◌≡◌, ℕ, zero, suc, ◌↔◌}
-use Rattle.egt_moves.specs.Arena.{Arena}
+use Rattle.egt_moves.specs.WinLossDraw.{Arena}
 
 -- q comes from p by n steps of R
 abbrev pub Chain : {S : Type 0} → (S → S → Type 0) → ℕ → S → S → Type 0

@@ -39,10 +39,10 @@ pub use Rattle.egt_board.specs.declared.mirror.Mirror.TheVariants.{Colours, Diag
 pub use Rattle.egt_board.specs.declared.occupancy.Occupancy.{Occupancy}
 pub use Rattle.egt_board.specs.declared.square_set.SquareSet.{SquareSet}
 pub use Rattle.egt_moves.specs.AllMen.{AreMenOf, entry_after, square_after}
-pub use Rattle.egt_moves.specs.Arena.{AnswersWithin, Arena, AvoidsMateBefore, AvoidsMateFor, CannotMateBefore}
-pub use Rattle.egt_moves.specs.Arena.{CannotMateWithin, Draw, EachMove, Ends, HasMove, HasValue, IsDraw, IsLost}
-pub use Rattle.egt_moves.specs.Arena.{IsMatedWithin, IsStalemate, IsWon, Loss, MatesWithin, Next, NoMove, SameStep}
-pub use Rattle.egt_moves.specs.Arena.{SomeMove, Successors, Value, Win}
+pub use Rattle.egt_moves.specs.WinLossDraw.{AnswersWithin, Arena, AvoidsMateBefore, AvoidsMateFor, CannotMateBefore}
+pub use Rattle.egt_moves.specs.WinLossDraw.{CannotMateWithin, Draw, EachMove, Ends, HasMove, HasValue, IsDraw, IsLost}
+pub use Rattle.egt_moves.specs.WinLossDraw.{IsMatedWithin, IsStalemate, IsWon, Loss, MatesWithin, Next, NoMove, SameStep}
+pub use Rattle.egt_moves.specs.WinLossDraw.{SomeMove, Successors, Value, Win}
 pub use Rattle.egt_moves.specs.Chess.{IsPawnOn, Zeroes, chess}
 pub use Rattle.egt_moves.specs.DecidedMoves.{decided_checkmate, decided_legal, decided_zeroes, goes_on_board}
 pub use Rattle.egt_moves.specs.DecidedMoves.{leads_to_one}

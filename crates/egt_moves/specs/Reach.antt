@@ -1,6 +1,6 @@
 -- How far the nearest checkmate is by any legal steps of both sides, and positions from which there is none.
 use Rattle.std.specs.Prelude.{◌≡◌, ℕ, zero, suc, ◌⊎◌, Option, Some, None}
-use Rattle.egt_moves.specs.Arena.{Arena, SomeMove, EachMove}
+use Rattle.egt_moves.specs.WinLossDraw.{Arena, SomeMove, EachMove}
 use Rattle.egt_moves.specs.Entries.{IsLeast}
 
 module _ {S : Type 0} (a : Arena S) where

@@ -1,6 +1,6 @@
 -- How soon the winner forces a capture, the move of a pawn, or checkmate, staying a winner by it.
 use Rattle.std.specs.Prelude.{ℕ, zero, suc, ◌⊎◌}
-use Rattle.egt_moves.specs.Arena.{Arena, Value, Win, Loss, Draw, HasMove, IsWon, IsLost, IsDraw}
+use Rattle.egt_moves.specs.WinLossDraw.{Arena, Value, Win, Loss, Draw, HasMove, IsWon, IsLost, IsDraw}
 
 module _ {S : Type 0} (a : Arena S) where
   abbrev mutual

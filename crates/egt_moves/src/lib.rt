@@ -2,6 +2,7 @@
 #![tactic(auto)]
 
 pub mod chess_move;
+pub mod dead;
 pub mod exchanging;
 pub mod forcing;
 pub mod found;
@@ -13,7 +14,6 @@ pub mod men_after;
 pub mod outcome;
 pub mod playing;
 pub mod promotion;
-pub mod reaching;
 pub mod standings;
 pub mod targets;
 pub mod text;

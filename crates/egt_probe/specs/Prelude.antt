@@ -18,8 +18,8 @@ pub use Rattle.egt_entries.specs.declared.metric.Metric.{Metric}
 pub use Rattle.egt_entries.specs.declared.metric.Metric.TheVariants.{Mate, Zeroing}
 pub use Rattle.egt_fen.specs.declared.fen.Fen.{Fen}
 pub use Rattle.egt_index.specs.Index.{IsIndex}
-pub use Rattle.egt_moves.specs.Arena.{AvoidsMateBefore, CannotMateBefore, Draw, HasValue, IsDraw, IsMatedWithin, Loss}
-pub use Rattle.egt_moves.specs.Arena.{MatesWithin, SomeMove, Value, Win}
+pub use Rattle.egt_moves.specs.WinLossDraw.{AvoidsMateBefore, CannotMateBefore, Draw, HasValue, IsDraw, IsMatedWithin, Loss}
+pub use Rattle.egt_moves.specs.WinLossDraw.{MatesWithin, SomeMove, Value, Win}
 pub use Rattle.egt_moves.specs.Chess.{chess}
 pub use Rattle.egt_moves.specs.Entries.{SameKind}
 pub use Rattle.egt_moves.specs.Found.{mate_by}

@@ -1,13 +1,12 @@
 -- Where moves lead: into the class or a child of it.
 use Rattle.std.proofs.Common.{◌≡◌, ◌≢◌, ℕ, ◌+◌, ◌*◌, ◌<◌, ◌&&◌, ◌⊎◌, Bool, true, false, not, cond, eqb, ltb, Option}
-use Rattle.std.proofs.Common.{Some, None, IfSome, IsSome, refl, sym, ap, ap₂, ◌∙◌, inl, inr, arith}
-use Rattle.std.proofs.Common.{if◌then◌else◌}
-use Rattle.egt_steps.specs.Prelude.{Contains, option_map, is_some, false≢true, eq-eqb, lt-ltb, eqb_tells, Side, White}
-use Rattle.egt_steps.specs.Prelude.{Black, Kind, Q, R, B, N, P, K, Man, other_side, pawn_of, Setup, kind_number}
-use Rattle.egt_steps.specs.Prelude.{side_number, man_number, stands_here, count_of, Move, Captures, Exchanges}
-use Rattle.egt_steps.specs.Prelude.{IsOfficer, arriving, material_of, men_in, IsOf, all_agree, OneKing, covered}
-use Rattle.egt_steps.specs.Prelude.{smaller, either, one_king_in}
-use Rattle.egt_class.specs.Children.{Change, man_of, man_taken, pawn_promoted, man_promoted, side_if, men_of, is_change, is_possible, has_man, follows_as, children_of}
+use Rattle.std.proofs.Common.{Some, None, IfSome, IsSome, refl, sym, ap, ap₂, ◌∙◌, inl, inr, arith, if◌then◌else◌}
+use Rattle.egt_steps.specs.Prelude.{Contains, option_map, is_some, eq-eqb, lt-ltb, eqb_tells, Side, Kind, Q, R, B, N, P}
+use Rattle.egt_steps.specs.Prelude.{K, Man, other_side, pawn_of, Setup, kind_number, side_number, man_number}
+use Rattle.egt_steps.specs.Prelude.{stands_here, count_of, Move, Captures, Exchanges, IsOfficer, arriving, material_of}
+use Rattle.egt_steps.specs.Prelude.{men_in, IsOf, all_agree, OneKing, covered, smaller, either, one_king_in}
+use Rattle.egt_class.specs.Children.{Change, man_of, man_taken, pawn_promoted, man_promoted, side_if, men_of, is_change}
+use Rattle.egt_class.specs.Children.{is_possible, has_man, follows_as, children_of}
 use Rattle.egt_board.proofs.Sides.{kind_few}
 
 -- a man in the class's colours, and back

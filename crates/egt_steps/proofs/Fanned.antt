@@ -1,9 +1,9 @@
 -- The quiet steps of a man who stands still on a shelf: which are legal, and where they lead.
 use Rattle.std.proofs.Common.{◌≡◌, ◌≢◌, ℕ, ◌&&◌, ◌==◌, Bool, false, if◌then◌else◌, List, [], ◌∷◌, Some, None, refl, sym}
 use Rattle.std.proofs.Common.{ap, ◌∙◌, subst, inl, inr, arith}
-use Rattle.egt_steps.specs.Prelude.{Kind, P, K, Man, Step, IsInCheck, OneOf, Reaches, Rides, farthest}
-use Rattle.egt_steps.specs.Prelude.{steps_of, other_side, ahead, last_rank, Placement, Stands, IsFree, Setup, rank_of}
-use Rattle.egt_steps.specs.Prelude.{plain, after, is_target, men_after, FitsPromotion, IsQuietTarget}
+use Rattle.egt_steps.specs.Prelude.{P, K, Man, Step, IsInCheck, OneOf, Reaches, Rides, other_side, ahead, last_rank}
+use Rattle.egt_steps.specs.Prelude.{Placement, Stands, IsFree, Setup, rank_of, plain, after, is_target, men_after}
+use Rattle.egt_steps.specs.Prelude.{FitsPromotion, IsQuietTarget}
 use Rattle.std.specs.FinMap as map
 use Rattle.egt_steps.proofs.Still.{quiet_piece, no_pawn}
 

@@ -1,11 +1,10 @@
 -- Which advances of a pawn leave a target, and what the positions after them settle to.
-use Rattle.std.proofs.Common.{◌≡◌, ◌≢◌, ℕ, ◌*◌, ◌/◌, ◌+◌, ◌≤◌, ◌==◌, ◌&&◌, ◌||◌, ◌⊎◌, ◌↔◌, if◌then◌else◌, Bool, true}
-use Rattle.std.proofs.Common.{false, Option, Some, None, IfSome, IsTrue, refl, sym, ap, ◌∙◌, subst, inl, inr, arith}
-use Rattle.egt_steps.specs.Prelude.{is_some, eqb_tells, king_of, other_side, Advances, HasPawnBeside, IsBeside, ahead}
-use Rattle.egt_steps.specs.Prelude.{last_rank, pawn_of, Placement, Stands, SettlesTo, Setup, IsAdmissible, rank_of}
-use Rattle.egt_steps.specs.Prelude.{IsTarget, target_rank, Kind, P, K, Man, Side, White, Black, settles_admissible}
-use Rattle.egt_steps.specs.Prelude.{settles_men, side_twice, sides_differ, ShelfMen, is_two_ranks, passed, is_pawn}
-use Rattle.egt_steps.specs.Prelude.{target_is, Facts, AreTwoRanksApart, LeavesTarget}
+use Rattle.std.proofs.Common.{◌≡◌, ◌≢◌, ℕ, ◌/◌, ◌+◌, ◌&&◌, ◌⊎◌, ◌↔◌, if◌then◌else◌, true, false, Option, Some, None}
+use Rattle.std.proofs.Common.{IfSome, IsTrue, refl, sym, ap, ◌∙◌, subst, inl, inr, arith}
+use Rattle.egt_steps.specs.Prelude.{is_some, eqb_tells, other_side, Advances, HasPawnBeside, ahead, last_rank, pawn_of}
+use Rattle.egt_steps.specs.Prelude.{Stands, SettlesTo, Setup, IsAdmissible, rank_of, IsTarget, target_rank, Kind, P}
+use Rattle.egt_steps.specs.Prelude.{Man, Side, settles_admissible, settles_men, side_twice, sides_differ, ShelfMen}
+use Rattle.egt_steps.specs.Prelude.{is_two_ranks, passed, is_pawn, target_is, Facts, AreTwoRanksApart, LeavesTarget}
 use Rattle.egt_steps.proofs.Leaping.{one_off_home}
 use Rattle.egt_steps.proofs.TwoNonKings.{AreTwo, one_two, who}
 
@@ -19,18 +18,7 @@ half_alone F side s t u advances two rank here = grind (arith, past_half, ahead)
 
 -- nor is he promoted
 pub unpromoted : (F : ℕ → Type 0) (side : Side) (s t : ℕ) → Advances F side s t → AreTwoRanksApart s t → rank_of t ≢ last_rank side
-unpromoted F White s t advances two last =
-    let along : t / 8 ≡ s / 8 + advances.rides.count * 1 = advances.rides.away.along in
-    elim (one_off_home (rank_of s) 1 advances.rides.count advances.rides.within) [
-      | inl few ↦ elim two [ inl up ↦ omega (arith, few, along, up) | inr down ↦ omega (arith, along, down) ]
-      | inr home ↦ let most = home.0 in let at = home.1 in omega (arith, most, at, along, last)
-    ]
-unpromoted F Black s t advances two last =
-    let along : s / 8 ≡ t / 8 + advances.rides.count * 1 = advances.rides.away.along in
-    elim (one_off_home (rank_of s) 6 advances.rides.count advances.rides.within) [
-      | inl few ↦ elim two [ inl up ↦ omega (arith, along, up) | inr down ↦ omega (arith, few, along, down) ]
-      | inr home ↦ let most = home.0 in let at = home.1 in omega (arith, most, at, along, last)
-    ]
+unpromoted h0 h1 s t advances two last = grind (arith, one_off_home, rank_of)
 
 two_told : (s t : ℕ) → AreTwoRanksApart s t → is_two_ranks s t ≡ true
 two_told s t h = grind (arith, eqb_tells)
@@ -38,9 +26,6 @@ two_told s t h = grind (arith, eqb_tells)
 -- a pawn passes a square in an advance by two squares, and in no other
 pub passes : (man : Man) (s t : ℕ) → man.kind ≡ P → AreTwoRanksApart s t → passed man s t ≡ Some ((s + t) / 2)
 passes man s t pawn two = ap (λ b. if b then Some ((s + t) / 2) else None) (ap (λ (k : Kind). is_pawn k && is_two_ranks s t) pawn ∙ two_told s t two)
-
-passed_by : (man : Man) (s t u : ℕ) → passed man s t ≡ Some u → AreTwoRanksApart s t × (u ≡ (s + t) / 2)
-passed_by man s t u is = grind (arith, is_pawn)
 
 -- the men beside the kings: the first stands on a, and this one, who was the last one on b, has advanced to t
 module _ (men : ShelfMen) (side : Side) (a b t : ℕ) (man : Man) (pawn : men.last.kind ≡ P) (mine : man.side ≡ side) (F : ℕ → Type 0) (advances : Advances F side b t) where

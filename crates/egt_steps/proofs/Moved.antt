@@ -1,10 +1,10 @@
 -- The men of a class after one of them went to a free square.
-use Rattle.std.proofs.Common.{◌≡◌, ◌≢◌, ℕ, ◌<◌, Bool, false, List, [], ◌∷◌, ◌++◌, map, Some, None, refl, sym, ap, ◌∙◌}
-use Rattle.std.proofs.Common.{inl, inr, subst, arith}
-use Rattle.egt_steps.specs.Prelude.{option_to_list, is_some, cases_eq, Side, White, Black, Man, king_of, other_side}
-use Rattle.egt_steps.specs.Prelude.{Placement, Stands, one_man, get-remove_other, get-insert_same, get-insert_other}
-use Rattle.egt_steps.specs.Prelude.{IsSettled, Setup, turned_man, IsMoved, moved_square, moved_entry, IsMovedStand}
-use Rattle.egt_steps.specs.Prelude.{Entry, men_among, IsOff, AllStand, Stood, HasStand, list_of, Stand}
+use Rattle.std.proofs.Common.{◌≡◌, ◌≢◌, ℕ, ◌<◌, Bool, false, List, [], ◌∷◌, ◌++◌, map, Some, refl, sym, ap, ◌∙◌, inl}
+use Rattle.std.proofs.Common.{inr, subst, arith}
+use Rattle.egt_steps.specs.Prelude.{option_to_list, is_some, cases_eq, Side, Man, other_side, Placement, Stands}
+use Rattle.egt_steps.specs.Prelude.{one_man, get-remove_other, get-insert_same, get-insert_other, IsSettled, Setup}
+use Rattle.egt_steps.specs.Prelude.{turned_man, IsMoved, moved_square, moved_entry, IsMovedStand, Entry, men_among}
+use Rattle.egt_steps.specs.Prelude.{IsOff, AllStand, Stood, HasStand, list_of, Stand}
 use Rattle.egt_steps.proofs.Carried.{went, stayed}
 use Rattle.std.specs.FinMap as placement
 

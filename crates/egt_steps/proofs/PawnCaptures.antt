@@ -1,18 +1,17 @@
 -- The captures by which a pawn is promoted lead to the three men who are left, and to all positions of them.
-use Rattle.std.proofs.Common.{◌≡◌, ◌≢◌, ℕ, ◌/◌, ◌+◌, if◌then◌else◌, Bool, true, false, Option, Some, None, refl}
-use Rattle.std.proofs.Common.{sym, ap, ◌∙◌, subst, inl, inr, arith}
-use Rattle.egt_steps.specs.Prelude.{IsInCheck, king_of, OneOf, Reaches, Rides, farthest, pawn_steps, steps_of}
-use Rattle.egt_steps.specs.Prelude.{other_side, ahead, Placement, Stands, IsFree, IsHeld, one_man, Setup, rank_of, Kind}
-use Rattle.egt_steps.specs.Prelude.{P, K, Man, Side, White, Black, side_twice, sides_differ, HasStand, ShelfMen, Goes}
-use Rattle.egt_steps.specs.Prelude.{Leads, after, is_two_ranks, men_after, men_left, passed, FitsPromotion, IsOfficer}
-use Rattle.egt_steps.specs.Prelude.{arriving, is_pawn, promotes, Move, not_free, target_is, Facts, IsPromotingCapture}
-use Rattle.egt_steps.specs.Prelude.{IsPromotingCaptureFrom, officer_of, stand_in, IsClassOf, IsPastKings, Left, left_of}
-use Rattle.egt_steps.specs.Prelude.{stand_left}
+use Rattle.std.proofs.Common.{◌≡◌, ◌≢◌, ℕ, Bool, true, false, Option, Some, None, refl, sym, ap, ◌∙◌, subst, inl, inr}
+use Rattle.std.proofs.Common.{arith}
+use Rattle.egt_steps.specs.Prelude.{IsInCheck, king_of, OneOf, Reaches, Rides, pawn_steps, other_side, ahead, Placement}
+use Rattle.egt_steps.specs.Prelude.{Stands, IsFree, IsHeld, one_man, Setup, Kind, P, K, Man, Side, White, Black}
+use Rattle.egt_steps.specs.Prelude.{side_twice, sides_differ, HasStand, ShelfMen, Goes, Leads, after, is_two_ranks}
+use Rattle.egt_steps.specs.Prelude.{men_after, men_left, passed, FitsPromotion, IsOfficer, arriving, is_pawn, promotes}
+use Rattle.egt_steps.specs.Prelude.{Move, not_free, target_is, Facts, IsPromotingCapture, IsPromotingCaptureFrom}
+use Rattle.egt_steps.specs.Prelude.{officer_of, stand_in, IsClassOf, IsPastKings, Left, left_of, stand_left}
 use Rattle.std.specs.FinMap as placement
 use Rattle.egt_steps.proofs.Fanned.{king_bare}
 use Rattle.egt_steps.proofs.Leaping.{and_false}
 use Rattle.egt_steps.proofs.PawnAdvances.{none_of}
-use Rattle.egt_steps.proofs.Still.{neither, not_passing}
+use Rattle.egt_steps.proofs.Still.{not_passing}
 use Rattle.egt_steps.proofs.Takings.{AreLeft, Telling, are_left, arrives, empties, one_left, placed, stands_left, stays}
 use Rattle.egt_steps.proofs.TwoNonKings.{AreTwo, are_in, who}
 

@@ -1,8 +1,8 @@
 -- The quiet moves from a position lead to the men after quiet steps, and to all of them that are positions.
-use Rattle.std.proofs.Common.{arith, ◌≡◌, ◌≢◌, ℕ, ◌<◌, Bool, false, Some, refl, sym, ap, subst, inl, inr}
-use Rattle.egt_steps.specs.Prelude.{bit_at, king_of, Reaches-free, other_side, Setup, Side, White}
-use Rattle.egt_steps.specs.Prelude.{Black, IsListed, AllStand, HasStand, IsOff, list_of, IsMovedStand, ShelfMen, Stand}
-use Rattle.egt_steps.specs.Prelude.{Zeroes, Leads, Move, king_of_men, stand_on, with_king, Facts, IsClear, IsQuietStand}
+use Rattle.std.proofs.Common.{◌≡◌, ◌≢◌, ℕ, ◌<◌, Bool, false, Some, refl, sym, ap, subst, inl, inr}
+use Rattle.egt_steps.specs.Prelude.{bit_at, king_of, Reaches-free, other_side, Setup, Side, White, Black, IsListed}
+use Rattle.egt_steps.specs.Prelude.{AllStand, HasStand, IsOff, list_of, IsMovedStand, ShelfMen, Stand, Zeroes, Leads}
+use Rattle.egt_steps.specs.Prelude.{Move, king_of_men, stand_on, with_king, Facts, IsClear, IsQuietStand}
 use Rattle.egt_steps.proofs.Fanned.{king_reaches}
 use Rattle.egt_steps.proofs.QuietSteps.{Following, king_piece, stayed, steps, went, went_to}
 use Rattle.egt_steps.proofs.Still.{KeepsClass}

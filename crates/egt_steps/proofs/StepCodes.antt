@@ -1,5 +1,5 @@
 -- The men of positions before and after a step.
-use Rattle.std.proofs.Common.{arith, ◌≡◌, ◌≢◌, ℕ, ◌<◌, ◌↔◌, Bool, false, refl, sym, ap, ◌∙◌, inl, inr, subst}
+use Rattle.std.proofs.Common.{◌≡◌, ◌≢◌, ℕ, ◌<◌, ◌↔◌, Bool, false, refl, sym, ap, ◌∙◌, inl, inr, subst}
 use Rattle.egt_steps.specs.Prelude.{men_of, other_side, IsFree, Placement, Stands, Setup, Man, Side, IsOf, IsMoved}
 use Rattle.egt_steps.specs.Prelude.{IsListed, moved_stand, AllApart, HasStand, list_of, IsMovedStand, Stand, all_apart}
 use Rattle.egt_steps.specs.Prelude.{free_off, men_are, listed, listed_stands, no_target, untargeted_settled, apart_all}

@@ -1,10 +1,10 @@
 -- A move that does not zero takes one man to a free square, and changes nothing else on the board.
-use Rattle.std.proofs.Common.{◌≡◌, ◌≢◌, ℕ, ◌+◌, ◌/◌, if◌then◌else◌, ◌==◌, ◌&&◌, Bool, true, false, Option, Some, None}
-use Rattle.std.proofs.Common.{refl, ap, ◌∙◌, inl, inr, ◌⊎◌, subst, ◌||◌, arith}
+use Rattle.std.proofs.Common.{◌≡◌, ◌≢◌, ℕ, ◌+◌, ◌/◌, if◌then◌else◌, ◌&&◌, Bool, true, false, Option, Some, None, refl}
+use Rattle.std.proofs.Common.{ap, ◌∙◌, inl, inr, ◌⊎◌, subst, ◌||◌, arith}
 use Rattle.egt_steps.specs.Prelude.{Kind, P, Man, other_side, Placement, Stands, IsFree, get-insert_same, IsHeld}
-use Rattle.egt_steps.specs.Prelude.{one_man, Setup, IsAdmissible, rank_of, ahead, last_rank, IsOf, IsMoved, Zeroes}
-use Rattle.egt_steps.specs.Prelude.{IsPawnOn, Captures, Goes, Leads, men_left, is_target, is_two_ranks, IsLegal, plain}
-use Rattle.egt_steps.specs.Prelude.{passed, is_pawn, FitsPromotion, Move, IsLegalTarget, IsQuietTarget, eqb_tells}
+use Rattle.egt_steps.specs.Prelude.{one_man, Setup, IsAdmissible, ahead, IsOf, IsMoved, Zeroes, IsPawnOn, Captures}
+use Rattle.egt_steps.specs.Prelude.{Goes, Leads, men_left, is_target, is_two_ranks, IsLegal, plain, passed, is_pawn}
+use Rattle.egt_steps.specs.Prelude.{FitsPromotion, Move, IsLegalTarget, IsQuietTarget}
 use Rattle.egt_board.proofs.Sides.{side_cases}
 use Rattle.std.specs.FinMap as map
 

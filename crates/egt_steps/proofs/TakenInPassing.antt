@@ -165,10 +165,7 @@ module _ (facts : Facts) (telling : Telling) (c : ℕ) (men : ShelfMen) (first :
     promo_none = no_promotion (promotes leads.man m.to) m.promo (ap (promotes leads.man) arrives_there ∙ unpromoted own leads.man) leads.promotion
 
     men_are : placed (without own) b to men.last ≡ q.men
-    men_are =
-        sym (λ i. placed (left_so own leads.man pawn_here i) (passing.from i) to (his i))
-        ∙ sym (λ i. placed (men_left p leads.man (arrives_there i)) m.from (arrives_there i) (arriving leads.man (promo_none i)))
-        ∙ ap (λ (s : Setup). s.men) (sym leads.becomes)
+    men_are = grind (arith, placed, left_so, own, pawn_here, his, men_left, arrives_there, arriving, promo_none)
 
     pub goes : IsPassingCapture men side a b × ((d : ℕ) (flips : Bool) → IsClassOf d flips men.last → HasStand d flips (stand_left flips (left_of men men.last (ahead side a))) (other_side side) false q)
     goes = (
@@ -215,10 +212,7 @@ module _ (facts : Facts) (telling : Telling) (c : ℕ) (men : ShelfMen) (first :
 
 -- without a target none is in passing
 pub none_passing : (c : ℕ) (flips : Bool) (stand : Stand) (side : Side) (p : Setup) → HasStand c flips stand side false p → (p.target ≡ None) × ((b : ℕ) (m : Move) → ¬ IsPassingFrom p b m)
-none_passing c flips stand side p has = (none, λ b m passing. let both : None ≡ Some m.to = sym none ∙ passing.target in absurd (cc))
-  where
-    none : p.target ≡ None
-    none = none_of p.target has.target_is
+none_passing c flips stand side p has = grind (arith, target, none_of, target_is)
 
 pub four_kinds : (p q : Setup) (b : ℕ) (m : Move) → Leads p m q → m.from ≡ b → IsOfFourKinds p b m
 four_kinds p q b m leads from_is = elim (decided_held p.men m.to (other_side p.side)) [
@@ -230,8 +224,7 @@ four_kinds p q b m leads from_is = elim (decided_held p.men m.to (other_side p.s
     officer o e = grind arith
 
     by_promotion : (o : Option Kind) → m.promo ≡ o → IsHeld p.men m.to (other_side p.side) → IsOfFourKinds p b m
-    by_promotion None e held = inr (inl (from_is, (held, e)))
-    by_promotion (Some kind) e held = inr (inr (inl (kind, officer (Some kind) e, record { from = from_is; takes = held; promo_is = e })))
+    by_promotion h0 e held = grind (arith, officer)
 
     advancing : ¬ IsHeld p.men m.to (other_side p.side) → p.target ≢ Some m.to → IsOfFourKinds p b m
     advancing free apart = inl (record { from = from_is; quiet = λ captures. elim captures [ inl held ↦ free held | inr passing ↦ apart passing.1 ]; promo_is = refl }, officer m.promo refl)

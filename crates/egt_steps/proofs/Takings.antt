@@ -1,18 +1,18 @@
 -- The captures from a position that promote no pawn and are not in passing lead to the three men who are left, and to all positions of them.
-use Rattle.std.proofs.Common.{◌≡◌, ◌≢◌, ℕ, ◌+◌, ◌/◌, ◌<◌, ◌⊎◌, ◌↔◌, ◌&&◌, ◌==◌, if◌then◌else◌, Bool, true, false, List}
-use Rattle.std.proofs.Common.{[], ◌∷◌, map, Option, Some, None, IfSome, arith, refl, sym, ap, ◌∙◌, subst, inl, inr}
-use Rattle.egt_steps.specs.Prelude.{bit_at, is_some, option_map, and_parts, cases_eq, false≢true, eqb_tells, HasBeside}
-use Rattle.egt_steps.specs.Prelude.{IsInCheck, king_of, Reaches, Reaches-free, Reaches-on_board, other_side, ahead}
-use Rattle.egt_steps.specs.Prelude.{last_rank, Placement, Stands, IsFree, IsHeld, one_man, same_men, get-insert_same}
+use Rattle.std.proofs.Common.{◌≡◌, ◌≢◌, ℕ, ◌+◌, ◌/◌, ◌<◌, ◌⊎◌, ◌↔◌, ◌&&◌, if◌then◌else◌, Bool, true, false, List, []}
+use Rattle.std.proofs.Common.{◌∷◌, map, Option, Some, None, arith, refl, sym, ap, ◌∙◌, subst, inl, inr}
+use Rattle.egt_steps.specs.Prelude.{bit_at, is_some, option_map, and_parts, cases_eq, eqb_tells, HasBeside, IsInCheck}
+use Rattle.egt_steps.specs.Prelude.{king_of, Reaches, Reaches-free, Reaches-on_board, other_side, ahead, last_rank}
+use Rattle.egt_steps.specs.Prelude.{Placement, Stands, IsFree, IsHeld, one_man, same_men, get-insert_same}
 use Rattle.egt_steps.specs.Prelude.{get-insert_other, get-remove_same, get-remove_other, Setup, IsAdmissible, rank_of}
-use Rattle.egt_steps.specs.Prelude.{IsTarget, turned_man, Kind, P, K, Man, Side, White, Black, Reaches-target}
-use Rattle.egt_steps.specs.Prelude.{side_twice, AreNonKings, AreCounted, IsListed, AllStand, HasStand, IsOff, list_of}
-use Rattle.egt_steps.specs.Prelude.{men_among, ShelfMen, Stand, all_there, free_of, counted_turned, turned_back, Goes}
-use Rattle.egt_steps.specs.Prelude.{Leads, after, is_two_ranks, men_after, passed, plain, takes_in_passing}
-use Rattle.egt_steps.specs.Prelude.{FitsPromotion, arriving, is_pawn, promotes, Move, not_two, pawn_told}
-use Rattle.egt_steps.specs.Prelude.{takes_forward_of, two_forward, two_ranks_told, not_passing, IsBesideKing}
-use Rattle.egt_steps.specs.Prelude.{king_of_men, stand_on, with_king, Facts, IsClassOf, IsPastKings, IsPlainCapture}
-use Rattle.egt_steps.specs.Prelude.{IsTaken, Left, left_of, stand_left, sides_differ}
+use Rattle.egt_steps.specs.Prelude.{turned_man, Kind, P, K, Man, Side, White, Black, Reaches-target, side_twice}
+use Rattle.egt_steps.specs.Prelude.{AreNonKings, AreCounted, IsListed, AllStand, HasStand, IsOff, list_of, men_among}
+use Rattle.egt_steps.specs.Prelude.{ShelfMen, Stand, all_there, free_of, counted_turned, turned_back, Goes, Leads}
+use Rattle.egt_steps.specs.Prelude.{after, is_two_ranks, men_after, passed, plain, takes_in_passing, FitsPromotion}
+use Rattle.egt_steps.specs.Prelude.{arriving, is_pawn, promotes, Move, not_two, pawn_told, takes_forward_of}
+use Rattle.egt_steps.specs.Prelude.{two_forward, two_ranks_told, not_passing, IsBesideKing, king_of_men, stand_on}
+use Rattle.egt_steps.specs.Prelude.{with_king, Facts, IsClassOf, IsPastKings, IsPlainCapture, IsTaken, Left, left_of}
+use Rattle.egt_steps.specs.Prelude.{stand_left, sides_differ}
 use Rattle.egt_index.proofs.ByMen.{no_target}
 use Rattle.egt_steps.proofs.Fanned.{king_reaches}
 use Rattle.egt_steps.proofs.Passed.{departs}
@@ -129,11 +129,7 @@ module _ (p : Setup) (man : Man) (from to : ℕ) (held : IsHeld p.men to (other_
   none_passed reaches = by_test (is_pawn man.kind && is_two_ranks from to) refl
     where
       by_test : (b : Bool) → (is_pawn man.kind && is_two_ranks from to) ≡ b → (if b then Some ((from + to) / 2) else None) ≡ None
-      by_test false e = refl
-      by_test true e =
-          let both = and_parts (is_pawn man.kind) (is_two_ranks from to) e in
-          let one = takes_forward_of p man from to (record { pawn = pawn_told man.kind both.0; reaches = reaches; takes = inl held }) in
-          absurd (not_two 1 refl (two_forward man.side 1 from to one (two_ranks_told from to both.1)))
+      by_test h0 e = grind (arith, and_parts, is_pawn, is_two_ranks, takes_forward_of, pawn_told, held, not_two, two_forward, two_ranks_told)
 
   -- no man stands on the target
   not_in_passing : IsAdmissible p → takes_in_passing p man to ≡ false
@@ -352,9 +348,7 @@ module _ (facts : Facts) (telling : Telling) (c : ℕ) (men : ShelfMen) (one_oth
       fits pawn = there.admissible.pawns t.to t.man (ap (λ (x : Placement). placement.get x t.to) stays_so ∙ arrives p.men t.from t.to t.man) pawn
 
       placed_there : q.men ≡ men_after p t.man (plain t.from t.to)
-      placed_there =
-          stays_so
-          ∙ ap (λ (b : Bool). placed (if b then placement.remove p.men (ahead (other_side p.side) t.to) else p.men) t.from t.to t.man) (sym (not_in_passing p t.man t.from t.to held has.admissible))
+      placed_there = grind (arith, stays_so, ahead, other_side, t, not_in_passing, held)
 
       turn : q.side ≡ other_side p.side
       turn = there.side_is ∙ ap other_side mine

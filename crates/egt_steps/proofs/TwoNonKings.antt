@@ -1,6 +1,6 @@
 -- The kings and two men beside them on their squares.
-use Rattle.std.proofs.Common.{arith, ◌≡◌, ◌≢◌, ℕ, ◌⊎◌, Bool, true, false, List, [], ◌∷◌, map, Option, Some, None, sym, ap, ◌∙◌}
-use Rattle.std.proofs.Common.{subst, inl, inr}
+use Rattle.std.proofs.Common.{arith, ◌≡◌, ◌≢◌, ℕ, ◌⊎◌, Bool, true, false, List, [], ◌∷◌, map, Option, Some, sym, ap}
+use Rattle.std.proofs.Common.{◌∙◌, subst, inl, inr}
 use Rattle.egt_steps.specs.Prelude.{is_some, option_map, cases_eq, HasBeside, king_of, Placement, Stands, IsFree}
 use Rattle.egt_steps.specs.Prelude.{one_man, same_men, IsSettled, Setup, IsAdmissible, turned_man, K, Man, Side, White}
 use Rattle.egt_steps.specs.Prelude.{Black, AreNonKings, AreCounted, AllStand, HasStand, IsOff, list_of, men_among}

@@ -13,10 +13,10 @@ use egt_index::laws::{
     an_index_spells_a_position_of_it, every_position_has_one_index, one_index_for_all_images,
     spelled_positions_are_of_the_class,
 };
+use egt_moves::dead::reach_entries_are_true;
 use egt_moves::laws::{
     entries_are_true, images_keep_steps, moves_lead_to_one, settling_keeps_steps, true_entries_fit,
 };
-use egt_moves::reaching::reach_entries_are_true;
 
 /// What holds of play, images, classes and indexes.
 pub fn facts()

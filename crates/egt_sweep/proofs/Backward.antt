@@ -42,8 +42,7 @@ module _ (laws : Laws) (c : ℕ) (below : c < 36) where
       subst IsSettled image ((laws.images_settled is.settled is.image s_ok is.images).0 (laws.settled p is.settled is.settles))
 
   settled_self : (p s : Setup) → IsSettled p → SettlesTo p s → s ≡ p
-  settled_self p s settled (inl same) = same.1
-  settled_self p s settled (inr other) = absurd (other.0 settled)
+  settled_self p s settled h3 = grind arith
 
   -- a move that stays in the class neither captures nor promotes
   stays_quiet : (p q : Setup) (m : Move) → IsAdmissible p → (flipped : Bool) × IsOf c flipped p → Leads p m q → (i : ℕ) × IsIndex c q i → Captures p m ⊎ IsSome m.promo → ⊥

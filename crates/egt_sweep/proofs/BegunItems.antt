@@ -1,15 +1,12 @@
 -- Items of which no ends are known.
-use Rattle.std.proofs.Common.{◌≡◌, ◌≢◌, ℕ, ◌+◌, ◌<◌, true, false, List, slice_index_or, arith, ap, ◌∙◌, subst}
+use Rattle.std.proofs.Common.{◌≡◌, ◌≢◌, ℕ, ◌+◌, ◌<◌, true, false, List, slice_index_or, arith, subst}
 use Rattle.egt_sweep.specs.FillPrelude.{bit_at, bit_at-zero, SquareSet, kind_less, ShelfMen, TableValue, AreShelvesOf}
-use Rattle.egt_sweep.specs.FillPrelude.{HoldsExits, column_of, Part, IsItem, men_of, passed_shelves_of, shelves_of, AllEnded}
-use Rattle.egt_sweep.specs.FillPrelude.{no_squares, Filling, Item, Shelf}
+use Rattle.egt_sweep.specs.FillPrelude.{HoldsExits, column_of, Part, IsItem, men_of, passed_shelves_of, shelves_of}
+use Rattle.egt_sweep.specs.FillPrelude.{AllEnded, no_squares, Filling, Item, Shelf}
 
 -- there are no entries at the ends where no square is one
 none_ended : (part : Part) (t : TableValue) (shelves : Shelf) (ended : List SquareSet) → ((s : ℕ) → slice_index_or ended s no_squares ≡ no_squares) → AllEnded part t shelves ended
-none_ended part t shelves ended none = λ x _ digit _ has.
-    let lane = digit + kind_less shelves.men.last.kind in
-    let gone = ap (λ (set : SquareSet). bit_at set.bits lane) (none (x + kind_less shelves.men.one.kind)) ∙ bit_at-zero lane in
-    absurd (omega (arith, has, gone))
+none_ended part t shelves ended none = grind (arith, kind_less, bit_at, bit_at-zero)
 
 -- what is kept of such an item holds of any table
 pub begun_item : (f : Filling) (t : TableValue) (men : ShelfMen) (item : Item) → men ≡ men_of f item → item.first + f.half + 64 < 4294967296

@@ -80,8 +80,7 @@ members_off never = (λ b. inl b, λ h. elim h [ inl b ↦ b | inr q ↦ absurd 
 
 -- what a test denies does not hold
 pub untrue : {P : Type 0} (b : Bool) → b ≡ false → (IsTrue b ↔ P) → ¬ P
-untrue true e is = absurd (false≢true (sym e))
-untrue false e is = λ h. false≢true (is.1 h)
+untrue h0 e is = grind (arith, false≢true)
 
 -- members that grow as what they are to be does
 pub members_then : {A B M N P : Type 0} → (A ↔ (B ⊎ P)) → (B ↔ M) → (N ↔ (M ⊎ P)) → A ↔ N
@@ -93,9 +92,7 @@ none_ascend k lt = absurd (omega (arith, lt))
 -- a list of which nothing was collected
 pub collected_start : {X : Type 0} (gives : X → ℕ → Type 0) (xs : List X) (list : List ℕ) → list ≡ [] →
     IsStrictlyIncreasing list × (length list ≤ 0) × ((k : ℕ) → Contains list k ↔ Collected gives xs 0 k)
-collected_start gives xs list empty =
-    subst (λ (ys : List ℕ). IsStrictlyIncreasing ys × (length ys ≤ 0) × ((k : ℕ) → Contains ys k ↔ Collected gives xs 0 k)) (sym empty)
-    (none_ascend, omega arith, λ k. (λ has. absurd (omega (arith, has.1)), λ found. absurd (collected_none gives xs k found)))
+collected_start gives xs list empty = grind (arith, none_ascend, collected_none)
 
 -- what comes from unmoves one goes back by
 pub back_on : (metric : Metric) (c : ℕ) (u : Unmove) (i k : ℕ) → GoesBack metric u → IsIndex c u.before i → ((j : ℕ) → IsIndex c u.before j → j ≡ i) → (k ≡ i) ↔ ComesFrom metric c u k

@@ -1,10 +1,10 @@
 -- Tables whose entries keep the rules beside the true tables of the children are true.
-use Rattle.std.proofs.Common.{◌≡◌, ℕ, ◌<◌, ◌↔◌, ◌∙◌, None, Some, IsSome, IfSome, Option, List, arith, ap, refl, subst}
-use Rattle.std.proofs.Common.{sym, slice_index, Contains}
+use Rattle.std.proofs.Common.{◌≡◌, ℕ, ◌<◌, ◌↔◌, ◌∙◌, None, Some, IsSome, IfSome, Option, arith, refl, subst, sym}
+use Rattle.std.proofs.Common.{Contains}
 use Rattle.egt_sweep.specs.FillPrelude.{false≢true, ne_eqb, children_of, IsIndex, IsVoid, size_of, IsTable, TableValue}
-use Rattle.egt_sweep.specs.FillPrelude.{Shows, ReachesDown, KeepsReachBelow, KeepsRules, Tables, HasReachChildren, beside}
-use Rattle.egt_sweep.specs.FillPrelude.{entry_at, HasTrueChildren, IsTrueReach, IsTrueTable, Metric, Mate, Zeroing}
-use Rattle.egt_sweep.specs.FillPrelude.{KeepsPart, Part, Reach, Values, beside_other, beside_own, IsWithReach}
+use Rattle.egt_sweep.specs.FillPrelude.{Shows, ReachesDown, KeepsReachBelow, KeepsRules, Tables, HasReachChildren}
+use Rattle.egt_sweep.specs.FillPrelude.{beside, entry_at, HasTrueChildren, IsTrueReach, IsTrueTable, Metric, KeepsPart}
+use Rattle.egt_sweep.specs.FillPrelude.{Part, Reach, Values, beside_other, beside_own, IsWithReach}
 
 -- the part's entries keep the rules at all codes
 abbrev pub KeepsAll : Part → Tables → TableValue → Type 0
@@ -36,8 +36,7 @@ module _ (smaller : (c d : ℕ) → c < 36 → Contains (children_of c) d → d 
 -- a true table stays true with a true column more
 module _ (old new : TableValue) (with : IsWithReach old new) where
   entry_same : (metric : Metric) (i : ℕ) → entry_at old metric i ≡ entry_at new metric i
-  entry_same Mate i = ap (λ (entries : List ℕ). slice_index entries i) (sym with.mate)
-  entry_same Zeroing i = ap (λ (entries : List ℕ). slice_index entries i) (sym with.zeroing)
+  entry_same h0 i = grind arith
 
   pub with_true_reach : IsTrueTable old → IsTrueReach new → IsTrueTable new
   with_true_reach truth reach = record {

@@ -10,8 +10,7 @@ use Rattle.egt_sweep.proofs.ToldOnce.{kings_told, side_told}
 -- ---- a code that is read tells the kings where a turn takes them
 
 either_kings : (before after : Stand) → IsInEitherOrder before after → (after.white ≡ before.white) × (after.black ≡ before.black)
-either_kings before after (inl same) = (ap (λ (s : Stand). s.white) same, ap (λ (s : Stand). s.black) same)
-either_kings before after (inr across) = (ap (λ (s : Stand). s.white) across.0, ap (λ (s : Stand). s.black) across.0)
+either_kings before after h2 = grind arith
 
 side_same : (side : Side) → turned_side false side ≡ side
 side_same side = grind arith
@@ -22,9 +21,6 @@ side_other side = grind arith
 pub read_of_kings : (passed : Bool) (c code : ℕ) (stand : Stand) (side : Side) (w b : ℕ) (s : Side) → IsSomeTurnedCodeWith passed c code false stand side → IsOfKings c w b s code → TurnsTo c stand.white stand.black side w b s
 read_of_kings passed c code stand side w b s read of = record { turn = read.turn; below = read.is.below; keeps = read.is.keeps; takes = takes read.seen }
   where
-    flips : Bool
-    flips = eqb (read.turn / 8) 1
-
     kings : ((turned_by read.turn read.after).white ≡ of.stand.white) × ((turned_by read.turn read.after).black ≡ of.stand.black)
     kings = kings_told c code passed of.passed (turned_by read.turn read.after) of.stand (turned_side (eqb (read.turn / 8) 1) side) s read.is.tells of.tells
 

@@ -66,8 +66,7 @@ module _ (old new : TableValue) (At : ℕ → Type 0) (put : IsPutIn parts.Reach
   ]
 
   near_voids : (metric : Metric) (i : ℕ) → i < size_of old.class → IsVoid old.class i → entry_at (table_in parts.Reach new) metric i ≡ 0
-  near_voids Mate = near_void
-  near_voids Zeroing = near_void
+  near_voids h0 = grind (arith, near_void)
 
   near_alike : (i : ℕ) → i < size_of old.class → ¬ IsVoid old.class i → AreAlike (entry_at (table_in parts.Reach new) Mate i) (entry_at (table_in parts.Reach new) Zeroing i)
   near_alike i i_in index = known_alike (entry_at (table_in parts.Reach new) Mate i) (elim (put.same columns.Reach i) [
@@ -103,8 +102,7 @@ module _ (old new : TableValue) (shelf : Shelf) (lanes : SquareSet) (scores cloc
       (λ i lane. subst (λ n. (reach_at new n ≢ 0) × (reach_at new n < 128)) (sym lane.3) (let at = told refl lane.0 lane.1 lane.2 in (at.1, at.2))))
 
 pub put_told : (part : Part) (t : TableValue) (code score clock : ℕ) → IsToldAt part t code score clock → IsPutAt part t code score clock
-put_told parts.Values t code score clock told = (told.0, told.1)
-put_told parts.Reach t code score clock told = told.0
+put_told h0 t code score clock told = grind (arith, code)
 
 -- ---- ends
 

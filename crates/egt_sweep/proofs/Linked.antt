@@ -54,8 +54,7 @@ module _ (laws : Laws) where
       (found.0, (laws.turns (settled_form q) found.0 (laws.facts.settled_admissible q (settled_form q) ok (settles q))).1 found.2, (spelled_is c code found.0).0 found.1)
 
   first_told : (xs : List ℕ) (i : ℕ) → first_of xs ≡ Some i → Contains xs i
-  first_told [] i e = absurd (let x : None ≡ Some i = e in cc)
-  first_told (x ∷ xs) i e = let same : x ≡ i = (let y : Some x ≡ Some i = e in cc) in (0, omega arith, same)
+  first_told h0 i e = grind arith
 
   told_first : (n : ℕ) (p : ℕ → Bool) (i : ℕ) (xs : List ℕ) → xs ≡ passing_below n p → Contains xs i → ((k : ℕ) → Contains xs k → i ≤ k) → first_of xs ≡ Some i
   told_first n p i [] e c least = absurd (omega (arith, c.1))
@@ -104,19 +103,16 @@ module _ (laws : Laws) where
   -- ---- the position at an index
 
   number_told : (i : ℕ) (o : Option ℕ) → is_number i o ≡ true → o ≡ Some i
-  number_told i None t = absurd (false≢true t)
-  number_told i (Some j) t = ap Some (sym (eqb-true i j t))
+  number_told i h1 t = grind (arith, false≢true, eqb-true)
 
   told_number : (i : ℕ) (o : Option ℕ) → o ≡ Some i → is_number i o ≡ true
   told_number i o e = subst (λ x. is_number i x ≡ true) (sym e) (eq-eqb i i refl)
 
   kept_told : (b : Bool) (o : Option Setup) (p : Setup) → kept_if b o ≡ Some p → (b ≡ true) × (o ≡ Some p)
-  kept_told true o p e = (refl, e)
-  kept_told false o p e = absurd (let x : None ≡ Some p = e in cc)
+  kept_told h0 o p e = grind arith
 
   told_kept : (b : Bool) (o : Option Setup) (p : Setup) → b ≡ true → o ≡ Some p → kept_if b o ≡ Some p
-  told_kept true o p t e = e
-  told_kept false o p t e = absurd (false≢true t)
+  told_kept h0 o p t e = grind (arith, false≢true)
 
   at_told : (c i : ℕ) (p : Setup) (o : Option Setup) → o ≡ spelled c i → kept_if (has_index c i o) o ≡ Some p → IsAt c i p
   at_told c i p o is e =
@@ -157,8 +153,7 @@ module _ (laws : Laws) where
       (some.0, (position_is c i some.0).0 some.1)
     where
       not_not : (b : Bool) → not b ≡ false → b ≡ true
-      not_not true t = refl
-      not_not false t = absurd (false≢true (sym t))
+      not_not h0 t = grind (arith, false≢true)
 
   -- ---- moves that go on
 
@@ -166,8 +161,7 @@ module _ (laws : Laws) where
   goes_told Mate c p q m ok t = let some = index_some (index_in c q) t in (some.0, (index_is c some.0 q ok).0 some.1)
     where
       index_some : (o : Option ℕ) → is_some o ≡ true → (i : ℕ) × (o ≡ Some i)
-      index_some None t = absurd (false≢true t)
-      index_some (Some i) t = (i, refl)
+      index_some h0 t = grind (arith, false≢true)
   goes_told Zeroing c p q m ok t = λ z. false≢true (sym (not-true (tells (decided_zeroes p m)) t) ∙ tells_where (decided_zeroes p m) z)
 
   told_goes : (metric : Metric) (c : ℕ) (p q : Setup) (m : Move) → IsAdmissible q → GoesOn metric c p m q → goes_on metric c p m q ≡ true
@@ -196,8 +190,7 @@ module _ (laws : Laws) where
       (both (goes_on metric c p m q) (is_number j (index_in c q)) (told_goes metric c p q m q_ok on) (told_number j (index_in c q) ((index_is c j q q_ok).1 index)))
     where
       both : (a b : Bool) → a ≡ true → b ≡ true → (a && b) ≡ true
-      both true b t u = u
-      both false b t u = t
+      both h0 b t u = grind arith
 
   edge_told : (metric : Metric) (c i j : ℕ) (o : Option Setup) → o ≡ position_at c i → connects_from metric c j o ≡ true → Connects metric c i j
   edge_told metric c i j None e t = absurd (false≢true t)
@@ -229,8 +222,7 @@ module _ (laws : Laws) where
       (subst (λ x. connects_from metric c j x ≡ true) (sym ((position_is c i edge.from).1 edge.at)) (told_edge metric c i j edge))
     where
       both : (a b : Bool) → a ≡ true → b ≡ true → (a && b) ≡ true
-      both true b t u = u
-      both false b t u = t
+      both h0 b t u = grind arith
 
   connects_edge : (metric : Metric) (c i j : ℕ) → connects metric c i j ≡ true → Connects metric c i j
   unfolding connects

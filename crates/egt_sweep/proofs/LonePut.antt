@@ -59,9 +59,7 @@ module _ (old mid new : TableValue) (code entry : ℕ) (first : IsOnePut columns
 
 module _ (old new : TableValue) (code entry : ℕ) (put : IsOnePut columns.Reach code entry old new) where
   same_reach : (column : Column) (i : ℕ) → i ≢ code → slice_index (entries_of column new) i ≡ slice_index (entries_of column old) i
-  same_reach columns.Mate i other = ap (λ (l : List ℕ). slice_index l i) (put.elsewhere columns.Mate (λ e. cc))
-  same_reach columns.Zeroing i other = ap (λ (l : List ℕ). slice_index l i) (put.elsewhere columns.Zeroing (λ e. cc))
-  same_reach columns.Reach i other = put.others i other
+  same_reach h0 i other = grind arith
 
   one_put : IsPutIn parts.Reach (λ i. i ≡ code) old new
   one_put = record {
@@ -92,5 +90,4 @@ module _ (f : LoneFilling) (old new : TableValue) (mended : IsMendedAt f.part An
   may_judge parts.Reach tables same may = (same.there columns.Reach may.0, subst (HasChildren tables) (sym same.class) may.1, subst (HasReachChildren tables) (sym same.class) may.2)
 
   pub still_filling : IsTable new → IsLoneFilling f old → IsLoneFilling f new
-  still_filling is_table is = filling_is f new is_table (mended.there (column_of f.part) is.told.there) mended.bytes
-      (may_judge f.part (table_at f.library.now) mended is.may) (subst (λ c. IsLonePiece c f.man) (sym mended.class) is.piece)
+  still_filling is_table is = grind (arith, filling_is, column_of, may_judge, table_at)

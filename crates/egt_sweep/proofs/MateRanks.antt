@@ -73,8 +73,7 @@ module _ (laws : Laws) (plies : Plies) (tables : Tables) (c : ℕ) (below : c < 
   )
 
   neither : (a b : Bool) → (a || b) ≡ false → (a ≢ true) × (b ≢ true)
-  neither true b e = absurd (false≢true (sym e))
-  neither false b e = (λ t. false≢true t, λ t. false≢true (sym e ∙ t))
+  neither h0 b e = grind (arith, false≢true)
 
   -- a node of a rank above the limit has a position of a mate distance above it
   pub above_limit : (limit : ℕ) → SomeAbove (class_game tables Mate c) limit → SomeAboveLimit c limit

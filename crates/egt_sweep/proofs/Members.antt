@@ -24,24 +24,20 @@ all_in p (y ∷ ys) t x (inl e) = λ i. (let same : p x ≡ true = (let parts = 
 all_in p (y ∷ ys) t x (inr h) = all_in p ys (and_parts (p y) (list_all p ys) t).1 x h
 
 pub both : (a b : Bool) → a ≡ true → b ≡ true → (a && b) ≡ true
-both true b t u = u
-both false b t u = t
+both h0 b t u = grind arith
 
 pub in_all : {X : Type 0} (p : X → Bool) (xs : List X) → ((x : X) → In x xs → p x ≡ true) → list_all p xs ≡ true
 in_all p [] h = refl
 in_all p (y ∷ ys) h = both (p y) (list_all p ys) (h y (inl refl)) (in_all p ys (λ x i. h x (inr i)))
 
 pub either : (a b : Bool) → (a || b) ≡ true → (a ≡ true) ⊎ (b ≡ true)
-either true b t = inl refl
-either false b t = inr t
+either h0 b t = grind arith
 
 pub or_left : (a b : Bool) → a ≡ true → (a || b) ≡ true
-or_left true b t = refl
-or_left false b t = absurd (false≢true t)
+or_left h0 b t = grind (arith, false≢true)
 
 pub or_right : (a b : Bool) → b ≡ true → (a || b) ≡ true
-or_right true b t = refl
-or_right false b t = t
+or_right h0 b t = grind arith
 
 pub any_in : {X : Type 0} (p : X → Bool) (xs : List X) → list_any p xs ≡ true → (x : X) × In x xs × (p x ≡ true)
 any_in p [] t = absurd (false≢true t)
@@ -79,9 +75,7 @@ flat_in f (z ∷ zs) x y (inr on) i = append_in y (f z) (flat_map f zs) (inr (fl
 
 -- of an option
 pub in_option : {Y : Type 0} (o : Option Y) (y : Y) → In y (option_to_list o) → o ≡ Some y
-in_option None y i = absurd i
-in_option (Some z) y (inl e) = λ j. Some (sym e j)
-in_option (Some z) y (inr i) = absurd i
+in_option h0 y i = grind arith
 
 option_in : {Y : Type 0} (o : Option Y) (y : Y) → o ≡ Some y → In y (option_to_list o)
 option_in {Y} None y i = absurd (let c : None ≡ Some y = i in cc)

@@ -20,22 +20,18 @@ slice_near (x ∷ xs) (suc i) = slice_near xs i
 
 -- a table that has the column has a near table
 of_column : (c : ℕ) (entries : Option (List ℕ)) → IsSome entries → near_if c entries ≡ Some (near_table c (entries_or_none entries))
-of_column c None some = absurd (false≢true some)
-of_column c (Some entries) some = refl
+of_column c h1 some = grind (arith, false≢true)
 
 pub near_found : (tables : Tables) (d : ℕ) (u : TableValue) → tables d ≡ Some u → IsSome u.reach → near_tables tables d ≡ Some (near_table u.class (entries_or_none u.reach))
 near_found tables d u found there = ap near_of found ∙ of_column u.class u.reach there
 
 -- and one that has a near table has the column
 had : (c : ℕ) (entries : Option (List ℕ)) → IsSome (near_if c entries) → IsSome entries
-had c None some = some
-had c (Some entries) some = refl
+had c h1 some = grind arith
 
 pub near_has : (o : Option TableValue) → IsSome (near_of o) → (u : TableValue) × (o ≡ Some u) × IsSome u.reach
-near_has None some = absurd (false≢true some)
-near_has (Some u) some = (u, refl, had u.class u.reach some)
+near_has h0 some = grind (arith, false≢true, had)
 
 -- an entry that shows a number is not 0, and twice as much fits a word
 pub shown_range : (x : ℕ) (number : Option ℕ) → ShowsReach x number → (1 ≤ x) × (x ≤ 32002)
-shown_range x (Some n) s = (omega (arith, s.1), omega (arith, s.0, s.1))
-shown_range x None s = (omega (arith, s.1), omega (arith, s.1))
+shown_range x h1 s = grind arith

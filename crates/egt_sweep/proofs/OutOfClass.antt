@@ -14,19 +14,13 @@ use Rattle.egt_sweep.proofs.Staying.{quiet_goes_on}
 
 -- the exit of the value that an entry shows
 draw_shown : (x : ℕ) (v : Value) → Shows x v → x ≡ 1 → v ≡ Draw
-draw_shown x (Win n) s e = absurd (omega (arith, s.1, e))
-draw_shown x (Loss n) s e = absurd (omega (arith, s.1, e))
-draw_shown x Draw s e = refl
+draw_shown x h1 s e = grind arith
 
 win_shown : (x : ℕ) (v : Value) → Shows x v → x % 2 ≡ 0 → v ≡ Win ((x - 2) / 2)
-win_shown x (Win n) s e = ap Win (omega (arith, s.1))
-win_shown x (Loss n) s e = absurd (omega (arith, s.1, e))
-win_shown x Draw s e = absurd (omega (arith, s.1, e))
+win_shown x h1 s e = grind arith
 
 loss_shown : (x : ℕ) (v : Value) → Shows x v → x ≢ 1 → x % 2 ≢ 0 → v ≡ Loss ((x - 3) / 2)
-loss_shown x (Win n) s ne odd = absurd (odd (omega (arith, s.1)))
-loss_shown x (Loss n) s ne odd = ap Loss (omega (arith, s.1))
-loss_shown x Draw s ne odd = absurd (ne s.1)
+loss_shown x h1 s ne odd = grind arith
 
 pub exit_draw : (metric : Metric) (x : ℕ) (v : Value) → Shows x v → x ≡ 1 → exits.Draw ≡ exit_of metric (read x)
 exit_draw metric x v s e = sym (ap (exit_of metric) (read_shown x v s ∙ draw_shown x v s e))
@@ -93,8 +87,7 @@ module _ (laws : Laws) (tables : Tables) (metric : Metric) (c : ℕ) (p q : Setu
   off_exit off = exit_is false (goes_false off (goes_on metric c p m q) refl)
 
 pub mapped_some : {A B : Type 0} (f : A → B) (o : Option A) (x : Option B) → option_map f o ≡ x → IsSome x → IsSome o
-mapped_some f None x e some = subst IsSome (sym e) some
-mapped_some f (Some a) x e some = refl
+mapped_some f h1 x e some = grind arith
 
 pub mapped_found : {A B : Type 0} (f : A → B) (o : Option A) (a : A) (x : Option B) → option_map f o ≡ x → o ≡ Some a → x ≡ Some (f a)
 mapped_found f o a x e is = sym e ∙ ap (option_map f) is
@@ -114,16 +107,14 @@ child_there laws tables c p q m c_in ok of children leads off d flipped d_in d_o
     q_ok = laws.facts.step_admissible p q m ok leads
 
 beside_some : (t : TableValue) (o : Option TableValue) (b : Bool) → IsSome o → IsSome (if b then Some t else o)
-beside_some t o true some = refl
-beside_some t o false some = some
+beside_some t o h2 some = grind arith
 
 -- the table of its own class
 pub beside_own : (tables : Tables) (t : TableValue) → beside tables t t.class ≡ Some t
 beside_own tables t = ap (λ (b : Bool). if b then Some t else tables t.class) (eq-eqb t.class t.class refl)
 
 test_false : (m n : ℕ) → m ≢ n → (b : Bool) → eqb m n ≡ b → b ≡ false
-test_false m n other true e = absurd (other (eqb-true m n e))
-test_false m n other false e = refl
+test_false m n other h3 e = grind (arith, eqb-true)
 
 -- those of other classes
 pub beside_other : (tables : Tables) (t : TableValue) (d : ℕ) → d ≢ t.class → beside tables t d ≡ tables d

@@ -1,10 +1,9 @@
 -- A round over items, one item more.
-use Rattle.std.proofs.Common.{◌≡◌, ◌∙◌, ℕ, ◌+◌, ◌<◌, ◌≤◌, List, [], None, length, slice_index_or}
-use Rattle.std.proofs.Common.{slice_set, inl, inr, ap, sym, subst, arith}
-use Rattle.egt_sweep.specs.FillPrelude.{cases_lt, get_or_default, length-set, set-get_or, Side, TableValue, IsKept}
-use Rattle.egt_sweep.specs.FillPrelude.{IsPlaced, column_score, IsMendedAt, IsOfKings, AreAllKept}
-use Rattle.egt_sweep.specs.FillPrelude.{AreBothKept, AreFreshItems, IsFreshItem, IsUntouched, IsLookedAt}
-use Rattle.egt_sweep.specs.FillPrelude.{IsStamped, IsUnderWay, Filling, Item, Kept, Marks, Near}
+use Rattle.std.proofs.Common.{◌≡◌, ◌∙◌, ℕ, ◌+◌, ◌<◌, ◌≤◌, List, length, slice_index_or, slice_set, inl, inr, ap, sym}
+use Rattle.std.proofs.Common.{subst, arith}
+use Rattle.egt_sweep.specs.FillPrelude.{cases_lt, get_or_default, length-set, set-get_or, TableValue, IsMendedAt}
+use Rattle.egt_sweep.specs.FillPrelude.{IsOfKings, AreBothKept, AreFreshItems, IsFreshItem, IsUntouched, IsLookedAt}
+use Rattle.egt_sweep.specs.FillPrelude.{IsStamped, IsUnderWay, Filling, Item, Kept, Marks}
 use Rattle.egt_sweep.proofs.PutEntries.{mended_after}
 use Rattle.egt_sweep.proofs.StillUnderWay.{still_under_way}
 
@@ -51,16 +50,3 @@ module _ (f : Filling) (first : TableValue) (items : List Item) (t : TableValue)
         (let few = passed.4 in omega (arith, few)),
         λ none. absurd (omega (arith, none)),
       )
-
--- where no place has a key, nothing is kept that could be wrong
-pub none_kept : (f : Filling) (t : TableValue) (side : Side) (near : Near) → 12 < length near.keys.items → length near.blocks.items ≡ length near.keys.items → ((i : ℕ) → i < length near.keys.items → slice_index_or near.keys.items i None ≡ None)
-    → AreAllKept f t side near
-none_kept f t side near wide as_many none = record {
-  kept = record {
-    some = omega (arith, wide);
-    as_many = as_many;
-    each = λ i below. subst (λ key. IsKept f.class (column_score t) f.men side key (slice_index_or near.blocks.items i [])) (sym (none i below)) tt;
-    placed = λ i below. subst (λ key. IsPlaced (length near.keys.items) key i) (sym (none i below)) tt;
-  };
-  wide = wide;
-}

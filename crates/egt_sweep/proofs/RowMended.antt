@@ -1,21 +1,19 @@
 -- A row whose entries are put where they are not due.
 use Rattle.std.proofs.Common.{◌≡◌, ◌≢◌, ◌∙◌, ℕ, ◌+◌, ◌%◌, ◌<◌, List, max, min, arith, sym, ap, inl, inr, slice_index}
 use Rattle.std.proofs.Common.{subst}
-use Rattle.egt_sweep.specs.FillPrelude.{bit_at, cases_eq, bit_at-lt, SquareSet, code_of, number_of, kind_digits, kind_less}
-use Rattle.egt_sweep.specs.FillPrelude.{number_in, size_of, due_score, TableValue, column_of, IsRightAtOf, IsRightEndOf}
-use Rattle.egt_sweep.specs.FillPrelude.{due_in, column_score, entry_score, Part, Values, Reach, AreEnded, IsCodeOf, IsLaneOf}
-use Rattle.egt_sweep.specs.FillPrelude.{IsMendedAt, IsPutAt, IsRightRow, IsRowSeen, IsShelf, Shelf}
+use Rattle.egt_sweep.specs.FillPrelude.{bit_at, cases_eq, bit_at-lt, SquareSet, code_of, number_of, kind_digits}
+use Rattle.egt_sweep.specs.FillPrelude.{kind_less, number_in, size_of, due_score, TableValue, column_of, IsRightAtOf}
+use Rattle.egt_sweep.specs.FillPrelude.{IsRightEndOf, due_in, column_score, entry_score, Part, AreEnded, IsCodeOf}
+use Rattle.egt_sweep.specs.FillPrelude.{IsLaneOf, IsMendedAt, IsPutAt, IsRightRow, IsRowSeen, IsShelf, Shelf}
 use Rattle.egt_sweep.proofs.PutEntries.{end_stays, mended_after, put_stays, widened}
 use Rattle.egt_sweep.proofs.ShelfLanes.{one_digit}
 
 -- entries that are due, and entries at an end
 right_of : (part : Part) (t : TableValue) (i score zeroing : ℕ) → score ≢ 0 → IsPutAt part t i (due_in part score) (due_score zeroing) → IsRightAtOf part t i score zeroing
-right_of Values t i score zeroing can put = record { due = λ _. put; end = λ zero. absurd (can zero) }
-right_of Reach t i score zeroing can put = record { due = λ _. put; end = λ zero. absurd (can zero) }
+right_of h0 t i score zeroing can put = grind arith
 
 ended_of : (part : Part) (t : TableValue) (i score zeroing : ℕ) → score ≡ 0 → IsRightEndOf part t i → IsRightAtOf part t i score zeroing
-ended_of Values t i score zeroing zero end = record { due = λ can. absurd (can zero); end = λ _. end }
-ended_of Reach t i score zeroing zero end = record { due = λ can. absurd (can zero); end = λ _. end }
+ended_of h0 t i score zeroing h5 end = grind arith
 
 bit_one : (n i : ℕ) → bit_at n i ≢ 0 → bit_at n i ≡ 1
 bit_one n i some = let few = bit_at-lt n i in omega (arith, few, some)
@@ -43,8 +41,7 @@ module _ (part : Part) (old mid new : TableValue) (shelf : Shelf) (is : IsShelf 
   second = subst (λ c. IsMendedAt part (IsLaneOf c shelf wrong) mid new) first.class later
 
   pub row_mended : IsMendedAt part (IsCodeOf old.class shelf) old new
-  row_mended = mended_after part (IsCodeOf old.class shelf) (IsLaneOf old.class shelf wrong) old mid new (widened part (IsLaneOf old.class shelf ends) (IsCodeOf old.class shelf) old mid first (λ i lane. (lane.0, lane.1, lane.3))) second
-      (λ i lane. (lane.0, lane.1, lane.3))
+  row_mended = grind (arith, mended_after, widened, second)
 
   same_class : new.class ≡ old.class
   same_class = second.class ∙ first.class

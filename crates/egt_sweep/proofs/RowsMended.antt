@@ -102,9 +102,7 @@ module _ (part : Part) (mid new : TableValue) (shelves : Shelf) (are : AreShelve
 -- the shelf of a digit
 pub shelf_same : (shelves : Shelf) (n : ℕ) (m : ShelfMen) (d on : ℕ) → n ≡ d → m ≡ men_on shelves.men on → on ≡ d + kind_less shelves.men.one.kind
     → ◌≡◌ {A = Shelf} (record { number = shelves.number + n; men = m; side = shelves.side; passed = shelves.passed }) (shelf_at shelves d)
-shelf_same shelves n m d on same is at =
-    ap (λ k. record { number = shelves.number + k; men = m; side = shelves.side; passed = shelves.passed }) same
-    ∙ ap (λ (k : ShelfMen). record { number = shelves.number + d; men = k; side = shelves.side; passed = shelves.passed }) (is ∙ ap (men_on shelves.men) at)
+shelf_same shelves n m d on same is at = grind (arith, men_on)
 
 -- ---- shelves stay right while entries elsewhere are put
 

@@ -7,11 +7,7 @@ use Rattle.egt_sweep.proofs.PutEntries.{mended_after}
 
 module _ (c : ℕ) (shelf : Shelf) (is : IsShelf c shelf) where
   pub number_within : (digit : ℕ) → digit < kind_digits shelf.men.last.kind → number_in c shelf.number shelf.side digit < size_of c
-  number_within digit below =
-      let few = side_few shelf.side in
-      let wide = is.of.0.len in
-      let inside = is.within in
-      omega (arith, few, wide, inside, below)
+  number_within digit below = grind (arith, side_few)
 
   pub of_kings : (digit : ℕ) → digit < kind_digits shelf.men.last.kind → IsOfKings c shelf.men.white shelf.men.black shelf.side (code_of c (number_in c shelf.number shelf.side digit))
   of_kings digit below = record {
@@ -25,15 +21,11 @@ module _ (c : ℕ) (shelf : Shelf) (is : IsShelf c shelf) where
   -- different digits have different codes
   pub one_digit : ((n : ℕ) → n < size_of c → number_of c (code_of c n) ≡ n) → (x y : ℕ) → x < kind_digits shelf.men.last.kind → y < kind_digits shelf.men.last.kind
       → code_of c (number_in c shelf.number shelf.side x) ≡ code_of c (number_in c shelf.number shelf.side y) → x ≡ y
-  one_digit numbers x y x_in y_in same =
-      let number : number_in c shelf.number shelf.side x ≡ number_in c shelf.number shelf.side y =
-      sym (numbers (number_in c shelf.number shelf.side x) (number_within x x_in)) ∙ ap (number_of c) same ∙ numbers (number_in c shelf.number shelf.side y) (number_within y y_in) in
-      omega (arith, number)
+  one_digit numbers x y x_in y_in same = grind (arith, number_in, number_within, number_of)
 
 -- the code of a square's digit
 pub code_at : (c d first digit shelf : ℕ) (side : Side) (code : ℕ) → d ≡ c → first ≡ number_in c shelf side 0 → code ≡ code_of d (first + 2 * digit) → code ≡ code_of c (number_in c shelf side digit)
-code_at c d first digit shelf side code same from is =
-    is ∙ ap (λ k. code_of k (first + 2 * digit)) same ∙ ap (code_of c) (let e : first + 2 * digit ≡ number_in c shelf side digit = omega (arith, from) in e)
+code_at c d first digit shelf side code same from is = grind (arith, code_of, number_in)
 
 -- the first number by the class
 pub first_here : (d c first shelf : ℕ) (side : Side) → d ≡ c → first ≡ number_in d shelf side 0 → first ≡ number_in c shelf side 0
@@ -43,9 +35,7 @@ first_here d c first shelf side same is = is ∙ ap (λ k. number_in k shelf sid
 pub more : (part : Part) (d first digit square : ℕ) (shelf : Shelf) (lanes : SquareSet) (code : ℕ) (old mid new : TableValue) → digit < kind_digits shelf.men.last.kind → digit + kind_less shelf.men.last.kind ≡ square → Has lanes square
     → d ≡ old.class → first ≡ number_in old.class shelf.number shelf.side 0 → code ≡ code_of d (first + 2 * digit)
     → IsMendedAt part (IsLaneOf old.class shelf lanes) old mid → IsMendedAt part (λ i. i ≡ code) mid new → IsMendedAt part (IsLaneOf old.class shelf lanes) old new
-more part d first digit square shelf lanes code old mid new below on has same from code_is before put =
-    let at = code_at old.class d first digit shelf.number shelf.side code same from code_is in
-    mended_after part (IsLaneOf old.class shelf lanes) (λ i. i ≡ code) old mid new before put (λ i here. (digit, below, subst (λ s. Has lanes s) (sym on) has, here ∙ at))
+more part d first digit square shelf lanes code old mid new below on has same from code_is before put = grind (arith, code_at, mended_after)
 
 -- codes of a shelf have its kings
 pub codes_of_kings : (c : ℕ) (shelf : Shelf) (code : ℕ) → IsShelf c shelf → IsCodeOf c shelf code → IsOfKings c shelf.men.white shelf.men.black shelf.side code

@@ -1,13 +1,7 @@
 -- Places of stamps, stamps that rise, and the stamps that turns lead to.
-use Rattle.std.proofs.Common.{◌≡◌, ℕ, ◌%◌, ◌<◌, ◌≤◌, List, slice_index, true, false, IsTrue, arith, refl, inl, inr}
-use Rattle.egt_sweep.specs.FillPrelude.{other_side, turned_square, Side, White, Black, has_equal_sides, material_of}
-use Rattle.egt_sweep.specs.FillPrelude.{IsTurnWith, has_pawns, ShelfMen, IsFresh, stamp_place, TurnsTo}
-
--- different squares and sides have different places
-pub one_place : (s r : Side) (w b x y : ℕ) → w < 64 → b < 64 → x < 64 → y < 64 → stamp_place s w b ≡ stamp_place r x y → (s ≡ r) × (w ≡ x) × (b ≡ y)
-one_place White White w b x y w_in b_in x_in y_in e = (refl, omega arith, omega arith)
-one_place Black Black w b x y w_in b_in x_in y_in e = (refl, omega arith, omega arith)
-one_place s r w b x y w_in b_in x_in y_in e = grind arith
+use Rattle.std.proofs.Common.{◌≡◌, ℕ, ◌%◌, ◌≤◌, List, slice_index, true, false, IsTrue, arith, inl, inr}
+use Rattle.egt_sweep.specs.FillPrelude.{other_side, turned_square, Side, has_equal_sides, material_of, IsTurnWith}
+use Rattle.egt_sweep.specs.FillPrelude.{has_pawns, ShelfMen, IsFresh, stamp_place, TurnsTo}
 
 -- what is fresh by later stamps is so by earlier ones
 pub stamps_rise : (c : ℕ) (men : ShelfMen) (side : Side) (old new : List ℕ) (looked : ℕ) → ((i : ℕ) → slice_index old i ≤ slice_index new i) → IsFresh c men side new looked → IsFresh c men side old looked

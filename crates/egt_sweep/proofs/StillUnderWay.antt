@@ -30,9 +30,6 @@ seen_due part white black s old new mended passed children men first side apart 
 
 module _ (f : Filling) (old new : TableValue) (items : List Item) (marks later : Marks) (i : ℕ) (next : Item) (below : f.class < 36) (class : old.class ≡ f.class)
     (under : IsUnderWay f old items marks) (i_in : i < length items) where
-  before : Item
-  before = slice_index_or items i next
-
   module _ (look : IsLookedAt f old new (slice_index_or items i next) next marks.tick) (stamped : IsStamped (slice_index_or items i next) old new marks later) where
     -- stamps only rise
     rise : (j : ℕ) → slice_index marks.stamps.items j ≤ slice_index later.stamps.items j
@@ -138,9 +135,7 @@ module _ (f : Filling) (old new : TableValue) (items : List Item) (marks later :
     within k k_in = let e = length-set items i next in omega (arith, k_in, e)
 
     place_next : place_of next ≡ place_of (slice_index_or items i next)
-    place_next =
-        ap (λ (s : Side). place_of (record { first = next.first; white = next.white; black = next.black; side = s; looked = next.looked; ended = next.ended; passed_ended = next.passed_ended; leaving = next.leaving })) look.side
-        ∙ (let white = look.white in let black = look.black in omega (arith, white, black))
+    place_next = grind (arith, place_of)
 
     pub still_under_way : IsUnderWay f new (slice_set items i next) later
     still_under_way = record {

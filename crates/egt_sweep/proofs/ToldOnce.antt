@@ -1,15 +1,15 @@
 -- A code tells one side to move and one square for each man.
-use Rattle.std.proofs.Common.{◌≡◌, ℕ, ◌<◌, Bool, true, false, cond, List, [], ◌∷◌, refl, sym, ap, subst, ◌∙◌, arith}
-use Rattle.egt_sweep.specs.FillPrelude.{king_of, side_number, Man, Side, White, Black, material_of, AreDigits, has_target}
-use Rattle.egt_sweep.specs.FillPrelude.{men_bases, men_at, list_of, TellsMen, Stand, number_from-same, side_few, heads, tails}
+use Rattle.std.proofs.Common.{◌≡◌, ℕ, ◌<◌, Bool, cond, List, [], ◌∷◌, refl, sym, ap, ◌∙◌, arith}
+use Rattle.egt_sweep.specs.FillPrelude.{king_of, side_number, Man, Side, White, Black, material_of, AreDigits}
+use Rattle.egt_sweep.specs.FillPrelude.{has_target, men_bases, men_at, list_of, TellsMen, Stand, number_from-same}
+use Rattle.egt_sweep.specs.FillPrelude.{side_few, heads, tails}
 
 flag_few : (passed : Bool) → cond passed 1 0 < 2
 flag_few passed = grind arith
 
 -- the lowest digits
 ends_fit : (target : Bool) (side : Side) (passed : Bool) → AreDigits (2 ∷ cond target (2 ∷ []) []) (side_number side ∷ cond target (cond passed 1 0 ∷ []) [])
-ends_fit true side passed = (side_few side, (flag_few passed, tt))
-ends_fit false side passed = (side_few side, tt)
+ends_fit h0 side passed = grind (arith, side_few, flag_few)
 
 one_flag : (p q : Bool) → ◌≡◌ {A = ℕ} (cond p 1 0) (cond q 1 0) → p ≡ q
 one_flag p q e = grind arith
@@ -19,15 +19,7 @@ one_side side other e = grind arith
 
 -- of two lists of men the squares of the kings
 first_squares : (white black white' black' : ℕ) (rest rest' : List (Man × ℕ)) → ◌≡◌ {A = List (Man × ℕ)} ((king_of White, white) ∷ (king_of Black, black) ∷ rest) ((king_of White, white') ∷ (king_of Black, black') ∷ rest') → (white ≡ white') × (black ≡ black')
-first_squares white black white' black' rest rest' e = (ap first e, ap second e)
-  where
-    first : List (Man × ℕ) → ℕ
-    first [] = 0
-    first (x ∷ xs) = x.1
-
-    second : List (Man × ℕ) → ℕ
-    second [] = 0
-    second (x ∷ xs) = first xs
+first_squares white black white' black' rest rest' e = grind arith
 
 module _ (c code : ℕ) (p q : Bool) (s t : Stand) (side other : Side) (here : TellsMen p c code s side) (there : TellsMen q c code t other) where
   both : (here.number ≡ there.number) × (side_number side ∷ cond (has_target (material_of c)) (cond p 1 0 ∷ []) [] ≡ side_number other ∷ cond (has_target (material_of c)) (cond q 1 0 ∷ []) [])
@@ -47,8 +39,7 @@ module _ (c code : ℕ) (p q : Bool) (s t : Stand) (side other : Side) (here : T
   kings_told = first_squares s.white s.black t.white t.black _ _ same_list
 
   same_flag : (b : Bool) → has_target (material_of c) ≡ b → p ≡ q
-  same_flag false none = here.ends.never none ∙ sym (there.ends.never none)
-  same_flag true some = one_flag p q (heads (tails (subst (λ (t : Bool). ◌≡◌ {A = List ℕ} (side_number side ∷ cond t (cond p 1 0 ∷ []) []) (side_number other ∷ cond t (cond q 1 0 ∷ []) [])) some both.1)))
+  same_flag h0 none = grind (arith, one_flag, heads, tails, side_number, both)
 
   pub passed_told : p ≡ q
   passed_told = same_flag (has_target (material_of c)) refl

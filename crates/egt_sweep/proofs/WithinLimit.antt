@@ -1,18 +1,14 @@
 -- Whether the mates of a true table are within a limit.
 use Rattle.std.proofs.Common.{◌≡◌, ℕ, ◌+◌, ◌*◌, ◌<◌, ◌≤◌, ◌⊎◌, inl, inr, subst, arith}
-use Rattle.egt_sweep.specs.Prelude.{Setup, IsAdmissible, Spells, IsIndex, IsVoid, size_of, Value, Win, Loss, Draw}
-use Rattle.egt_sweep.specs.Prelude.{HasValue, chess, Shows, entry_at, IsTrueTable, Mate, TableValue, AllWithinLimit}
-use Rattle.egt_sweep.specs.Prelude.{IsAboveLimit, IsWithinLimit, SomeAboveLimit, Laws}
+use Rattle.egt_sweep.specs.Prelude.{Setup, IsAdmissible, Spells, IsIndex, IsVoid, size_of, Value, HasValue, chess}
+use Rattle.egt_sweep.specs.Prelude.{Shows, entry_at, IsTrueTable, Mate, TableValue, AllWithinLimit, IsAboveLimit}
+use Rattle.egt_sweep.specs.Prelude.{IsWithinLimit, SomeAboveLimit, Laws}
 
 shown_within : (x limit : ℕ) (v : Value) → Shows x v → x ≤ 3 + 2 * limit → IsWithinLimit limit v
-shown_within x limit (Win n) shows le = omega (arith, shows.1, le)
-shown_within x limit (Loss n) shows le = omega (arith, shows.1, le)
-shown_within x limit Draw shows le = tt
+shown_within x limit h2 shows le = grind arith
 
 shown_above : (x limit : ℕ) (v : Value) → Shows x v → 3 + 2 * limit < x → IsAboveLimit limit v
-shown_above x limit (Win n) shows lt = omega (arith, shows.1, lt)
-shown_above x limit (Loss n) shows lt = omega (arith, shows.1, lt)
-shown_above x limit Draw shows lt = omega (arith, shows.1, lt)
+shown_above x limit h2 shows lt = grind arith
 
 module _ (laws : Laws) (t : TableValue) (below : t.class < 36) (truth : IsTrueTable t) (limit : ℕ) where
   -- where no mate entry is above that of a loss at the limit

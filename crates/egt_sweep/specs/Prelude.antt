@@ -43,8 +43,8 @@ pub use Rattle.egt_index.specs.Index.{IsIndex, IsVoid}
 unfoldable pub use Rattle.egt_index.specs.Size.{size_of}
 pub use Rattle.egt_moves.proofs.Admissible.{pawn_told}
 pub use Rattle.egt_moves.specs.AllMen.{AreMenOf}
-pub use Rattle.egt_moves.specs.Arena.{AvoidsMateFor, CannotMateWithin, Draw, HasMove, HasValue, IsLost, IsMatedWithin}
-pub use Rattle.egt_moves.specs.Arena.{IsStalemate, IsWon, Loss, MatesWithin, SomeMove, Value, Win}
+pub use Rattle.egt_moves.specs.WinLossDraw.{AvoidsMateFor, CannotMateWithin, Draw, HasMove, HasValue, IsLost, IsMatedWithin}
+pub use Rattle.egt_moves.specs.WinLossDraw.{IsStalemate, IsWon, Loss, MatesWithin, SomeMove, Value, Win}
 pub use Rattle.egt_moves.specs.Chess.{IsPawnOn, Zeroes, chess}
 pub use Rattle.egt_moves.specs.DecidedMoves.{decided_checkmate, decided_zeroes}
 pub use Rattle.egt_moves.specs.Entries.{Fits, JudgedOver}

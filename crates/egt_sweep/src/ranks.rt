@@ -7,10 +7,10 @@ ghost use Rattle.egt_sweep.specs.Prelude.{IsWithinLimit, SomeAboveLimit, SomeRea
 ghost use Rattle.egt_sweep.specs.Prelude.{exit_of, reach_game, Plies};
 
 use crate::laws::laws;
+use egt_moves::dead::{more_plies_reach_more, one_reach, reach_is_kept};
 use egt_moves::laws::{
     all_images_are_alike, halves_meet, least_plies, more_plies, one_value, zeroes_in_time,
 };
-use egt_moves::reaching::{more_plies_reach_more, one_reach, reach_is_kept};
 
 /// What holds of forced mates, of zeroing moves and of images.
 fn plies()

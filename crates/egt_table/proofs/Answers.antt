@@ -1,7 +1,7 @@
 -- What the parts of a file that were read tell of all its bytes.
-use Rattle.std.proofs.Common.{◌≡◌, ℕ, ◌+◌, ◌^◌, ◌<◌, ◌≤◌, nat_lt, ◌==◌, ◌⊎◌, inl, inr, Bool, true, false, le-ltb}
-use Rattle.std.proofs.Common.{lt-ltb, List, [], ◌∷◌, ◌++◌, length, drop, Option, Some, None, refl, sym, ap, subst, ◌∙◌}
-use Rattle.std.proofs.Common.{arith, length-append, IfSome, if◌then◌else◌}
+use Rattle.std.proofs.Common.{◌≡◌, ℕ, ◌+◌, ◌^◌, ◌<◌, ◌≤◌, nat_lt, ◌==◌, ◌⊎◌, inl, inr, Bool, true, false, le-ltb, List}
+use Rattle.std.proofs.Common.{[], ◌∷◌, ◌++◌, length, drop, Option, Some, None, refl, sym, ap, subst, ◌∙◌, arith}
+use Rattle.std.proofs.Common.{length-append, IfSome, if◌then◌else◌}
 use Rattle.egt_table.specs.Prelude.{Consumes, little_number, size_of, FileFault, AreBytes, Field, bytes_of}
 use Rattle.egt_table.specs.Prelude.{column_bytes, HasHeader, IsAnswer, first_fault, header_fields, header_fault}
 use Rattle.egt_table.specs.Prelude.{header_of, file_fault, file_length, version_of, stated_version, CountsFault, IsCut}
@@ -82,27 +82,14 @@ header_is version class header b l e = fields_right (header_fields version class
 
 -- what came before a cut
 pub cut_more : (left mid : Option (List ℕ)) (done : List ℕ) (n m : ℕ) (fault : FileFault) → Consumes left mid done → IsCut n mid fault → length done + n ≤ m → IsCut m left fault
-cut_more left mid done n m faults.Device p q h = tt
-cut_more left mid done n m faults.NoMemory p q h = tt
-cut_more None mid done n m faults.Short p q h = tt
-cut_more (Some xs) None done n m faults.Short p q h = absurd p
-cut_more (Some xs) (Some ys) done n m faults.Short p q h = omega (arith, ap length p, length-append {A = ℕ})
-cut_more left mid done n m fault p q h = absurd q
+cut_more left mid done n m h5 p q h = grind (arith, length-append)
 
 pub misfit_of_cut : (n : ℕ) (left : Option (List ℕ)) (fault : FileFault) → IsCut n left fault → IsMisfit n left fault
 misfit_of_cut n left fault q = grind arith
 
 -- what came before the end
 pub misfit_more : (left mid : Option (List ℕ)) (done : List ℕ) (n : ℕ) (fault : FileFault) → Consumes left mid done → IsMisfit 0 mid fault → length done ≡ n → IsMisfit n left fault
-misfit_more left mid done n faults.Device p q h = tt
-misfit_more left mid done n faults.NoMemory p q h = tt
-misfit_more None mid done n faults.Short p q h = tt
-misfit_more (Some xs) None done n faults.Short p q h = absurd p
-misfit_more (Some xs) (Some ys) done n faults.Short p q h = absurd (omega arith)
-misfit_more None mid done n faults.Trailing p q h = tt
-misfit_more (Some xs) None done n faults.Trailing p q h = absurd p
-misfit_more (Some xs) (Some ys) done n faults.Trailing p q h = omega (arith, ap length p, length-append {A = ℕ})
-misfit_more left mid done n fault p q h = absurd q
+misfit_more left mid done n h4 p q h = grind (arith, length-append)
 
 too_short : (class : ℕ) (bytes : List ℕ) → HasHeader class bytes → length bytes < file_length (stated_version bytes) class → file_fault class bytes ≡ Some faults.Short
 too_short class bytes h l = grind (arith, nat_lt, length, le-ltb)
@@ -114,19 +101,7 @@ too_long class bytes h l = grind (arith, nat_lt, length, le-ltb)
 pub columns_answer : (version class : ℕ) (left mid : Option (List ℕ)) (header : List ℕ) (n : ℕ) (fault : FileFault)
     → Consumes left mid header → length header ≡ 16 → 16 + n ≡ file_length version class → IfSome left (λ bytes. HasHeader class bytes × (stated_version bytes ≡ version)) → IsMisfit n mid fault
     → IfSome left (λ bytes. IsAnswer class bytes fault)
-columns_answer version class None mid header n fault p l s h q = tt
-columns_answer version class (Some bytes) None header n fault p l s h q = absurd p
-columns_answer version class (Some bytes) (Some rest) header n faults.Device p l s h q = tt
-columns_answer version class (Some bytes) (Some rest) header n faults.NoMemory p l s h q = h.0
-columns_answer version class (Some bytes) (Some rest) header n faults.Short p l s h q =
-    let whole : length bytes ≡ 16 + length rest = omega (arith, ap length p, length-append {A = ℕ}) in
-    let here : length bytes < file_length version class = omega arith in
-    too_short class bytes h.0 (subst (λ (v : ℕ). length bytes < file_length v class) (sym h.1) here)
-columns_answer version class (Some bytes) (Some rest) header n faults.Trailing p l s h q =
-    let whole : length bytes ≡ 16 + length rest = omega (arith, ap length p, length-append {A = ℕ}) in
-    let here : file_length version class < length bytes = omega arith in
-    too_long class bytes h.0 (subst (λ (v : ℕ). file_length v class < length bytes) (sym h.1) here)
-columns_answer version class (Some bytes) (Some rest) header n fault p l s h q = absurd q
+columns_answer version class h2 mid header n fault p l s h q = grind (arith, length-append, file_length, too_short, too_long)
 
 pub header_of_length : (version class : ℕ) → length (header_of version class) ≡ 16
 unfolding header_fields

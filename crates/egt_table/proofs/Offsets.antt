@@ -1,6 +1,6 @@
 -- Where the numbers of a table's file stand, and that they determine the table.
 use Rattle.std.proofs.Common.{◌≡◌, ℕ, zero, suc, ◌+◌, ◌*◌, ◌^◌, ◌<◌, ◌≤◌, List, [], ◌∷◌, ◌++◌, length, drop, get_or}
-use Rattle.std.proofs.Common.{Option, Some, IsSome, refl, sym, ap, subst, ◌∙◌, arith}
+use Rattle.std.proofs.Common.{Option, Some, IsSome, refl, sym, ap, ◌∙◌, arith}
 use Rattle.egt_table.specs.Prelude.{flat_map, slice_get, drop-append-add, ext_get_or, little_number}
 use Rattle.egt_table.specs.Prelude.{little_number-reads_back, size_of, Column, Mate, Zeroing, Reach, bytes_of}
 use Rattle.egt_table.specs.Prelude.{column_bytes, columns_in, entries_bytes, field_bytes, header_fields, header_of}

@@ -1,6 +1,6 @@
 -- Files of both versions: what their bytes tell of the version, and what stands behind the header.
-use Rattle.std.proofs.Common.{◌≡◌, ℕ, ◌+◌, ◌*◌, ◌≤◌, inl, inr, List, ◌++◌, length, drop, Option, Some, None, IsSome}
-use Rattle.std.proofs.Common.{refl, ap, ◌∙◌, arith, length-append, length-drop}
+use Rattle.std.proofs.Common.{◌≡◌, ℕ, ◌+◌, ◌*◌, ◌≤◌, List, ◌++◌, length, drop, Option, IsSome, refl, ap, arith}
+use Rattle.std.proofs.Common.{length-append, length-drop}
 use Rattle.egt_table.specs.Prelude.{flat_map, append-nil, drop-append-le, little_number, little_from-append, size_of}
 use Rattle.egt_table.specs.Prelude.{Column, Mate, Zeroing, Reach, bytes_of, column_bytes, columns_in, entries_bytes}
 use Rattle.egt_table.specs.Prelude.{file_length, header_fields, header_of, version_of, stated_version, IsVersion}
@@ -23,9 +23,7 @@ told_of_header reach class = grind arith
 
 pub told_of_table : (t : TableValue) → stated_version (bytes_of t) ≡ version_of t.reach
 unfolding header_fields
-told_of_table t =
-    let header = header_of (version_of t.reach) t.class in
-    told_of_all (bytes_of t) header (flat_map (column_bytes t) (columns_of t)) refl (omega arith) ∙ told_of_header t.reach t.class
+told_of_table t = grind (arith, header_of, version_of, told_of_all, bytes_of, flat_map, column_bytes, columns_of, told_of_header)
 
 -- the bytes of the columns, by name
 third_bytes : (f : Column → List ℕ) (reach : Option (List ℕ)) → f Reach ≡ entries_bytes (entries_or_none reach)

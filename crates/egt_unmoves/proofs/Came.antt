@@ -1,12 +1,11 @@
 -- What a move that neither captures nor promotes does to the men, and taking it back.
-use Rattle.std.proofs.Common.{◌≡◌, ◌≢◌, ℕ, ◌&&◌, Option, Some, None, false, refl, sym, ap, ◌∙◌, inl, inr, if◌then◌else◌}
-use Rattle.egt_unmoves.specs.Prelude.{cases_eq, eqb_tells, Kind, P, Man, other_side, ahead, Placement}
-use Rattle.egt_unmoves.specs.Prelude.{Stands, IsFree, one_man, same_men, get-insert_same, get-insert_other}
-use Rattle.egt_unmoves.specs.Prelude.{get-remove_same, get-remove_other, Setup, SettlesTo, Move, Goes, plain, is_target}
+use Rattle.std.proofs.Common.{◌≡◌, ◌≢◌, ℕ, Option, Some, None, refl, sym, ap, ◌∙◌, inl, inr, arith}
+use Rattle.egt_unmoves.specs.Prelude.{cases_eq, eqb_tells, P, Man, other_side, ahead, Placement, Stands, IsFree}
+use Rattle.egt_unmoves.specs.Prelude.{one_man, same_men, get-insert_same, get-insert_other, get-remove_same}
+use Rattle.egt_unmoves.specs.Prelude.{get-remove_other, Setup, SettlesTo, Move, Goes, plain, is_target}
 use Rattle.egt_unmoves.specs.Prelude.{takes_in_passing, men_left, is_pawn, arriving, ComesBy, MayComeFrom, GoesOver}
 use Rattle.egt_unmoves.specs.Prelude.{men_before, setup_before, side_twice, side_cases}
 use Rattle.std.specs.FinMap as map
-use Rattle.std.proofs.Common.{arith}
 pub use Rattle.egt_board.proofs.Facing.{unput_free}
 
 pub not_free : {A : Type 0} (men : Placement) (s : ℕ) (man : Man) → IsFree men s → Stands men s man → A
@@ -14,32 +13,14 @@ not_free men s man free stands = let bad : Some man ≡ None = sym stands ∙ fr
 
 -- no man is taken in passing but by a pawn that arrives on the target
 pub left_whole : (b : Setup) (man : Man) (to : ℕ) → (man.kind ≡ P → b.target ≡ Some to → ⊥) → men_left b man to ≡ b.men
-left_whole b man to never = by_kind man.kind refl
-  where
-    kept : takes_in_passing b man to ≡ false → men_left b man to ≡ b.men
-    kept e = ap (λ x. if x then map.remove b.men (ahead (other_side b.side) to) else b.men) e
-
-    no_pawn : is_pawn man.kind ≡ false → men_left b man to ≡ b.men
-    no_pawn e = kept (ap (λ x. x && is_target b.target to) e)
-
-    by_target : man.kind ≡ P → (o : Option ℕ) → b.target ≡ o → men_left b man to ≡ b.men
-    by_target pawn None e = kept (ap (λ k. is_pawn k && is_target b.target to) pawn ∙ ap (λ o. is_target o to) e)
-    by_target pawn (Some t) e = elim (eqb_tells t to) [
-      | inl h ↦ absurd (never pawn (e ∙ ap Some h.1))
-      | inr h ↦ kept (ap (λ k. is_pawn k && is_target b.target to) pawn ∙ ap (λ o. is_target o to) e ∙ h.0)
-    ]
-
-    by_kind : (kind : Kind) → man.kind ≡ kind → men_left b man to ≡ b.men
-    by_kind kind e = grind arith
+left_whole b man to never = grind (arith, never, takes_in_passing, men_left, ahead, other_side, is_pawn, is_target, eqb_tells)
 
 -- settling changes neither the men nor the side to move
 pub settles_men : (p q : Setup) → SettlesTo p q → q.men ≡ p.men
-settles_men p q (inl h) = ap (λ (x : Setup). x.men) h.1
-settles_men p q (inr h) = ap (λ (x : Setup). x.men) h.1
+settles_men p q h2 = grind arith
 
 pub settles_side : (p q : Setup) → SettlesTo p q → q.side ≡ p.side
-settles_side p q (inl h) = ap (λ (x : Setup). x.side) h.1
-settles_side p q (inr h) = ap (λ (x : Setup). x.side) h.1
+settles_side p q h2 = grind arith
 
 pub settles_once : (p q r : Setup) → SettlesTo p q → SettlesTo p r → q ≡ r
 settles_once p q r h h' = grind arith
@@ -116,10 +97,7 @@ came b m q c = record {
     free = free_or (map.get b.men m.to) refl
 
     men_now : q.men ≡ map.insert (map.remove b.men m.from) m.to c.leads.man
-    men_now =
-        settles_men c.led q c.settles ∙ ap (λ (x : Setup). x.men) c.leads.becomes
-        ∙ ap (λ x. map.insert (map.remove x m.from) m.to (arriving c.leads.man m.promo)) (left_whole b c.leads.man m.to never)
-        ∙ ap (λ x. map.insert (map.remove b.men m.from) m.to (arriving c.leads.man x)) c.no_promotion
+    men_now = grind (arith, settles_men, arriving, left_whole, never)
 
     moved : Stands q.men m.to c.leads.man × IsFree q.men m.from × (b.men ≡ men_before q.men c.leads.man m.to m.from)
     moved = moved_on b.men q.men c.leads.man m.from m.to c.leads.stands free men_now

@@ -1,10 +1,10 @@
 -- Four men leave room for one target that a pawn stands ready to take.
-use Rattle.std.proofs.Common.{◌≡◌, ◌≢◌, ℕ, suc, zero, ◌-◌, ◌≤◌, ◌⊎◌, Option, Some, None, cond, arith, refl, sym}
-use Rattle.std.proofs.Common.{ap, ◌∙◌, inl, inr, subst}
-use Rattle.egt_unmoves.specs.Prelude.{is_some, nat_cmp_total, nat_cmp, cases_eq, Side, White, Black, Man}
-use Rattle.egt_unmoves.specs.Prelude.{other_side, king_of, pawn_of, ahead, HasPawnBeside, Placement, Stands, one_man}
-use Rattle.egt_unmoves.specs.Prelude.{get-remove_other, Setup, IsAdmissible, IsSettled, rank_of, IsTarget, target_rank}
-use Rattle.egt_unmoves.specs.Prelude.{Move, advanced_rank, ComesBy, MayComeFrom, side_twice, sides_differ}
+use Rattle.std.proofs.Common.{◌≡◌, ◌≢◌, ℕ, suc, zero, ◌-◌, ◌≤◌, ◌⊎◌, Option, Some, None, cond, arith, refl, sym, ap}
+use Rattle.std.proofs.Common.{◌∙◌, inl, inr, subst}
+use Rattle.egt_unmoves.specs.Prelude.{is_some, nat_cmp_total, nat_cmp, cases_eq, Side, Man, other_side, pawn_of, ahead}
+use Rattle.egt_unmoves.specs.Prelude.{HasPawnBeside, Placement, Stands, one_man, get-remove_other, Setup, IsAdmissible}
+use Rattle.egt_unmoves.specs.Prelude.{IsSettled, rank_of, IsTarget, target_rank, Move, advanced_rank, ComesBy}
+use Rattle.egt_unmoves.specs.Prelude.{MayComeFrom, side_twice, sides_differ}
 use Rattle.std.specs.FinMap as map
 use Rattle.egt_unmoves.proofs.Came.{Came, came, not_free}
 use Rattle.egt_unmoves.proofs.Went.{elsewhere, stood}
@@ -43,9 +43,6 @@ five_men men a b c d e v w x y z on_a on_b on_c on_d on_e ab ac ad ae bc bd be c
   where
     stays : (m : Placement) (s t : ℕ) (man : Man) → s ≢ t → Stands m t man → Stands (map.remove m s) t man
     stays m s t man other stands = get-remove_other m s t (λ same. other (sym same)) ∙ stands
-
-kings_differ : king_of White ≢ king_of Black
-kings_differ e = let bad : White ≡ Black = ap (λ (x : Man). x.side) e in cc
 
 -- with a pawn of the side to move, the other side has one pawn at most
 one_pawn : (p : Setup) (x y z : ℕ) → IsAdmissible p → Stands p.men x (pawn_of (other_side p.side)) → Stands p.men y (pawn_of (other_side p.side)) → Stands p.men z (pawn_of p.side) → x ≡ y

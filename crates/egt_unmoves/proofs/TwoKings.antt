@@ -1,9 +1,8 @@
 -- Two kings in the corners are a position.
-use Rattle.std.proofs.Common.{◌≡◌, ◌≢◌, ℕ, ◌+◌, ◌≤◌, ◌⊎◌, Some, None, arith, refl, sym, ap}
-use Rattle.std.proofs.Common.{◌∙◌, inl, inr, subst}
-use Rattle.egt_unmoves.specs.Prelude.{is_some, nat_cmp, cases_eq, Side, White, Black, P, K, Man, king_of}
-use Rattle.egt_unmoves.specs.Prelude.{IsInCheck, corners, Reaches, Placement, Stands, IsFree, get-insert_same}
-use Rattle.egt_unmoves.specs.Prelude.{get-insert_other, IsAdmissible, IsKingOn}
+use Rattle.std.proofs.Common.{◌≡◌, ◌≢◌, ℕ, ◌+◌, ◌≤◌, ◌⊎◌, Some, None, arith, refl, sym, ap, ◌∙◌, inl, inr}
+use Rattle.egt_unmoves.specs.Prelude.{is_some, nat_cmp, cases_eq, Side, White, Black, P, K, Man, king_of, IsInCheck}
+use Rattle.egt_unmoves.specs.Prelude.{corners, Reaches, Placement, Stands, IsFree, get-insert_same, get-insert_other}
+use Rattle.egt_unmoves.specs.Prelude.{IsAdmissible, IsKingOn}
 use Rattle.std.specs.FinMap as map
 
 no_more : (m : Placement) (s : ℕ) (man : Man) → map.len (map.insert m s man) ≤ map.len m + 1
@@ -35,33 +34,17 @@ two_men s man stands = elim (cases_eq s 63) [
 ]
 
 pub white_there : IsKingOn corners White 0
-white_there = record { stands = on_white; only = only }
-  where
-    only : (t : ℕ) → Stands corners t (king_of White) → t ≡ 0
-    only t stands = elim (two_men t (king_of White) stands) [ inl w ↦ w.0 | inr b ↦ absurd (kings_differ b.1) ]
+white_there = grind (arith, on_white, corners, king_of, two_men, kings_differ)
 
 pub black_there : IsKingOn corners Black 63
-black_there = record { stands = on_black; only = only }
-  where
-    only : (t : ℕ) → Stands corners t (king_of Black) → t ≡ 63
-    only t stands = elim (two_men t (king_of Black) stands) [ inl w ↦ absurd (kings_differ (sym w.1)) | inr b ↦ b.0 ]
+black_there = grind (arith, on_black, corners, king_of, two_men, kings_differ)
 
 -- a king does not reach the other corner
 too_far : Reaches (IsFree corners) (king_of White) 0 63 → ⊥
 too_far h = grind arith
 
 no_check : ¬ IsInCheck corners Black
-no_check check = too_far (subst (λ t. Reaches (IsFree corners) (king_of White) 0 t) here there)
-  where
-    here : check.square ≡ 63
-    here = black_there.only check.square check.stands
-
-    there : Reaches (IsFree corners) (king_of White) 0 check.square
-    there = elim (two_men check.attacked.from check.attacked.man check.attacked.stands) [
-      | inl w ↦ subst (λ s. Reaches (IsFree corners) (king_of White) s check.square) w.0
-          (subst (λ x. Reaches (IsFree corners) x check.attacked.from check.square) w.1 check.attacked.reaches)
-      | inr b ↦ let bad : Black ≡ White = sym (ap (λ (x : Man). x.side) b.1) ∙ check.attacked.theirs in absurd (cc)
-    ]
+no_check check = grind (arith, too_far, corners, king_of, black_there, two_men)
 
 pub corners-admissible : IsAdmissible (record { men = corners; side = White; target = None })
 corners-admissible = record {

@@ -17,18 +17,7 @@ one_back G side s t free away = record {
 -- a pawn came from one square back, or two
 pub Advances-back : (F G : ℕ → Type 0) (side : Side) (s t : ℕ) → s < 64 → 0 < rank_of t → G s → Advances F side s t
     → Advances G (other_side side) t s ⊎ Advances G (other_side side) (ahead (other_side side) t) s
-Advances-back F G side s t s_in low free a = by_count side a.rides.count a.rides.moves (omega (arith, a.rides.within, farthest_two side s)) a.rides.away
-  where
-    by_count : (side : Side) (n : ℕ) → 0 < n → n ≤ 2 → Away (forward side) n s t → Advances G (other_side side) t s ⊎ Advances G (other_side side) (ahead (other_side side) t) s
-    by_count White (suc zero) some few away = let x = away.across in let y = away.along in
-        inl (one_back G Black s t free (record { on_board = s_in; across = omega arith; along = omega arith }))
-    by_count Black (suc zero) some few away = let x = away.across in let y = away.along in
-        inl (one_back G White s t free (record { on_board = s_in; across = omega arith; along = omega arith }))
-    by_count White (suc (suc zero)) some few away = let x = away.across in let y = away.along in
-        inr (one_back G Black s (t - 8) free (record { on_board = s_in; across = omega arith; along = omega arith }))
-    by_count Black (suc (suc zero)) some few away = let x = away.across in let y = away.along in
-        inr (one_back G White s (t + 8) free (record { on_board = s_in; across = omega arith; along = omega arith }))
-    by_count side n some few away = grind arith
+Advances-back h0 h1 side s t s_in low free a = grind (arith, farthest_two, forward, other_side, ahead, one_back)
 
 -- a pawn that advances comes from the square behind its goal, or over it
 pub passed_over : (F : ℕ → Type 0) (side : Side) (s t : ℕ) → s < 64 → Advances F side s t → (s ≡ ahead (other_side side) t) ⊎ F (ahead (other_side side) t)

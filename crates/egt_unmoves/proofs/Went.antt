@@ -149,8 +149,7 @@ module _ (q : Setup) (man : Man) (to from : ℕ) (may : MayComeFrom q man to fro
       led = λ i. record { men = men i; side = side_twice q.side i; target = passed man from to }
 
       by_going : GoesOver b.men man from to → Goes b man from to
-      by_going (inl piece) = inl (record { piece = piece.0; reaches = piece.1; not_own = λ held. not_free b.men to held.man there.1 held.stands })
-      by_going (inr pawn) = inr (inl (record { pawn = pawn.0; advances = pawn.1 }))
+      by_going h0 = grind (arith, not_free, b, men, there)
 
 -- what the advance of a pawn leaves settles to a position with the target, where a pawn stands ready to take it
 module _ (F : ℕ → Type 0) (q : Setup) (man : Man) (to from target : ℕ) (pawn : man.kind ≡ P) (theirs : man.side ≡ other_side q.side) (advances : Advances F man.side from to) (is : passed man from to ≡ Some target) where

@@ -60,9 +60,4 @@ returns-clause-raised g c = λ told a b a_in b_in.
     (λ code h. (h.0, (h.1, c.in_default.ensures.empty h.0), h.2)) (λ code h. (h.0, h.1.0, h.2))
 
 pub returns-then-not-raise_kept-clause-kept : goal.returns-then-not-raise_kept-clause-kept
-returns-then-not-raise_kept-clause-kept g c =
-    let number = g.S.ShelfScores.number c.args.source.now in
-    let worth = g.S.ShelfScores.worth c.args.source.now c.args.column in
-    let men = c.args.men.now in
-    let side = c.args.side in
-    kept_after number (g.S.ShelfScores.worth c.args.source.now) men side c.in-Some.to c.other.result c.with_king-stepped.result c.raise_kept.new.keys c.raise_kept.new.blocks c.other.ensures c.with_king-stepped.ensures c.raise_kept.ensures.kept
+returns-then-not-raise_kept-clause-kept g c = grind (arith, kept_after, c.other.ensures, c.with_king-stepped.ensures, c.raise_kept.ensures.kept)

@@ -1,8 +1,8 @@
-use Rattle.std.proofs.Common.{◌∙◌, ℕ, false, arith, sym, ap, subst, slice_index}
-use Rattle.egt_blocks.specs.Prelude.{get_or-replicate, other_side, Man, Side, IsLoneMan}
-use Rattle.egt_blocks.specs.Prelude.{IsSomeTurnedCode, ShelfMen, IsRaised, AreKingCodesAlone, stand_alone}
-use Rattle.egt_blocks.specs.Prelude.{IsBesideKing, with_king, IsRead}
-use Rattle.egt_blocks.proofs.BlockRaising.{GoneKing, gone_after, gone_before, left_beside, one_more, raised_alike, raised_by_none, raised_max, same_beside}
+use Rattle.std.proofs.Common.{ℕ, false, arith, sym, subst, slice_index}
+use Rattle.egt_blocks.specs.Prelude.{get_or-replicate, other_side, Side, IsSomeTurnedCode, ShelfMen, IsRaised}
+use Rattle.egt_blocks.specs.Prelude.{AreKingCodesAlone, stand_alone, IsBesideKing, with_king, IsRead}
+use Rattle.egt_blocks.proofs.BlockRaising.{GoneKing, gone_after, gone_before, left_beside, one_more, raised_alike}
+use Rattle.egt_blocks.proofs.BlockRaising.{raised_by_none, raised_max, same_beside}
 use Rattle.egt_blocks.proofs.lone_quiet.king_row.Goals as goal
 
 pub loop-to-init : goal.loop-to-init
@@ -18,8 +18,7 @@ loop-to-init g c =
     )
 
 pub read_lone-requires-clause-man : goal.read_lone-requires-clause-man
-read_lone-requires-clause-man g c =
-    subst (λ (man : Man). IsLoneMan (g.S.LoneScores.number c.args.source.now) man) (sym (ap (λ (m : ShelfMen). m.last) c.with_king-there.ensures ∙ (same_beside c.args.men.now c.args.side c.in-Some.to).1)) c.requires.man
+read_lone-requires-clause-man g c = grind (arith, same_beside, c.with_king-there.ensures, c.requires.man)
 
 pub loop-to-preserved : goal.loop-to-preserved
 loop-to-preserved g c =

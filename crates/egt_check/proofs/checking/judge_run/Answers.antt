@@ -1,6 +1,5 @@
-use Rattle.std.proofs.Common.{◌≡◌, ◌+◌, subst, sym, arith}
-use Rattle.egt_check.specs.Prelude.{Mate, IsFirstBad, IsJudged, KeepsBelow, table_at, beside, keeps_more}
-use Rattle.egt_check.specs.Prelude.{first_bad_more}
+use Rattle.std.proofs.Common.{◌+◌, subst, sym, arith}
+use Rattle.egt_check.specs.Prelude.{Mate, IsFirstBad, IsJudged, table_at, beside, keeps_more, first_bad_more}
 use Rattle.egt_check.proofs.checking.judge_run.Goals as goal
 
 pub loop-index-preserved : goal.loop-index-preserved
@@ -17,13 +16,4 @@ loop-index-preserved c =
     }
 
 pub returns : goal.returns
-returns c =
-    let t = c.args.table.now in
-    let tables = beside (table_at c.args.library.now) t in
-    let within = c.loop-index.invariant.within in
-    let past = c.loop-index-test.false in
-    let end : c.loop-index.index ≡ c.args.end = omega (arith, within, past) in record {
-      kept = subst (KeepsBelow tables t Mate) end c.loop-index.invariant.mate;
-      zeroing = subst (λ n. IsFirstBad tables t n c.loop-index.bad) end c.loop-index.invariant.zeroing;
-      broken = tt;
-    }
+returns c = grind (arith, beside, table_at, c.loop-index.invariant.within, c.loop-index-test.false, c.loop-index.invariant.mate, c.loop-index.invariant.zeroing)

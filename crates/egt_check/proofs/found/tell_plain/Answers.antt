@@ -5,15 +5,7 @@ use Rattle.egt_check.proofs.FoundTold.{piece_long, put_told, shelf_told, told_al
 use Rattle.egt_check.proofs.found.tell_plain.Goals as goal
 
 pub put-requires-clause-within : goal.put-requires-clause-within
-put-requires-clause-within c =
-    let from : ℕ = 2 * c.from-from.result in
-    let len : ℕ = 2 * c.from-len.result in
-    let cl = c.class.ensures.class in
-    let first = c.first_of-first.ensures ∙ ap (λ n. number_in n c.args.shelf White 0) cl in
-    let less = c.from-from.ensures ∙ c.first_square.ensures in
-    let digits = c.from-len.ensures ∙ c.digits_of.ensures in
-    let long = piece_long c.woven-entries.result c.args.men.now.last.kind from len (omega (arith, c.woven-entries.type_inv)) (omega (arith, less)) (omega (arith, digits)) in
-    omega (arith, first, digits, long, c.requires.shelf.len, c.requires.within)
+put-requires-clause-within c = grind (arith, number_in, piece_long, c.class.ensures.class, c.first_of-first.ensures, c.from-from.ensures, c.first_square.ensures, c.from-len.ensures, c.digits_of.ensures, c.requires.shelf.len, c.requires.within)
 
 pub returns : goal.returns
 returns c =

@@ -1,13 +1,9 @@
-use Rattle.std.proofs.Common.{◌≡◌, ◌∙◌, ◌+◌, ◌*◌, ℕ, arith, ap, inl, inr, sym, subst}
+use Rattle.std.proofs.Common.{◌≡◌, ◌∙◌, ◌+◌, ◌*◌, ℕ, arith, inl, inr, sym, subst}
 use Rattle.egt_check.specs.Prelude.{cases_eq, kind_less, size_of, KeepsCode}
 use Rattle.egt_check.proofs.lone_judging.keep_alone.Goals as goal
 
 pub overflow_add-first : goal.overflow_add-first
-overflow_add-first c =
-    let below = c.requires.codes c.in-Some-digit_on.digit c.in-Some-digit_on.ensures.below in
-    let size : c.size-size.result ≡ size_of c.args.three.now.table.now.class = c.size-size.ensures ∙ ap (λ k. size_of k) c.class.ensures.class in
-    let fits = c.size-size.type_inv in
-    omega (arith, below, size, fits)
+overflow_add-first c = grind (arith, size_of, c.requires.codes, c.in-Some-digit_on.ensures.below, c.size-size.ensures, c.class.ensures.class)
 
 pub loop-square-init : goal.loop-square-init
 loop-square-init c = λ digit below has none. absurd (omega (arith, has, none))

@@ -1,4 +1,4 @@
-use Rattle.std.proofs.Common.{◌≡◌, arith, inl, inr, subst, ap, ◌∙◌}
+use Rattle.std.proofs.Common.{◌≡◌, arith, inl, inr, subst}
 use Rattle.egt_check.specs.Prelude.{cases_lt, TellsVoid, size_of}
 use Rattle.egt_check.proofs.lone_runs.tells_each_void.Goals as goal
 
@@ -9,7 +9,4 @@ loop-code-preserved c = λ i below. elim (cases_lt i c.loop-code.code) [
 ]
 
 pub returns : goal.returns
-returns c = λ told i below.
-    let past = c.loop-code-test.false in
-    let size = c.size-code-end.ensures ∙ ap (λ k. size_of k) c.class.ensures.class in
-    c.loop-code.invariant i (omega (arith, below, past, size))
+returns c = grind (arith, size_of, c.loop-code-test.false, c.size-code-end.ensures, c.class.ensures.class, c.loop-code.invariant)

@@ -1,5 +1,5 @@
-use Rattle.std.proofs.Common.{true, ◌∙◌, ap, arith, sym, subst}
-use Rattle.egt_check.specs.Prelude.{has_equal_sides, ShelfMen, at, AreAdvanceScores, men_swapped}
+use Rattle.std.proofs.Common.{true, ◌∙◌, ap, arith, sym}
+use Rattle.egt_check.specs.Prelude.{has_equal_sides, at, men_swapped}
 use Rattle.egt_check.proofs.EqualPawns.{advanced_as_last}
 use Rattle.egt_check.proofs.Exits.{no_advances, no_own_pawn}
 use Rattle.egt_check.proofs.pawn_scores.own_pawn_moves.Goals as goal
@@ -29,11 +29,4 @@ returns-then-not-has_equal_sides c = λ told a b a_in b_in.
     }
 
 pub returns : goal.returns
-returns c = λ told a b a_in b_in.
-    let by_first = at c.advances_block-2.new.out b a in record {
-      by_last = at c.advances_block.new.out a b;
-      by_first = by_first;
-      last_is = c.advances_block.ensures c.if-not-advances_block.false a b a_in b_in;
-      first_is = subst (λ (other : ShelfMen). AreAdvanceScores c.args.column c.args.own.now true other c.args.side b a by_first) c.men_swapped.ensures (c.advances_block-2.ensures c.if-not-advances_block-2.false b a b_in a_in);
-      is = c.raise_transposed-3.ensures a b a_in b_in;
-    }
+returns c = grind (arith, at, men_swapped, c.advances_block.ensures, c.if-not-advances_block.false, c.men_swapped.ensures, c.advances_block-2.ensures, c.if-not-advances_block-2.false, c.raise_transposed-3.ensures)

@@ -1,4 +1,4 @@
-use Rattle.std.proofs.Common.{◌≡◌, ◌∙◌, ◌+◌, ◌-◌, ap, arith, inl, inr, sym}
+use Rattle.std.proofs.Common.{◌≡◌, ◌∙◌, ◌+◌, ◌-◌, ap, arith, sym}
 use Rattle.egt_check.specs.Prelude.{bit_at, kind_less, pawn_digits}
 use Rattle.egt_check.proofs.ScoresDrawn.{shifted_high, shifted_low}
 use Rattle.egt_check.proofs.score_rows.squares_of.Goals as goal
@@ -12,10 +12,4 @@ returns-then-is_pawn-clause-digits c = λ k k_in.
     ∙ ap (bit_at c.args.digits) (let is : k + kind_less c.args.man.kind - 8 ≡ k = omega (arith, less) in is)
 
 pub returns-then-is_pawn-clause-edges : goal.returns-then-is_pawn-clause-edges
-returns-then-is_pawn-clause-edges c = λ pawn s s_in edge.
-    let kinds = pawn_digits c.args.man.kind (sym c.is_pawn.ensures ∙ c.if-is_pawn.true) in
-    let digits = kinds.1 in
-    elim edge [
-      | inl low ↦ shifted_low c.args.digits s low
-      | inr high ↦ shifted_high c.args.digits s (omega (arith, high)) s_in ∙ c.requires (s - 8) (omega (arith, high, digits))
-    ]
+returns-then-is_pawn-clause-edges c = grind (arith, pawn_digits, shifted_low, shifted_high, c.is_pawn.ensures, c.if-is_pawn.true, c.requires)

@@ -37,7 +37,4 @@ loop-file-preserved c =
     ]
 
 pub returns : goal.returns
-returns c =
-    on_ok_weaker c.push_gap-2.result (λ added. added
-    ∙ sym (squares_text-end c.loop-file.text.items c.args.board.now c.args.rank c.loop-file.file c.loop-file.gap (omega arith))
-    ∙ c.loop-file.invariant.written) c.push_gap-2.ensures
+returns c = grind (arith, on_ok_weaker, squares_text-end, c.loop-file.invariant.written, c.push_gap-2.ensures)

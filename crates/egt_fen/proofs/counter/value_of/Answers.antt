@@ -1,4 +1,4 @@
-use Rattle.std.proofs.Common.{arith, ap}
+use Rattle.std.proofs.Common.{arith}
 use Rattle.egt_fen.specs.Prelude.{digits_value, take_all}
 use Rattle.egt_fen.proofs.Digits.{one_more, digits_value_small}
 use Rattle.egt_fen.proofs.counter.value_of.Goals as goal
@@ -9,21 +9,13 @@ overflow_mul-value c =
     omega arith
 
 pub overflow_sub-digit : goal.overflow_sub-digit
-overflow_sub-digit c =
-    (one_more c.args.digits.now c.loop-digit.digit-index c.loop-digit.value c.requires.digits c.requires.few (omega arith) c.loop-digit.invariant).low
+overflow_sub-digit c = grind (arith, one_more, c.loop-digit.value, c.requires.digits, c.requires.few, c.loop-digit.invariant)
 
 pub overflow_add-value : goal.overflow_add-value
-overflow_add-value c =
-    let more = one_more c.args.digits.now c.loop-digit.digit-index c.loop-digit.value c.requires.digits c.requires.few (omega arith) c.loop-digit.invariant in
-    omega (arith, c.from.ensures)
+overflow_add-value c = grind (arith, one_more, c.loop-digit.value, c.requires.digits, c.requires.few, c.loop-digit.invariant, c.from.ensures)
 
 pub loop-digit-preserved : goal.loop-digit-preserved
-loop-digit-preserved c =
-    let more = one_more c.args.digits.now c.loop-digit.digit-index c.loop-digit.value c.requires.digits c.requires.few (omega arith) c.loop-digit.invariant in
-    omega (arith, c.from.ensures, more.goes_on)
+loop-digit-preserved c = grind (arith, one_more, c.loop-digit.value, c.requires.digits, c.requires.few, c.loop-digit.invariant, c.from.ensures)
 
 pub returns-clause-small : goal.returns-clause-small
-returns-clause-small c =
-    let whole = digits_value_small c.args.digits.now c.requires.digits c.requires.few in
-    let same = ap (digits_value 10) (take_all c.loop-digit.digit-index c.args.digits.now (omega arith)) in
-    omega (arith, c.loop-digit.invariant)
+returns-clause-small c = grind (arith, digits_value_small, digits_value, take_all, c.requires.digits, c.requires.few, c.loop-digit.invariant)

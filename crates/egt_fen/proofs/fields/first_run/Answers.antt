@@ -4,9 +4,7 @@ use Rattle.egt_fen.proofs.Runs.{runs_of-nil, runs_of-run, place_or_len}
 use Rattle.egt_fen.proofs.fields.first_run.Goals as goal
 
 pub returns-then-is_empty-clause-none : goal.returns-then-is_empty-clause-none
-returns-then-is_empty-clause-none c =
-    let run = c.without_spaces-run.result.now in
-    sym c.without_spaces-run.ensures.same ∙ ap runs_of (nil_from_length run (eqb-true (length run) 0 (sym c.is_empty.ensures ∙ c.if-is_empty.true))) ∙ runs_of-nil
+returns-then-is_empty-clause-none c = grind (arith, runs_of, nil_from_length, eqb-true, runs_of-nil, c.without_spaces-run.ensures.same, c.is_empty.ensures, c.if-is_empty.true)
 
 pub returns-clause-some : goal.returns-clause-some
 returns-clause-some c =

@@ -1,5 +1,4 @@
-use Rattle.std.proofs.Common.{subst, arith}
-use Rattle.egt_graph.specs.Prelude.{IsNearing}
+use Rattle.std.proofs.Common.{arith}
 use Rattle.egt_graph.proofs.Nearby.{nears_told, nears_at_last, far_found}
 use Rattle.egt_graph.proofs.near_solver.nearest.Goals as goal
 
@@ -9,8 +8,7 @@ returns-then-is_over-clause-ok g c =
     (c.is_over.ensures c.if-is_over.true) (omega (arith, c.loop-round-test.true)) c.nears_of.result c.nears_of.ensures
 
 pub step_back-requires-2-clause-known : goal.step_back-requires-2-clause-known
-step_back-requires-2-clause-known g c =
-    subst (λ n. IsNearing (g.G.Game.graph c.args.game.now) n c.loop-round.run) (omega (arith, c.loop-round-test.false, c.loop-round.auto.round-end)) c.loop-round.invariant
+step_back-requires-2-clause-known g c = grind (arith, c.loop-round-test.false, c.loop-round.invariant)
 
 pub returns-then-any_found-clause-too_deep : goal.returns-then-any_found-clause-too_deep
 returns-then-any_found-clause-too_deep g c =

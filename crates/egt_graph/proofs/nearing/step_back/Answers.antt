@@ -8,14 +8,10 @@ find_next-requires-clause-nodes g c =
     rw c.deref-2.ensures.value (found_nodes (g.G.Game.graph c.args.game.now) c.args.round c.args.run.now c.requires.known c.in_ok-found.found.items (rw c.deref.ensures.value at c.in_ok-found.ensures))
 
 pub find_next-requires-clause-lost_within : goal.find_next-requires-clause-lost_within
-find_next-requires-clause-lost_within g c =
-    let long = ap length c.deref_mut.ensures.value ∙ c.requires.known.long in
-    rw (c.due.ensures, long) (due_within (g.G.Game.graph c.args.game.now) is_loss_of c.args.run.now.lost_due c.requires.known.lost c.args.round)
+find_next-requires-clause-lost_within g c = grind (arith, due_within, is_loss_of, c.deref_mut.ensures.value, c.requires.known.long, c.due.ensures, c.requires.known.lost)
 
 pub find_next-requires-clause-won_within : goal.find_next-requires-clause-won_within
-find_next-requires-clause-won_within g c =
-    let long = ap length c.deref_mut.ensures.value ∙ c.requires.known.long in
-    rw (c.due-2.ensures, long) (due_within (g.G.Game.graph c.args.game.now) is_win_of c.args.run.now.won_due c.requires.known.won c.args.round)
+find_next-requires-clause-won_within g c = grind (arith, due_within, is_win_of, c.deref_mut.ensures.value, c.requires.known.long, c.due-2.ensures, c.requires.known.won)
 
 pub returns : goal.returns
 returns g c =

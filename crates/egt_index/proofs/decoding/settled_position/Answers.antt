@@ -1,6 +1,6 @@
-use Rattle.std.proofs.Common.{◌∙◌, IfNone, arith, refl, sym, subst}
-use Rattle.egt_index.specs.Prelude.{false≢true, FitsBoard, PawnsFit, Placement, IsSettled, IsAdmissible, IsKingOn}
-use Rattle.egt_index.specs.Prelude.{Setup, White, Black, material_of, Spells, list_of}
+use Rattle.std.proofs.Common.{◌∙◌, IfNone, arith, sym, subst}
+use Rattle.egt_index.specs.Prelude.{false≢true, FitsBoard, Placement, IsSettled, IsAdmissible, IsKingOn, Setup, White}
+use Rattle.egt_index.specs.Prelude.{Black, material_of, Spells, list_of}
 use Rattle.egt_index.proofs.Decoded.{has_pawns_list, list_spelled, no_men, spelled_setup}
 use Rattle.egt_index.proofs.Halves.{of_targets}
 use Rattle.egt_index.proofs.OnePosition.{spells_once}
@@ -22,17 +22,14 @@ returns-then-not-are_apart-clause-none c = λ p s _.
     false≢true (sym c.if-not-are_apart.true ∙ c.are_apart.ensures.1 (fits_apart list (subst FitsBoard (sym same) s.apart)))
 
 pub target_of-target-requires : goal.target_of-target-requires
-target_of-target-requires c = λ e.
-    of_targets c.args.class (λ none. absurd (false≢true (sym (c.ends-number.ensures.never none) ∙ e)))
-    (λ has. has_pawns_list c.args.class c.ends-number.result.0 (list_of c.in_ok-stand.stand) has c.in_ok-stand.ensures.some)
+target_of-target-requires c = grind (arith, of_targets, false≢true, has_pawns_list, list_of, c.ends-number.ensures.never, c.in_ok-stand.ensures.some)
 
 -- the kings stand on their squares
 kings : (c : After-board_of-board) → AreKings c.in_ok-stand.stand
 kings c = kings_spelled c.args.class c.ends-number.result.0 c.in_ok-stand.stand (omega (arith, c.number-number.ensures.below, c.number-number.ensures.value)) c.in_ok-stand.ensures.some (c.are_apart.ensures.0 c.if-not-are_apart.false)
 
 pub admitted-requires-clause-pawns : goal.admitted-requires-clause-pawns
-admitted-requires-clause-pawns c =
-    subst (λ (men : Placement). PawnsFit men) (sym c.board_of-board.ensures.men) (pawns_spelled c.args.class c.ends-number.result.0 (list_of c.in_ok-stand.stand) c.in_ok-stand.ensures.some)
+admitted-requires-clause-pawns c = grind (arith, pawns_spelled, list_of, c.board_of-board.ensures.men, c.in_ok-stand.ensures.some)
 
 pub admitted-requires-clause-white : goal.admitted-requires-clause-white
 admitted-requires-clause-white c = subst (λ (men : Placement). IsKingOn men White c.in_ok-stand.stand.white) (sym c.board_of-board.ensures.men) (kings c).white

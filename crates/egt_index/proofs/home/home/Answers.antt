@@ -1,12 +1,9 @@
-use Rattle.std.proofs.Common.{ℕ, ◌≡◌, ◌<◌, ◌+◌, Bool, cond, None, Some, inl, inr, refl, arith}
+use Rattle.std.proofs.Common.{None, Some, inl, inr, refl, arith}
 use Rattle.egt_index.proofs.ComesHome.{home_told}
 use Rattle.egt_index.proofs.home.home.Goals as goal
 
 pub entries-first-requires : goal.entries-first-requires
-entries-first-requires c = below c.args.pawns c.args.flips c.args.king c.row.result c.row.ensures.on_board c.row.ensures.is
-  where
-    below : (pawns flips : Bool) (king at : ℕ) → king < 64 → at ≡ cond {A = ℕ} pawns 128 0 + cond {A = ℕ} flips 64 0 + king → at < 256
-    below pawns flips king at lt is = grind arith
+entries-first-requires c = grind (arith, c.row.ensures.on_board, c.row.ensures.is)
 
 pub returns-then-first-second : goal.returns-then-first-second
 returns-then-first-second c =

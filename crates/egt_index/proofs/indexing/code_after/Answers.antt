@@ -1,5 +1,5 @@
-use Rattle.std.proofs.Common.{◌≢◌, ◌≡◌, ℕ, ◌/◌, ◌<◌, ◌==◌, ◌∷◌, [], Bool, Option, Some, None, cond, arith, ◌∙◌, sym}
-use Rattle.std.proofs.Common.{subst, ap}
+use Rattle.std.proofs.Common.{◌≢◌, ◌≡◌, ℕ, ◌/◌, ◌<◌, ◌==◌, ◌∷◌, [], Bool, Option, Some, cond, arith, ◌∙◌, sym, subst}
+use Rattle.std.proofs.Common.{ap}
 use Rattle.egt_index.specs.Prelude.{is_some, side_number, turned_side, material_of, king_square, target_digit}
 use Rattle.egt_index.specs.Prelude.{number_from, king_base, has_pawns, has_target, Tells, men_among, rest_of, CodeAfter}
 use Rattle.egt_index.proofs.After.{ImageStood, image_stood, digits_after, code_stood}

@@ -1,4 +1,4 @@
-use Rattle.std.proofs.Common.{◌≡◌, ◌/◌, ◌%◌, ◌+◌, ◌*◌, ℕ, false, cond, eqb, arith, ap, sym, ◌∙◌}
+use Rattle.std.proofs.Common.{◌≡◌, ◌/◌, ◌%◌, ◌+◌, ◌*◌, ℕ, false, cond, eqb, arith}
 use Rattle.egt_index.specs.Prelude.{turned_square, HasKingsOn, Stand}
 use Rattle.egt_index.proofs.Beating.{beaten_by_kings, kept_by_kings, same_by_kings, spelled_home}
 use Rattle.egt_index.proofs.FirstMan.{beaten_by, kept_by, plain_if}

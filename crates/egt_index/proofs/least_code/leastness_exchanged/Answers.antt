@@ -1,4 +1,4 @@
-use Rattle.std.proofs.Common.{Bool, ℕ, true, false, Some, None, arith, refl, sym, inl, inr, subst}
+use Rattle.std.proofs.Common.{Bool, true, false, Some, None, arith, refl, inl, inr, subst}
 use Rattle.egt_index.specs.Prelude.{Setup, Side, material_of, HasKingsOn, AreHome, has_pawns, HasStand, seen_across}
 use Rattle.egt_index.specs.Prelude.{Stand}
 use Rattle.egt_index.proofs.Beating.{keeps_with, has_exchanged, turn_beaten, turn_kept}

@@ -1,6 +1,6 @@
-use Rattle.std.proofs.Common.{arith, ◌≡◌, ◌<◌, Bool, false, Option, ℕ, Some, None, IfSome, sym, subst}
-use Rattle.egt_index.specs.Prelude.{Setup, Side, material_of, HasKingsOn, Keeps, SpellsAt, AreHome, king_square}
-use Rattle.egt_index.specs.Prelude.{has_pawns, king_base, HasStand, IsInOrder, Stand}
+use Rattle.std.proofs.Common.{arith, ◌<◌, Bool, false, Option, ℕ, Some, None, IfSome, subst}
+use Rattle.egt_index.specs.Prelude.{Setup, Side, material_of, HasKingsOn, Keeps, SpellsAt, AreHome, has_pawns, HasStand}
+use Rattle.egt_index.specs.Prelude.{IsInOrder, Stand}
 use Rattle.egt_index.proofs.Beating.{keeps_with, turn_beaten, turn_kept, white_home}
 use Rattle.egt_index.proofs.Swapping.{keeps_in_order, least_in_order}
 use Rattle.egt_index.proofs.least_code.leastness_straight.Goals.{After-still_home}

@@ -1,4 +1,4 @@
-use Rattle.std.proofs.Common.{◌≡◌, ◌+◌, ◌*◌, ◌<◌, ◌∙◌, arith, ap, sym, subst}
+use Rattle.std.proofs.Common.{◌≡◌, ◌+◌, ◌*◌, ◌<◌, arith, sym, subst}
 use Rattle.egt_index.specs.Prelude.{king_square, IsLoneRow, kind_digits, king_base}
 use Rattle.egt_index.proofs.LoneCodes.{lone_told}
 use Rattle.egt_index.proofs.lone_codes.lone_row.Goals as goal

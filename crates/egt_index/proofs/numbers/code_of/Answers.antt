@@ -1,4 +1,4 @@
-use Rattle.std.proofs.Common.{◌≡◌, ◌<◌, ◌≤◌, ◌*◌, ◌+◌, ◌-◌, true, ap, arith, sym, ◌∙◌, subst}
+use Rattle.std.proofs.Common.{◌≡◌, ◌<◌, ◌*◌, ◌+◌, ◌-◌, true, arith, sym, ◌∙◌, subst}
 use Rattle.egt_index.specs.Prelude.{material_of, code_of, has_target, size_of}
 use Rattle.egt_index.proofs.Halves.{code_below, code_high, code_low, code_plain}
 use Rattle.egt_index.proofs.IndexTotal.{few}

@@ -6,5 +6,4 @@ pub returns-then-not-has_target-clause-past : goal.returns-then-not-has_target-c
 returns-then-not-has_target-clause-past c = shelf_past c.args.class c.args.shelf c.fronts-fronts.result c.fronts-fronts.ensures.whole (sym c.has_target.ensures ∙ c.if-not-has_target.true) c.if-shelf-fronts.false
 
 pub returns-else-front-fronts-clause-past : goal.returns-else-front-fronts-clause-past
-returns-else-front-fronts-clause-past c =
-    shelf_past_both c.args.class c.args.shelf c.fronts-fronts.result c.fronts-fronts.ensures.whole (sym c.has_target.ensures ∙ c.if-not-has_target.false) (omega (arith, c.if-front-fronts.false, c.if-shelf-fronts.false))
+returns-else-front-fronts-clause-past c = grind (arith, shelf_past_both, c.fronts-fronts.ensures.whole, c.has_target.ensures, c.if-not-has_target.false, c.if-front-fronts.false, c.if-shelf-fronts.false)

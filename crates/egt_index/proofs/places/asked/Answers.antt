@@ -5,25 +5,17 @@ use Rattle.egt_index.proofs.Numbered.{indexed_all, indexed_more, place_within}
 use Rattle.egt_index.proofs.places.asked.Goals as goal
 
 pub overflow_mul-first-2 : goal.overflow_mul-first-2
-overflow_mul-first-2 c =
-    let few = few c.args.class (omega (arith, c.number-number.ensures.below, c.number-number.ensures.value)) in
-    let within = c.requires in
-    let start = ap (λ d. c.args.shelf * (2 * d)) c.last_digits-digits.ensures.is in
-    omega arith
+overflow_mul-first-2 c = grind (arith, few, c.number-number.ensures.below, c.number-number.ensures.value, c.requires, c.last_digits-digits.ensures.is)
 
 -- the numbers of the digit are of the class
 pub overflow_add-number : goal.overflow_add-number
-overflow_add-number c =
-    let few = few c.args.class (omega (arith, c.number-number.ensures.below, c.number-number.ensures.value)) in
-    let within = place_within c.args.class c.args.shelf c.last_digits-digits.result c.loop-digit.digit c.requires c.last_digits-digits.ensures.is c.loop-digit-test.true in omega arith
+overflow_add-number c = grind (arith, few, place_within, c.number-number.ensures.below, c.number-number.ensures.value, c.requires, c.last_digits-digits.ensures.is, c.loop-digit-test.true)
 
 pub is_index-is_white-requires : goal.is_index-is_white-requires
 is_index-is_white-requires c = let within = place_within c.args.class c.args.shelf c.last_digits-digits.result c.loop-digit.digit c.requires c.last_digits-digits.ensures.is c.loop-digit-test.true in omega arith
 
 pub overflow_add-number-in-loop-digit : goal.overflow_add-number-in-loop-digit
-overflow_add-number-in-loop-digit c =
-    let few = few c.args.class (omega (arith, c.number-number.ensures.below, c.number-number.ensures.value)) in
-    let within = place_within c.args.class c.args.shelf c.last_digits-digits.result c.loop-digit.digit c.requires c.last_digits-digits.ensures.is c.loop-digit-test.true in omega arith
+overflow_add-number-in-loop-digit c = grind (arith, few, place_within, c.number-number.ensures.below, c.number-number.ensures.value, c.requires, c.last_digits-digits.ensures.is, c.loop-digit-test.true)
 
 pub is_index-is_black-requires : goal.is_index-is_black-requires
 is_index-is_black-requires c = place_within c.args.class c.args.shelf c.last_digits-digits.result c.loop-digit.digit c.requires c.last_digits-digits.ensures.is c.loop-digit-test.true

@@ -1,5 +1,4 @@
-use Rattle.std.proofs.Common.{arith, ◌≡◌, ◌<◌, ◌*◌, ◌≤◌, Option, None, Some, IfSome, IfNone, Bool, ℕ, refl, sym, subst}
-use Rattle.std.proofs.Common.{◌∙◌}
+use Rattle.std.proofs.Common.{arith, ◌≡◌, ◌<◌, ◌*◌, ◌≤◌, Option, Some, IfSome, IfNone, Bool, ℕ, sym, subst, ◌∙◌}
 use Rattle.egt_index.specs.Prelude.{false≢true, IsSome, places, IsShelfBehind, IsWithin, size_of}
 use Rattle.egt_index.proofs.Halves.{of_targets, places_some}
 use Rattle.egt_index.proofs.Numbered.{no_indexes}

@@ -1,6 +1,5 @@
-use Rattle.std.proofs.Common.{◌≢◌, ℕ, Option, None, Some, IfSome, arith, subst, ◌∙◌}
-use Rattle.egt_index.specs.Prelude.{king_of, Man, White, material_of, IsFront, IsFrontOf, AreIndexes, IsShelfBehind}
-use Rattle.egt_index.specs.Prelude.{men_beside, Front, Places}
+use Rattle.std.proofs.Common.{◌≢◌, Option, IfSome, arith, subst, ◌∙◌}
+use Rattle.egt_index.specs.Prelude.{king_of, Man, White, material_of, IsFrontOf, men_beside, Front}
 use Rattle.egt_index.proofs.Fronts.{last_beside}
 use Rattle.egt_index.proofs.Numbered.{none_indexed}
 use Rattle.egt_index.proofs.places.places_by_front.Goals as goal
@@ -14,14 +13,7 @@ places_behind-requires-clause-before c = record {
 }
 
 pub returns-in-Some : goal.returns-in-Some
-returns-in-Some c = of c.places_behind.result c.places_behind.ensures
-  where
-    front : IsFront c.args.class c.args.number c.in-Some.front
-    front = subst (λ (o : Option Front). IsFrontOf c.args.class c.args.number o) c.in-Some.is c.requires.front
-
-    of : (o : Option Places) → IfSome o (λ found. (shelf high : ℕ) → IsFront c.args.class high c.in-Some.front → IsShelfBehind c.args.passed c.args.class shelf high → AreIndexes c.args.class shelf found)
-        → IfSome o (λ found. (shelf : ℕ) → IsShelfBehind c.args.passed c.args.class shelf c.args.number → AreIndexes c.args.class shelf found)
-    of o told = grind arith
+returns-in-Some c = grind (arith, c.places_behind.ensures, c.in-Some.is, c.requires.front)
 
 -- without a front all codes are void
 pub returns-in-None : goal.returns-in-None

@@ -5,9 +5,7 @@ use Rattle.egt_index.proofs.Halves.{places_of_last, places_of_none, whole_number
 use Rattle.egt_index.proofs.shelf.last_digits.Goals as goal
 
 pub returns-in-Some-clause-is : goal.returns-in-Some-clause-is
-returns-in-Some-clause-is c =
-    c.digits_of.ensures.is
-    ∙ sym (places_of_last c.args.class c.in-Some.man (last_beside _ _ (men_beside (material_of c.args.class)) c.non_kings.ensures.men c.non_kings.ensures.from_first ∙ c.in-Some.is))
+returns-in-Some-clause-is c = grind (arith, places_of_last, last_beside, men_beside, material_of, c.digits_of.ensures.is, c.non_kings.ensures.men, c.non_kings.ensures.from_first, c.in-Some.is)
 
 pub returns-in-None-clause-is : goal.returns-in-None-clause-is
 returns-in-None-clause-is c = sym (places_of_none c.args.class (last_beside _ _ (men_beside (material_of c.args.class)) c.non_kings.ensures.men c.non_kings.ensures.from_first ∙ c.in-None.is))

@@ -14,8 +14,7 @@ returns-clause-shelf c =
     c.in_ok-stand.stand c.in_ok-stand.ensures.some refl refl c.in_ok-one.was
 
 pub returns-in_err-front-clause-none : goal.returns-in_err-front-clause-none
-returns-in_err-front-clause-none c =
-    subst (λ o. IfNone o (HasTwoBeside c.args.class → IsWithin c.args.class c.args.shelf → ⊥)) (sym c.from_residual-in_err-front.ensures) (λ two. none_within c.args.class c.args.shelf c.in_err-front.ensures.past)
+returns-in_err-front-clause-none c = grind (arith, none_within, c.from_residual-in_err-front.ensures, c.in_err-front.ensures.past)
 
 pub returns-in_err-stand-clause-none : goal.returns-in_err-stand-clause-none
 returns-in_err-stand-clause-none c =

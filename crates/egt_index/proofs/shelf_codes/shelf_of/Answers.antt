@@ -1,4 +1,4 @@
-use Rattle.std.proofs.Common.{◌+◌, ◌*◌, ◌<◌, ◌≡◌, ◌∙◌, Option, None, Some, IfSome, IfNone, ℕ, arith, ap, subst}
+use Rattle.std.proofs.Common.{◌+◌, ◌*◌, ◌<◌, ◌≡◌, Option, None, Some, IfSome, IfNone, ℕ, arith, subst}
 use Rattle.egt_index.specs.Prelude.{king_square, kind_digits, HasShelf, IsShelfBehind, IsShelfOf, king_base}
 use Rattle.egt_index.proofs.ShelfCodes.{last_told, shelf_on}
 use Rattle.egt_index.proofs.ShelfFound.{a_shelf_behind}

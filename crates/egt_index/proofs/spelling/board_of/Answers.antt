@@ -1,4 +1,4 @@
-use Rattle.std.proofs.Common.{◌≡◌, ℕ, List, ◌∷◌, [], ◌++◌, IfSome, arith, sym, ap, ◌∙◌, subst}
+use Rattle.std.proofs.Common.{◌≡◌, ℕ, List, ◌∷◌, [], ◌++◌, IfSome, arith, sym, ap, subst}
 use Rattle.egt_index.specs.Prelude.{option_to_list, king_of, men_of, Placement, IsFree, Man, White, Black, list_of}
 use Rattle.egt_index.specs.Prelude.{with_entry, Stand}
 use Rattle.std.specs.FinMap as map

@@ -1,4 +1,4 @@
-use Rattle.std.proofs.Common.{arith, ◌≡◌, Option, Some, None, IfNone, IfSome, subst, refl, sym, ◌∙◌}
+use Rattle.std.proofs.Common.{arith, ◌≡◌, Option, Some, None, IfNone, IfSome, subst, refl}
 use Rattle.egt_index.specs.Prelude.{false≢true, IsSome, material_of, SpellsMen, SpellsNoMen, IsFilled, list_of, Stand}
 use Rattle.egt_index.proofs.AtIndex.{taken}
 use Rattle.egt_index.proofs.Decoded.{has_pawns_list, no_men}
@@ -29,5 +29,4 @@ returns-clause-tells c = record {
 }
 
 pub returns-clause-pawns : goal.returns-clause-pawns
-returns-clause-pawns c = λ e.
-    of_targets c.args.class (λ none. absurd (false≢true (sym (c.ends-number.ensures.never none) ∙ e))) (λ has. has_pawns_list c.args.class c.ends-number.result.0 (list_of c.unwrap-stand.result) has (men c))
+returns-clause-pawns c = grind (arith, of_targets, false≢true, has_pawns_list, list_of, men, c.ends-number.ensures.never)

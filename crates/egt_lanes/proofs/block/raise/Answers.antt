@@ -1,21 +1,6 @@
-use Rattle.std.proofs.Common.{◌≡◌, ◌≢◌, ℕ, get_or, List, [], max, sym, ap, ◌∙◌, get_or-set_other, inl, inr, arith}
+use Rattle.std.proofs.Common.{get_or-set_other, arith}
 use Rattle.egt_lanes.specs.Prelude.{length-set, cases_lt, get_or-set_at, at}
 use Rattle.egt_lanes.proofs.block.raise.Goals as goal
 
 pub loop-i-preserved : goal.loop-i-preserved
-loop-i-preserved c =
-    let i = c.loop-i.i in
-    let row = c.greater.result in
-    let out = c.loop-i.out in
-    let old = c.args.out.now in
-    let by = c.args.by.now in record {
-      long = omega (arith, length-set {A = List ℕ});
-      done = λ a b a_in b_in. elim (cases_lt a i) [
-        | inl before ↦ let other : a ≢ i = omega arith in ap (λ r. get_or r b 0) (get_or-set_other out i a row [] other) ∙ c.loop-i.invariant.done a b before b_in
-        | inr here ↦
-            let e : a ≡ i = omega arith in
-            ap (λ r. get_or r b 0) (get_or-set_at out i a row [] e (omega arith)) ∙ c.greater.ensures b b_in
-            ∙ ap (λ v. max v (at by i b)) (c.loop-i.invariant.left i b (omega arith)) ∙ ap (λ r. max (at old r b) (at by r b)) (sym e)
-      ];
-      left = λ a b a_in. let other : a ≢ i = omega arith in ap (λ r. get_or r b 0) (get_or-set_other out i a row [] other) ∙ c.loop-i.invariant.left a b (omega arith);
-    }
+loop-i-preserved c = grind (arith, length-set, cases_lt, get_or-set_other, get_or-set_at, at, c.loop-i.invariant.done, c.greater.ensures, c.loop-i.invariant.left)

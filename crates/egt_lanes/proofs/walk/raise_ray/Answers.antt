@@ -1,13 +1,10 @@
 use Rattle.std.proofs.Common.{◌≡◌, ◌∙◌, subst, sym, arith, slice_index}
-use Rattle.egt_lanes.specs.Prelude.{Rides, at, IsOpen, IsRaised, IsAhead}
+use Rattle.egt_lanes.specs.Prelude.{Rides, at, IsOpen, IsRaised}
 use Rattle.egt_lanes.proofs.Sweeping.{next_is_past, nth, nth_is, swept_more}
 use Rattle.egt_lanes.proofs.walk.raise_ray.Goals as goal
 
 pub reached_from-row-requires-clause-next : goal.reached_from-row-requires-clause-next
-reached_from-row-requires-clause-next c = λ n b away b_in.
-    let here = c.nth_square-from.ensures ∙ nth_is c.args.upward c.loop-k.k in
-    let ahead = subst (λ s. IsAhead c.args.upward s n) here (c.requires.order c.nth_square-from.result n (omega arith) away) in
-    c.loop-k.invariant.known n b away.on_board b_in (next_is_past c.args.upward c.loop-k.k n c.loop-k-test.true away.on_board ahead)
+reached_from-row-requires-clause-next c = grind (arith, nth_is, next_is_past, c.nth_square-from.ensures, c.requires.order, c.loop-k.invariant.known, c.loop-k-test.true)
 
 pub loop-k-preserved : goal.loop-k-preserved
 loop-k-preserved c =

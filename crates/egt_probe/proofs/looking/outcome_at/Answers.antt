@@ -1,6 +1,6 @@
 use Rattle.std.proofs.Common.{◌≡◌, ℕ, subst}
 use Rattle.egt_board.specs.declared.man.Side.{Side}
-use Rattle.egt_moves.specs.Arena.{Draw, HasValue}
+use Rattle.egt_moves.specs.WinLossDraw.{Draw, HasValue}
 use Rattle.egt_moves.specs.Chess.{chess}
 use Rattle.egt_moves.specs.Zeroing.{HasZeroing}
 use Rattle.egt_probe.specs.declared.outcome.Outcome.{Outcome}
@@ -14,15 +14,7 @@ undecided : (s : Side) (o : Outcome) → ((w : Side) (n z : ℕ) → o ≡ outco
 undecided s o not = grind arith
 
 pub returns-then-is_dead : goal.returns-then-is_dead
-returns-then-is_dead c =
-    let p = c.args.position.now in
-    let shown = c.decided_or_drawn-shown.ensures in
-    let drawn = undecided p.side c.decided_or_drawn-shown.result c.in_default.not-Decided in
-    record { mate = subst (HasValue chess p) drawn.0 shown.mate; zeroing = subst (HasZeroing chess p) drawn.1 shown.zeroing; dead = c.if-is_dead.ensures; within = tt }
+returns-then-is_dead c = grind (arith, undecided, chess, c.decided_or_drawn-shown.ensures, c.if-is_dead.ensures)
 
 pub returns-else-is_dead : goal.returns-else-is_dead
-returns-else-is_dead c =
-    let p = c.args.position.now in
-    let shown = c.decided_or_drawn-shown.ensures in
-    let drawn = undecided p.side c.decided_or_drawn-shown.result c.in_default.not-Decided in
-    record { mate = subst (HasValue chess p) drawn.0 shown.mate; zeroing = subst (HasZeroing chess p) drawn.1 shown.zeroing; dead = c.if-is_dead.ensures; within = tt }
+returns-else-is_dead c = grind (arith, undecided, chess, c.decided_or_drawn-shown.ensures, c.if-is_dead.ensures)

@@ -11,11 +11,7 @@ unwrap-table-requires c =
     mapped_some _ c.get.result (table_at c.args.library.now c.args.class) c.get.ensures.is (subst (λ (o : Option TableValue). IsSome o) (sym has.1) refl)
 
 pub entry-requires-clause-there : goal.entry-requires-clause-there
-entry-requires-clause-there c =
-    let (u, found, reach) = near_has (table_at c.args.library.now c.args.class) c.requires.there in
-    let is : Some u ≡ Some c.unwrap-table.result.now = sym found ∙ mapped_found _ c.get.result c.unwrap-table.result (table_at c.args.library.now c.args.class) c.get.ensures.is c.unwrap-table.ensures in
-    let same : u ≡ c.unwrap-table.result.now = cc in
-    subst (λ (t : TableValue). IsSome t.reach) same reach
+entry-requires-clause-there c = grind (arith, near_has, table_at, mapped_found, c.requires.there, c.get.ensures.is, c.unwrap-table.ensures)
 
 pub entry-requires-clause-index : goal.entry-requires-clause-index
 entry-requires-clause-index c =

@@ -1,4 +1,4 @@
-use Rattle.std.proofs.Common.{◌≡◌, ◌∙◌, ℕ, ◌/◌, ◌%◌, ◌==◌, Bool, List, Option, None, length, slice_index_or, arith, sym}
+use Rattle.std.proofs.Common.{◌≡◌, ◌∙◌, ℕ, ◌/◌, ◌%◌, ◌==◌, List, Option, None, length, slice_index_or, arith, sym}
 use Rattle.std.proofs.Common.{subst, inl, inr}
 use Rattle.egt_sweep.specs.FillPrelude.{cases_eq, turned_square, wide_place, BlockKey, AreFewer}
 use Rattle.egt_sweep.proofs.forgetting.forget_turned.Goals as goal
@@ -30,8 +30,4 @@ loop-turn-preserved c =
     )
 
 pub returns-clause-gone : goal.returns-clause-gone
-returns-clause-gone c = λ t column is.
-    let among = c.turns_of-first.ensures.all t is in
-    let past = c.loop-turn-test.false in
-    subst (λ (f : Bool). slice_index_or c.loop-turn.keys (wide_place column (turned_square (t % 8) f c.args.white) (turned_square (t % 8) f c.args.black) (length c.args.keys.now)) None ≡ None) is.flips_is
-    (c.loop-turn.invariant.1 t column among.0 (omega (arith, among.1, past)))
+returns-clause-gone c = grind (arith, wide_place, turned_square, c.turns_of-first.ensures.all, c.loop-turn-test.false, c.loop-turn.invariant.1)

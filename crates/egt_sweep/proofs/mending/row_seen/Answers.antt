@@ -1,15 +1,13 @@
-use Rattle.std.proofs.Common.{◌≡◌, ◌≢◌, ◌∙◌, ℕ, ◌+◌, ◌<◌, arith, inl, inr, refl, sym}
-use Rattle.std.proofs.Common.{slice_index, subst}
-use Rattle.egt_sweep.specs.FillPrelude.{bit_at, cases_eq, code_of, kind_less, number_in, due_score}
-use Rattle.egt_sweep.specs.FillPrelude.{TableValue, Column, Zeroing, column_of, due_in, column_score, score_at, Part, Values}
-use Rattle.egt_sweep.specs.FillPrelude.{Reach, square_in, if_not, if_same, lane_is, IsPutAt, score_in}
+use Rattle.std.proofs.Common.{◌≡◌, ◌≢◌, ◌∙◌, ℕ, ◌+◌, ◌<◌, arith, inl, inr, sym, slice_index, subst}
+use Rattle.egt_sweep.specs.FillPrelude.{bit_at, cases_eq, code_of, kind_less, number_in, due_score, TableValue, Column}
+use Rattle.egt_sweep.specs.FillPrelude.{Zeroing, column_of, due_in, column_score, score_at, Part, Values, square_in}
+use Rattle.egt_sweep.specs.FillPrelude.{if_not, if_same, lane_is, IsPutAt, score_in}
 use Rattle.egt_sweep.proofs.LanesPut.{same_there}
 use Rattle.egt_sweep.proofs.mending.row_seen.Goals as goal
 
 -- the part's columns have these scores
 put_in : (part : Part) (t : TableValue) (code score clock : ℕ) → column_score t (column_of part) code ≡ score → (part ≡ Values → score_at t Zeroing code ≡ clock) → IsPutAt part t code score clock
-put_in Values t code score clock is clock_is = (is, clock_is refl)
-put_in Reach t code score clock is clock_is = is
+put_in h0 t code score clock is clock_is = grind arith
 
 pub returns : goal.returns
 returns c =

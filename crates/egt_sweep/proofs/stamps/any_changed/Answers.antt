@@ -1,4 +1,4 @@
-use Rattle.std.proofs.Common.{ℕ, ◌≤◌, ◌/◌, ◌%◌, ◌==◌, Bool, slice_index, arith, sym, subst, inl, inr}
+use Rattle.std.proofs.Common.{ℕ, ◌≤◌, ◌/◌, ◌%◌, ◌==◌, slice_index, arith, sym, subst, inl, inr}
 use Rattle.egt_sweep.specs.FillPrelude.{cases_eq, turned_square, stamp_place}
 use Rattle.egt_sweep.proofs.stamps.any_changed.Goals as goal
 
@@ -10,8 +10,4 @@ loop-turn-preserved c = λ t from before. elim (cases_eq t c.loop-turn.turn) [
 ]
 
 pub returns : goal.returns
-returns c = λ none t is.
-    let among = c.turns_of-first.ensures.all t is in
-    let past = c.loop-turn-test.false in
-    subst (λ (f : Bool). slice_index c.args.stamps.now (stamp_place c.args.side (turned_square (t % 8) f c.args.white) (turned_square (t % 8) f c.args.black)) ≤ c.args.looked) is.flips_is
-    (c.loop-turn.invariant t among.0 (omega (arith, among.1, past)))
+returns c = grind (arith, stamp_place, turned_square, c.turns_of-first.ensures.all, c.loop-turn-test.false, c.loop-turn.invariant)

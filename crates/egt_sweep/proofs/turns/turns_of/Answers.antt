@@ -10,8 +10,7 @@ eighth t false below is = grind (arith, nat_tests)
 
 -- how many symmetries there are
 few : (t : ℕ) (pawns flips : Bool) → IsTurnWith pawns flips t → t % 8 < cond pawns 2 8
-few t true flips is = is.keeps
-few t false flips is = is.keeps
+few t h1 flips is = grind arith
 
 pub returns-clause-all : goal.returns-clause-all
 returns-clause-all c = λ t is.

@@ -12,8 +12,7 @@ pub with_man-board-requires-clause-free : goal.with_man-board-requires-clause-fr
 with_man-board-requires-clause-free c = rw c.requires.left (free_left c.args.position.now.men c.args.to c.args.from c.requires.may.free)
 
 pub with_man-board-requires-clause-room : goal.with_man-board-requires-clause-room
-with_man-board-requires-clause-room c =
-    rw c.requires.left (few_left c.args.position.now.men c.args.man c.args.to c.requires.may.stands c.side-side.ensures.admissible.few)
+with_man-board-requires-clause-room c = grind (arith, few_left, c.requires.left, c.requires.may.stands, c.side-side.ensures.admissible.few)
 
 pub returns-then-not-went-clause-listed : goal.returns-then-not-went-clause-listed
 returns-then-not-went-clause-listed c =

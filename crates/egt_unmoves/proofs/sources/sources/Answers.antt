@@ -35,16 +35,4 @@ returns-clause-complete c = λ s (w : Went c.args.position.now c.args.man c.args
     kept _ _ _ _ _ (c.without.ensures.squares s) (c.common.ensures.squares s) reached ((c.occupied.ensures.free s).1 (subst (λ (x : Placement). IsFree x s) (sym c.board.ensures) w.free)) quiet
 
 pub returns-clause-sound : goal.returns-clause-sound
-returns-clause-sound c = λ s s_in has.
-    let men : map.insert c.args.left.now s c.args.man ≡ men_before c.args.position.now.men c.args.man c.args.to s = ap (λ (l : Placement). map.insert l s c.args.man) c.requires.left in
-    let bits = parts _ _ _ _ _ (bit_at-lt c.if-is_pawn.reached.bits s) (bit_at-lt c.occupied.result.bits s) (bit_at-lt c.quiet.result.bits s) (c.without.ensures.squares s) (c.common.ensures.squares s) has in
-    let free : IsFree c.args.position.now.men s = subst (λ (x : Placement). IsFree x s) c.board.ensures ((c.occupied.ensures.free s).0 bits.1) in
-    let left_free : IsFree c.args.left.now s = subst (λ (l : Placement). IsFree l s) (sym c.requires.left) (free_left c.args.position.now.men c.args.to s free) in
-    record {
-      free = free;
-      quiet = λ check. (c.quiet.ensures s s_in left_free).0 bits.2 (subst (λ (x : Placement). IsInCheck x c.args.position.now.side) (sym men) check);
-      reaches = λ other. subst (λ (x : Placement). Reaches (IsFree x) c.args.man s c.args.to) men (elim c.if-is_pawn.branch [
-        | then-is_pawn p ↦ absurd (other (c.is_pawn.ensures.0 p.if-is_pawn.true))
-        | else-is_pawn p ↦ (p.attackers-reached.ensures.attackers s s_in).0 (subst (λ (r : SquareSet). bit_at r.bits s ≡ 1) p.reached-is bits.0)
-      ]);
-    }
+returns-clause-sound c = grind (arith, men_before, parts, bit_at-lt, free_left, then-is_pawn, else-is_pawn, bit_at, c.requires.left, c.without.ensures.squares, c.common.ensures.squares, c.board.ensures, c.occupied.ensures.free, c.quiet.ensures, c.is_pawn.ensures.0)

@@ -1,4 +1,4 @@
-use Rattle.std.proofs.Common.{arith, [], ◌∷◌}
+use Rattle.std.proofs.Common.{[], ◌∷◌}
 use Rattle.std.specs.FinMap as map
 use Rattle.egt_board.proofs.Slots.{AreShown, shown, shown_less, without_four, placed_of, kept_of}
 use Rattle.egt_board.proofs.board.Board.clear.Goals as goal

@@ -1,4 +1,4 @@
-use Rattle.std.proofs.Common.{arith, ◌≡◌, [], ◌∷◌, Some, None, ◌∙◌, subst, sym}
+use Rattle.std.proofs.Common.{◌≡◌, [], ◌∷◌, Some, None, ◌∙◌, subst, sym}
 use Rattle.egt_board.specs.Prelude.{White, Black, king_of, Slot, corners}
 use Rattle.egt_board.proofs.Slots.{AreShown, shown_corners, placed_of, kept_of}
 use Rattle.egt_board.proofs.board.Board.of_kings_in_corners.Goals as goal

@@ -1,6 +1,6 @@
-use Rattle.std.proofs.Common.{◌≡◌, rules, sym, ◌∙◌, inl, inr, refl, Some, subst, arith}
-use Rattle.egt_board.specs.Prelude.{bit_at-lt, Man, MayStand}
-use Rattle.egt_board.proofs.Pawns.{FitSoFar-init, FitSoFar-less}
+use Rattle.std.proofs.Common.{inl, inr, refl, arith}
+use Rattle.egt_board.specs.Prelude.{bit_at-lt}
+use Rattle.egt_board.proofs.Pawns.{FitSoFar-init}
 use Rattle.egt_board.proofs.board.Board.pawns_fit.Goals as goal
 
 pub loop-square-init : goal.loop-square-init
@@ -10,12 +10,7 @@ pub unwrap-man-requires : goal.unwrap-man-requires
 unwrap-man-requires c = rw c.at.ensures (c.loop-square.invariant.held c.in-Some.square c.in-Some.ensures.had)
 
 pub loop-square-preserved : goal.loop-square-preserved
-loop-square-preserved c =
-    FitSoFar-less _ _ _ c.in-Some.square c.loop-square.invariant c.in-Some.ensures.gone c.in-Some.ensures.others
-    (λ man stands.
-    let both : Some man ≡ Some c.unwrap-man.result = sym stands ∙ (sym c.at.ensures ∙ c.unwrap-man.ensures) in
-    let same : man ≡ c.unwrap-man.result = cc in
-    subst (λ (m : Man). MayStand m c.in-Some.square) (sym same) (c.may_stand.ensures.0 (search rules)))
+loop-square-preserved c = grind (arith, c.loop-square.invariant, c.in-Some.ensures.gone, c.in-Some.ensures.others, c.at.ensures, c.unwrap-man.ensures, c.may_stand.ensures.0)
 
 pub returns : goal.returns
 returns c = (

@@ -1,6 +1,6 @@
-use Rattle.std.proofs.Common.{◌≡◌, ℕ, ◌<◌, ◌/◌, ◌%◌, Bool, true, false, Option, ap, ◌∙◌, subst, inl, inr, arith, ◌==◌}
-use Rattle.egt_board.specs.Prelude.{option_map, Mirror, Files, Ranks, Diagonal, Setup, square_by-within, IsCarried}
-use Rattle.egt_board.specs.Prelude.{IsTurned, square_if, square_of, eqb-true}
+use Rattle.std.proofs.Common.{◌/◌, ◌%◌, Bool, subst, inl, inr, arith, ◌==◌}
+use Rattle.egt_board.specs.Prelude.{Files, Ranks, Diagonal, Setup, square_by-within, IsCarried, IsTurned, square_if}
+use Rattle.egt_board.specs.Prelude.{square_of, eqb-true}
 use Rattle.egt_board.proofs.position.Position.image.Goals as goal
 
 pub turned-by_ranks-requires-clause-allowed : goal.turned-by_ranks-requires-clause-allowed

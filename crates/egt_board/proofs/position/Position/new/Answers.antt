@@ -1,11 +1,11 @@
-use Rattle.std.proofs.Common.{◌≡◌, ◌≤◌, arith, rules, sym, ap, ◌∙◌, inl, inr, subst, refl, ℕ, List}
-use Rattle.egt_board.specs.Prelude.{false≢true, White, Black, Man, other_side, Placement, IsAdmissible, IsKingOn}
-use Rattle.egt_board.specs.Prelude.{men_of, FitsBoard}
+use Rattle.std.proofs.Common.{◌≡◌, ◌≤◌, arith, rules, sym, ap, ◌∙◌, inl, inr, ℕ, List}
+use Rattle.egt_board.specs.Prelude.{false≢true, White, Black, Man, other_side, Placement, IsKingOn, men_of, FitsBoard}
 use Rattle.std.specs.FinMap as map
 use Rattle.egt_board.proofs.Lists.{len-men_of}
 use Rattle.egt_board.proofs.Positions.{waiting_king, fits_some, fits_none}
 use Rattle.egt_board.proofs.position.Position.new.Goals as goal
-use Rattle.egt_board.proofs.position.Position.new.Goals.{in-White, in-Black, in-Some-target+else-not-is_target, in_default-target}
+use Rattle.egt_board.proofs.position.Position.new.Goals.{in-White, in-Black, in-Some-target+else-not-is_target}
+use Rattle.egt_board.proofs.position.Position.new.Goals.{in_default-target}
 
 few : (board : Placement) (list : List (Man × ℕ)) → FitsBoard list → board ≡ men_of list → map.len board ≤ 4
 few board list fits placed = let le = len-men_of list in let n = fits.few in let e = ap map.len placed in omega arith
@@ -39,12 +39,4 @@ same_target : (c : goal.Else-is_in_check) → c.match-target.target ≡ c.args.t
 same_target c = grind arith
 
 pub returns-clause-admits : goal.returns-clause-admits
-returns-clause-admits c =
-    let whole = invariant_of-result c in (
-      λ _. (
-        c.in-Some.ensures.fits.0 (search rules),
-        subst (λ m. IsAdmissible (record { men = m; side = c.args.side; target = c.args.target })) c.in-Some.ensures.placed
-            (subst (λ target. IsAdmissible (record { men = c.in-Some.board; side = c.args.side; target = target })) (same_target c) whole.admissible),
-      ),
-      λ _. refl,
-    )
+returns-clause-admits c = grind (arith, invariant_of-result, same_target, c.in-Some.ensures.fits.0, c.in-Some.ensures.placed)

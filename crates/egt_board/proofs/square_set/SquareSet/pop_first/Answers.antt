@@ -8,14 +8,10 @@ returns-clause-had c =
     (bit_at_first c.args.self.now.bits c.in_ok-first.first (omega arith) (omega arith) c.in_ok-first.ensures.value).0
 
 pub returns-clause-least : goal.returns-clause-least
-returns-clause-least c =
-    (bit_at_first c.args.self.now.bits c.in_ok-first.first (omega arith) (omega arith) c.in_ok-first.ensures.value).1
+returns-clause-least c = grind (arith, bit_at_first, c.in_ok-first.ensures.value)
 
 pub returns-clause-fewer : goal.returns-clause-fewer
-returns-clause-fewer c =
-    c.less.ensures.fewer (bit_at_first c.args.self.now.bits c.in_ok-first.first (omega arith) (omega arith) c.in_ok-first.ensures.value).0
+returns-clause-fewer c = grind (arith, bit_at_first, c.less.ensures.fewer, c.in_ok-first.ensures.value)
 
 pub returns-clause-size : goal.returns-clause-size
-returns-clause-size c =
-    size_of-less c.args.self.now c.less.result c.in_ok-first.first (omega arith)
-    (bit_at_first c.args.self.now.bits c.in_ok-first.first (omega arith) (omega arith) c.in_ok-first.ensures.value).0 c.less.ensures.same c.less.ensures.others
+returns-clause-size c = grind (arith, size_of-less, bit_at_first, c.in_ok-first.ensures.value, c.less.ensures.same, c.less.ensures.others)

@@ -7,5 +7,4 @@ pub returns-clause-squares : goal.returns-clause-squares
 returns-clause-squares c = λ t. bit_at_without c.args.self.bits c.args.other.bits t (omega arith) (omega arith)
 
 pub returns-clause-few : goal.returns-clause-few
-returns-clause-few c = size_of-le _ c.args.self (λ t.
-    let e = bit_at_without c.args.self.bits c.args.other.bits t (omega arith) (omega arith) in rw e (omega arith))
+returns-clause-few c = grind (arith, size_of-le, bit_at_without)

@@ -1,4 +1,4 @@
-use Rattle.std.proofs.Common.{arith, ◌≡◌, length, false, replicate, refl, ◌+◌, ap, ◌∙◌, rules}
+use Rattle.std.proofs.Common.{◌≡◌, length, false, replicate, refl, ◌+◌, ap, ◌∙◌, rules}
 use Rattle.egt_graph.specs.Prelude.{Running}
 use Rattle.egt_graph.proofs.Running.{written, due_nodes, due_waited, due_counted, Falls, falls, finished_run, next_run}
 use Rattle.egt_graph.proofs.Running.{found_open, found_shut}

@@ -1,7 +1,7 @@
 use Rattle.egt_moves.specs.Chess.{chess}
 use Rattle.egt_moves.proofs.NextMoves.{chess_steps}
 use Rattle.egt_moves.proofs.Nearest.{reaches_more, reach_within}
-use Rattle.egt_moves.proofs.reaching.more_plies_reach_more.Goals as goal
+use Rattle.egt_moves.proofs.dead.more_plies_reach_more.Goals as goal
 
 pub returns-clause-more : goal.returns-clause-more
 returns-clause-more c = reaches_more chess
