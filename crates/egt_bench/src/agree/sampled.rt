@@ -34,7 +34,7 @@ fn step(class: Class, few: u32, many: u32) -> u32 {
 /// Whether the class's indexes, moves, moves backwards and, where it has at most three men, entries are the plain ones.
 /// The steps are odd, so that either side moves, with a target and without.
 fn walks_agree(library: &Library, class: Class) -> bool {
-    agree(Held::Indexes, library, class, step(class, 3, 1_009)).is_ok()
+    agree(Held::Indexes, library, class, step(class, 7, 1_999)).is_ok()
         && agree(Held::Moves, library, class, step(class, 5, 1_499)).is_ok()
         && agree(Held::Unmoves, library, class, step(class, 17, 14_983)).is_ok()
         && (class.number() >= FEW || agree(Held::Entries, library, class, 1).is_ok())
@@ -49,7 +49,7 @@ fn games_agree(alloc: Global, library: &Library, class: Class) -> bool {
 }
 
 /// How many tables of a class of three men are changed.
-const DAMAGED: u32 = 10;
+const DAMAGED: u32 = 3;
 
 /// Whether the checker judges changed tables of the class as the plain rules do, where it has at most three men.
 fn judgements_agree(alloc: Global, library: &Library, class: Class) -> bool {
