@@ -1,4 +1,4 @@
-//! What is fast against plain forms that walk the board. All codes of classes of two and three men are asked, and of
+//! Fast forms against plain ones that walk the board. All codes of classes of two and three men are asked, and of
 //! the others every so many.
 mod codes;
 mod damaged;
@@ -19,7 +19,7 @@ use egt_class::{Class, by_name, name};
 use egt_commands::loading::load_whole;
 use games::{mate_game_agrees, zero_game_agrees};
 use sampled::samples_agree;
-use samples::{Held, agree};
+use samples::{Compared, agree};
 use solved::solved_agrees;
 use std::io;
 
@@ -47,14 +47,14 @@ fn compare(
     library: &Library,
 ) -> Result<(u32, u32), (&'static str, u32)> {
     let walks = step_of(class, WALKS);
-    let entries = match agree(Held::Entries, library, class, step_of(class, ENTRIES)) {
+    let entries = match agree(Compared::Entries, library, class, step_of(class, ENTRIES)) {
         Ok(codes) => codes,
         Err(code) => return Err(("entries", code)),
     };
-    if let Err(code) = agree(Held::Moves, library, class, walks) {
+    if let Err(code) = agree(Compared::Moves, library, class, walks) {
         return Err(("moves", code));
     }
-    if let Err(code) = agree(Held::Unmoves, library, class, walks) {
+    if let Err(code) = agree(Compared::Unmoves, library, class, walks) {
         return Err(("unmoves", code));
     }
     if let Err(code) = mate_game_agrees(class, library, walks) {

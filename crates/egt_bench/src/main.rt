@@ -1,4 +1,4 @@
-//! What scripts measure, compare and refuse, and no command of `egtb` shows. Nothing here judges a figure.
+//! Measures, comparisons and refusals for scripts, which no command of `egtb` shows. Nothing here judges a figure.
 //!
 //! - `table DIR CLASS` builds the class's table and checks it beside those that it rests on, read from the folder's
 //!   files, prints how long both take and how much memory was in use at most, and writes the file.

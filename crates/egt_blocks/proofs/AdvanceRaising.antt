@@ -12,9 +12,9 @@ use Rattle.egt_blocks.proofs.QuietRaising.{left_without, raised_through}
 -- ---- the men after an advance
 
 -- read in the order in which the class names them
-pub after_in_order : (c : ℕ) (worth : ℕ → ℕ) (passed before flips : Bool) (men : ShelfMen) (man : Man) (side : Side) (a t w : ℕ) (after : ShelfMen) (other : Side) → after ≡ men_after before flips men man → other ≡ side
-    → IsReadWith passed c worth flips (cond before (stand_on after t a) (stand_on after a t)) other w → IsReadWith passed c worth flips (stand_after before flips men a man t) side w
-after_in_order c worth passed before flips men man side a t w after other after_is side_is read = grind (arith, stand_on, men_after, stand_after)
+pub after_in_order : (c : ℕ) (worth : ℕ → ℕ) (targeted before flips : Bool) (men : ShelfMen) (man : Man) (side : Side) (a t w : ℕ) (after : ShelfMen) (other : Side) → after ≡ men_after before flips men man → other ≡ side
+    → IsReadWith targeted c worth flips (cond before (stand_on after t a) (stand_on after a t)) other w → IsReadWith targeted c worth flips (stand_after before flips men a man t) side w
+after_in_order c worth targeted before flips men man side a t w after other after_is side_is read = grind (arith, stand_on, men_after, stand_after)
 
 -- ---- sets of squares
 
@@ -97,7 +97,7 @@ module _ (c : ℕ) (worth : ℕ → ℕ) (flips : Bool) (men : ShelfMen) (side :
   abbrev pub Promoted : ℕ → Type 0
   Promoted = ArePromotedCodes c flips men side kind a b
 
-  module _ (officer : IsOfficer kind) (mine : men.last ≡ pawn_of side) (theirs : men.one.side ≡ other_side side) (lasts : ℕ) (are : (u : ℕ) → u < 64 → bit_at lasts u ≡ cond (eqb (rank_of u) (last_rank side)) 1 0) (scores arrived : List ℕ)
+  module _ (officer : IsOfficer kind) (mine : men.last ≡ pawn_of side) (theirs : men.first.side ≡ other_side side) (lasts : ℕ) (are : (u : ℕ) → u < 64 → bit_at lasts u ≡ cond (eqb (rank_of u) (last_rank side)) 1 0) (scores arrived : List ℕ)
       (keeps : (u : ℕ) → u < 64 → slice_index arrived u ≡ cond (eqb (bit_at lasts u) 1) (slice_index scores u) 0)
       (read : (u : ℕ) → u < 64 → IsRead c worth flips (stand_left flips (left_of men (officer_of side kind) u)) (other_side side) (slice_index scores u)) (a_in : a < 64) where
     -- he takes on a

@@ -77,35 +77,35 @@ turned_in flips n s n_in s_in = ltb-true _ _ (passes_below (stays flips n) 64 s 
 -- ---- the turns that bring the white king home
 
 -- the white king of a code's men is at home
-king_at_home : (passed : Bool) (c t code : ℕ) (stand : Stand) (side : Side) → IsCodeAfter passed c t code stand side → (d : ℕ) × (d < king_base (has_pawns (material_of c))) × (king_square (has_pawns (material_of c)) d ≡ turned_square (t % 8) (eqb (t / 8) 1) stand.white)
-king_at_home passed c t code stand side tells = grind (arith, men_bases, material_of, list_of, turned_by, men_at, king_base, has_pawns, king_square, turned_square, eqb, heads)
+king_at_home : (targeted : Bool) (c t code : ℕ) (stand : Stand) (side : Side) → IsCodeAfter targeted c t code stand side → (d : ℕ) × (d < king_base (has_pawns (material_of c))) × (king_square (has_pawns (material_of c)) d ≡ turned_square (t % 8) (eqb (t / 8) 1) stand.white)
+king_at_home targeted c t code stand side tells = grind (arith, men_bases, material_of, list_of, turned_by, men_at, king_base, has_pawns, king_square, turned_square, eqb, heads)
 
-module _ (passed : Bool) (c : ℕ) (flips : Bool) (stand : Stand) (side : Side) (first : ℕ) (second : Option ℕ) (home : AreHome (has_pawns (material_of c)) flips stand.white first second) where
+module _ (targeted : Bool) (c : ℕ) (flips : Bool) (stand : Stand) (side : Side) (first : ℕ) (second : Option ℕ) (home : AreHome (has_pawns (material_of c)) flips stand.white first second) where
   -- such a turn is one of the one or two
-  one_of_them : (t code : ℕ) → IsTurnWith (has_pawns (material_of c)) flips t → IsCodeAfter passed c t code stand side → t ≢ first → IfSome second (λ u. t ≢ u) → ⊥
+  one_of_them : (t code : ℕ) → IsTurnWith (has_pawns (material_of c)) flips t → IsCodeAfter targeted c t code stand side → t ≢ first → IfSome second (λ u. t ≢ u) → ⊥
   one_of_them t code turn tells other others = grind (arith, turn, king_at_home, king_square, has_pawns, material_of, turned_square)
 
-  after : (t code : ℕ) (u : ℕ) → t ≡ u → IsCodeAfter passed c t code stand side → IsCodeAfter passed c u code stand side
-  after t code u same tells = subst (λ k. IsCodeAfter passed c k code stand side) same tells
+  after : (t code : ℕ) (u : ℕ) → t ≡ u → IsCodeAfter targeted c t code stand side → IsCodeAfter targeted c u code stand side
+  after t code u same tells = subst (λ k. IsCodeAfter targeted c k code stand side) same tells
 
-pub home_by_one : (passed : Bool) (c : ℕ) (flips : Bool) (stand : Stand) (side : Side) (first : ℕ) → AreHome (has_pawns (material_of c)) flips stand.white first None → (low high : ℕ) (f : ℕ → ℕ)
-    → IsRaised low (λ code. IsCodeAfter passed c first code stand side) f high → IsRaised low (λ code. IsHomeCode passed c code flips stand side) f high
-home_by_one passed c flips stand side first home low high f raised = raised_alike low high (λ code. IsCodeAfter passed c first code stand side) (λ code. IsHomeCode passed c code flips stand side) f raised
+pub home_by_one : (targeted : Bool) (c : ℕ) (flips : Bool) (stand : Stand) (side : Side) (first : ℕ) → AreHome (has_pawns (material_of c)) flips stand.white first None → (low high : ℕ) (f : ℕ → ℕ)
+    → IsRaised low (λ code. IsCodeAfter targeted c first code stand side) f high → IsRaised low (λ code. IsHomeCode targeted c code flips stand side) f high
+home_by_one targeted c flips stand side first home low high f raised = raised_alike low high (λ code. IsCodeAfter targeted c first code stand side) (λ code. IsHomeCode targeted c code flips stand side) f raised
     (λ code h. elim (cases_eq h.0 first) [
-      | inl same ↦ after passed c flips stand side first None home h.0 code first same h.2
-      | inr other ↦ absurd (one_of_them passed c flips stand side first None home h.0 code h.1 h.2 other tt)
+      | inl same ↦ after targeted c flips stand side first None home h.0 code first same h.2
+      | inr other ↦ absurd (one_of_them targeted c flips stand side first None home h.0 code h.1 h.2 other tt)
     ])
     (λ code tells. (first, home.one, tells))
 
-pub home_by_two : (passed : Bool) (c : ℕ) (flips : Bool) (stand : Stand) (side : Side) (first second : ℕ) → AreHome (has_pawns (material_of c)) flips stand.white first (Some second) → (low mid high : ℕ) (f : ℕ → ℕ)
-    → IsRaised low (λ code. IsCodeAfter passed c first code stand side) f mid → IsRaised mid (λ code. IsCodeAfter passed c second code stand side) f high → IsRaised low (λ code. IsHomeCode passed c code flips stand side) f high
-home_by_two passed c flips stand side first second home low mid high f one two =
-    raised_both low mid high (λ code. IsCodeAfter passed c first code stand side) (λ code. IsCodeAfter passed c second code stand side) (λ code. IsHomeCode passed c code flips stand side) f one two
+pub home_by_two : (targeted : Bool) (c : ℕ) (flips : Bool) (stand : Stand) (side : Side) (first second : ℕ) → AreHome (has_pawns (material_of c)) flips stand.white first (Some second) → (low mid high : ℕ) (f : ℕ → ℕ)
+    → IsRaised low (λ code. IsCodeAfter targeted c first code stand side) f mid → IsRaised mid (λ code. IsCodeAfter targeted c second code stand side) f high → IsRaised low (λ code. IsHomeCode targeted c code flips stand side) f high
+home_by_two targeted c flips stand side first second home low mid high f one two =
+    raised_both low mid high (λ code. IsCodeAfter targeted c first code stand side) (λ code. IsCodeAfter targeted c second code stand side) (λ code. IsHomeCode targeted c code flips stand side) f one two
     (λ code h. elim (cases_eq h.0 first) [
-      | inl same ↦ inl (after passed c flips stand side first (Some second) home h.0 code first same h.2)
+      | inl same ↦ inl (after targeted c flips stand side first (Some second) home h.0 code first same h.2)
       | inr other ↦ elim (cases_eq h.0 second) [
-        | inl same ↦ inr (after passed c flips stand side first (Some second) home h.0 code second same h.2)
-        | inr not ↦ absurd (one_of_them passed c flips stand side first (Some second) home h.0 code h.1 h.2 other not)
+        | inl same ↦ inr (after targeted c flips stand side first (Some second) home h.0 code second same h.2)
+        | inr not ↦ absurd (one_of_them targeted c flips stand side first (Some second) home h.0 code h.1 h.2 other not)
       ]
     ])
     (λ code tells. (first, home.one, tells))
@@ -116,52 +116,52 @@ home_by_two passed c flips stand side first second home low mid high f one two =
 men_equal : {a b : Man} → a ∷ [] ≡ b ∷ [] → a ≡ b
 men_equal e = cc
 
-module _ (passed : Bool) (c : ℕ) (flips : Bool) (side : Side) (code : ℕ) (men : ShelfMen) (a b : ℕ) where
+module _ (targeted : Bool) (c : ℕ) (flips : Bool) (side : Side) (code : ℕ) (men : ShelfMen) (a b : ℕ) where
   -- by some turn of the class's colours, of the men in the other order, or across
-  pub some_parted : IsSomeTurnedCodeWith passed c code flips (stand_on men a b) side
-      → IsHomeCode passed c code flips (stand_on men a b) side ⊎ (((men.one ≡ men.last) × IsHomeCode passed c code flips (stand_on men b a) side) ⊎ (IsTrue (has_equal_sides c) × IsHomeCode passed c code (not flips) (stand_on (men_across men) b a) side))
+  pub some_parted : IsSomeTurnedCodeWith targeted c code flips (stand_on men a b) side
+      → IsHomeCode targeted c code flips (stand_on men a b) side ⊎ (((men.first ≡ men.last) × IsHomeCode targeted c code flips (stand_on men b a) side) ⊎ (IsTrue (has_equal_sides c) × IsHomeCode targeted c code (not flips) (stand_on (men_across men) b a) side))
   some_parted some = elim some.seen [
     | inl own ↦ elim own.1 [
-      | inl same ↦ inl (some.turn, turn own.0, subst (λ (s : Stand). IsCodeAfter passed c some.turn code s side) same some.is.tells)
+      | inl same ↦ inl (some.turn, turn own.0, subst (λ (s : Stand). IsCodeAfter targeted c some.turn code s side) same some.is.tells)
       | inr other ↦
           let equal = men_equal other.1 in
-          inr (inl (equal, (some.turn, turn own.0, subst (λ (s : Stand). IsCodeAfter passed c some.turn code s side) (other.0 ∙ order equal) some.is.tells)))
+          inr (inl (equal, (some.turn, turn own.0, subst (λ (s : Stand). IsCodeAfter targeted c some.turn code s side) (other.0 ∙ order equal) some.is.tells)))
     ]
-    | inr across ↦ inr (inr (across.0, (some.turn, turn across.1, subst (λ (s : Stand). IsCodeAfter passed c some.turn code s side) across.2 some.is.tells)))
+    | inr across ↦ inr (inr (across.0, (some.turn, turn across.1, subst (λ (s : Stand). IsCodeAfter targeted c some.turn code s side) across.2 some.is.tells)))
   ]
     where
       turn : {f : Bool} → eqb (some.turn / 8) 1 ≡ f → IsTurnWith (has_pawns (material_of c)) f some.turn
       turn is = record { below = some.is.below; flips_is = is; keeps = some.is.keeps }
 
-      order : men.one ≡ men.last → swapped (stand_on men a b) ≡ stand_on men b a
-      order equal = λ i. record { white = men.white; black = men.black; next = Some (sym equal i, b); last = Some (equal i, a) }
+      order : men.first ≡ men.last → swapped (stand_on men a b) ≡ stand_on men b a
+      order equal = λ i. record { white = men.white; black = men.black; first = Some (sym equal i, b); last = Some (equal i, a) }
 
-  home_is_some : IsHomeCode passed c code flips (stand_on men a b) side → IsSomeTurnedCodeWith passed c code flips (stand_on men a b) side
+  home_is_some : IsHomeCode targeted c code flips (stand_on men a b) side → IsSomeTurnedCodeWith targeted c code flips (stand_on men a b) side
   home_is_some h = record { turn = h.0; after = stand_on men a b; seen = inl (h.1.flips_is, inl refl); is = record { below = h.1.below; keeps = h.1.keeps; tells = h.2 } }
 
-  other_is_some : men.one ≡ men.last → IsHomeCode passed c code flips (stand_on men b a) side → IsSomeTurnedCodeWith passed c code flips (stand_on men a b) side
+  other_is_some : men.first ≡ men.last → IsHomeCode targeted c code flips (stand_on men b a) side → IsSomeTurnedCodeWith targeted c code flips (stand_on men a b) side
   other_is_some equal h = record { turn = h.0; after = stand_on men b a; seen = inl (h.1.flips_is, inr (order, ap (λ (m : Man). m ∷ []) equal)); is = record { below = h.1.below; keeps = h.1.keeps; tells = h.2 } }
     where
       order : stand_on men b a ≡ swapped (stand_on men a b)
-      order = λ i. record { white = men.white; black = men.black; next = Some (equal i, b); last = Some (sym equal i, a) }
+      order = λ i. record { white = men.white; black = men.black; first = Some (equal i, b); last = Some (sym equal i, a) }
 
-  across_is_some : IsTrue (has_equal_sides c) → IsHomeCode passed c code (not flips) (stand_on (men_across men) b a) side → IsSomeTurnedCodeWith passed c code flips (stand_on men a b) side
+  across_is_some : IsTrue (has_equal_sides c) → IsHomeCode targeted c code (not flips) (stand_on (men_across men) b a) side → IsSomeTurnedCodeWith targeted c code flips (stand_on men a b) side
   across_is_some equal h = record { turn = h.0; after = stand_on (men_across men) b a; seen = inr (equal, h.1.flips_is, refl); is = record { below = h.1.below; keeps = h.1.keeps; tells = h.2 } }
 
 -- the greater of two greatest
 pub raised_greater : (u v w : ℕ) (A B In : ℕ → Type 0) (f : ℕ → ℕ) → IsRaised 0 A f u → IsRaised 0 B f v → w ≡ max u v → ((t : ℕ) → In t → A t ⊎ B t) → ((t : ℕ) → A t → In t) → ((t : ℕ) → B t → In t) → IsRaised 0 In f w
 raised_greater u v w A B In f first then is covers a_in b_in = raised_both 0 u w A B In f first (raised_max u B f v w then is) covers a_in b_in
 
-module _ (passed : Bool) (c : ℕ) (worth : ℕ → ℕ) (men : ShelfMen) (flips : Bool) (side : Side) (rows : SquareSet) (own : List (List ℕ))
-    (in_own : (a b : ℕ) → a < 64 → b < 64 → Has rows a → IsRaisedHome passed c worth flips (stand_on men a b) side 0 (at own a b))
-    (equal : Bool) (told : IsTrue equal ↔ (men.one ≡ men.last)) (all : equal ≡ true → (s : ℕ) → s < 64 → Has rows s) (a b : ℕ) (a_in : a < 64) (b_in : b < 64) (here : Has rows a)
+module _ (targeted : Bool) (c : ℕ) (worth : ℕ → ℕ) (men : ShelfMen) (flips : Bool) (side : Side) (rows : SquareSet) (own : List (List ℕ))
+    (in_own : (a b : ℕ) → a < 64 → b < 64 → Has rows a → IsRaisedHome targeted c worth flips (stand_on men a b) side 0 (at own a b))
+    (equal : Bool) (told : IsTrue equal ↔ (men.first ≡ men.last)) (all : equal ≡ true → (s : ℕ) → s < 64 → Has rows s) (a b : ℕ) (a_in : a < 64) (b_in : b < 64) (here : Has rows a)
     (low : ℕ) (low_is : low ≡ cond equal (max (at own a b) (at own b a)) (at own a b)) where
   Home : Bool → Stand → ℕ → Type 0
-  Home exchanged stand code = IsHomeCode passed c code exchanged stand side
+  Home exchanged stand code = IsHomeCode targeted c code exchanged stand side
 
   -- codes of the class's colours, in either order of equal men
   OwnCodes : ℕ → Type 0
-  OwnCodes code = Home flips (stand_on men a b) code ⊎ ((men.one ≡ men.last) × Home flips (stand_on men b a) code)
+  OwnCodes code = Home flips (stand_on men a b) code ⊎ ((men.first ≡ men.last) × Home flips (stand_on men b a) code)
 
   in_order : (e : Bool) → equal ≡ e → IsRaised 0 OwnCodes worth (cond e (max (at own a b) (at own b a)) (at own a b))
   unfolding OwnCodes Home
@@ -176,29 +176,29 @@ module _ (passed : Bool) (c : ℕ) (worth : ℕ → ℕ) (men : ShelfMen) (flips
   own_raised : IsRaised 0 OwnCodes worth low
   own_raised = subst (IsRaised 0 OwnCodes worth) (sym low_is) (in_order equal refl)
 
-  own_is_some : (code : ℕ) → OwnCodes code → IsSomeTurnedCodeWith passed c code flips (stand_on men a b) side
+  own_is_some : (code : ℕ) → OwnCodes code → IsSomeTurnedCodeWith targeted c code flips (stand_on men a b) side
   unfolding OwnCodes Home
-  own_is_some code (inl first) = home_is_some passed c flips side code men a b first
-  own_is_some code (inr there) = other_is_some passed c flips side code men a b there.0 there.1
+  own_is_some code (inl first) = home_is_some targeted c flips side code men a b first
+  own_is_some code (inr there) = other_is_some targeted c flips side code men a b there.0 there.1
 
-  pub read_settled : (high : ℕ) → (has_equal_sides c ≡ false → high ≡ low) → (has_equal_sides c ≡ true → IsRaisedHome passed c worth (not flips) (stand_on (men_across men) b a) side low high) → IsReadWith passed c worth flips (stand_on men a b) side high
+  pub read_settled : (high : ℕ) → (has_equal_sides c ≡ false → high ≡ low) → (has_equal_sides c ≡ true → IsRaisedHome targeted c worth (not flips) (stand_on (men_across men) b a) side low high) → IsReadWith targeted c worth flips (stand_on men a b) side high
   unfolding OwnCodes Home
   read_settled high alone across = by (has_equal_sides c) refl
     where
-      by : (sides : Bool) → has_equal_sides c ≡ sides → IsReadWith passed c worth flips (stand_on men a b) side high
+      by : (sides : Bool) → has_equal_sides c ≡ sides → IsReadWith targeted c worth flips (stand_on men a b) side high
       by true is =
-          raised_both 0 low high OwnCodes (Home (not flips) (stand_on (men_across men) b a)) (λ code. IsSomeTurnedCodeWith passed c code flips (stand_on men a b) side) worth own_raised (across is)
-          (λ code h. elim (some_parted passed c flips side code men a b h) [
+          raised_both 0 low high OwnCodes (Home (not flips) (stand_on (men_across men) b a)) (λ code. IsSomeTurnedCodeWith targeted c code flips (stand_on men a b) side) worth own_raised (across is)
+          (λ code h. elim (some_parted targeted c flips side code men a b h) [
             | inl first ↦ inl (inl first)
             | inr (inl other) ↦ inl (inr other)
             | inr (inr beyond) ↦ inr beyond.1
           ])
           own_is_some
-          (λ code beyond. across_is_some passed c flips side code men a b is beyond)
+          (λ code beyond. across_is_some targeted c flips side code men a b is beyond)
       by false is =
-          subst (IsReadWith passed c worth flips (stand_on men a b) side) (sym (alone is))
-          (raised_alike 0 low OwnCodes (λ code. IsSomeTurnedCodeWith passed c code flips (stand_on men a b) side) worth own_raised
-          (λ code h. elim (some_parted passed c flips side code men a b h) [
+          subst (IsReadWith targeted c worth flips (stand_on men a b) side) (sym (alone is))
+          (raised_alike 0 low OwnCodes (λ code. IsSomeTurnedCodeWith targeted c code flips (stand_on men a b) side) worth own_raised
+          (λ code h. elim (some_parted targeted c flips side code men a b h) [
             | inl first ↦ inl first
             | inr (inl other) ↦ inr other
             | inr (inr beyond) ↦ absurd (false≢true (sym is ∙ beyond.0))
@@ -226,7 +226,7 @@ module _ (men : ShelfMen) (side : Side) (rest after : SquareSet) (to : ℕ) (gon
   ]
 
 -- the same men beside the kings
-pub same_beside : (men : ShelfMen) (side : Side) (k : ℕ) → ((with_king men side k).one ≡ men.one) × ((with_king men side k).last ≡ men.last)
+pub same_beside : (men : ShelfMen) (side : Side) (k : ℕ) → ((with_king men side k).first ≡ men.first) × ((with_king men side k).last ≡ men.last)
 same_beside men side k = grind arith
 
 -- one step more

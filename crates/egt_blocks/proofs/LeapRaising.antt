@@ -73,13 +73,13 @@ module _ (c : ℕ) (worth : ℕ → ℕ) (first : Bool) (men : ShelfMen) (side :
   Leaps = AreLeapCodes c first men side a b
 
   -- a man who is no pawn of the other side takes nothing in passing
-  no_target : men.one ≢ pawn_of (other_side side) → (u : ℕ) → ¬ LeavesTarget men side a b u
+  no_target : men.first ≢ pawn_of (other_side side) → (u : ℕ) → ¬ LeavesTarget men side a b u
   no_target other u leaves = other (λ i. record { side = leaves.theirs i; kind = leaves.pawn i })
 
-  pub steps_alone : men.one ≢ pawn_of (other_side side) → (v : ℕ) → IsRaised 0 (AreAdvancedCodes c first false men side None a b) worth v → IsRaised 0 Steps worth v
+  pub steps_alone : men.first ≢ pawn_of (other_side side) → (v : ℕ) → IsRaised 0 (AreAdvancedCodes c first false men side None a b) worth v → IsRaised 0 Steps worth v
   steps_alone other v raised = raised_alike 0 v (AreAdvancedCodes c first false men side None a b) Steps worth raised (λ code h. (h.0, h.1, h.3)) (λ code h. (h.0, h.1, no_target other h.0, h.2))
 
-  module _ (mine : men.last ≡ pawn_of side) (theirs : men.one ≡ pawn_of (other_side side)) (scores : List (List ℕ)) (a_in : a < 64) where
+  module _ (mine : men.last ≡ pawn_of side) (theirs : men.first ≡ pawn_of (other_side side)) (scores : List (List ℕ)) (a_in : a < 64) where
     abbrev Goes : (n u : ℕ) → Type 0
     Goes n u = AdvancesBy n (IsClear men a) side b u
 
@@ -100,8 +100,8 @@ module _ (c : ℕ) (worth : ℕ → ℕ) (first : Bool) (men : ShelfMen) (side :
     leaves : (u : ℕ) → Goes 2 u → IsBeside a u → LeavesTarget men side a b u
     leaves u goes beside = record { pawn = ap (λ (x : Man). x.kind) theirs; theirs = ap (λ (x : Man). x.side) theirs; two = two_apart (IsClear men a) side b u goes; beside = beside }
 
-    abbrev Codes : (passed : Bool) (u code : ℕ) → Type 0
-    Codes passed u code = IsSomeTurnedCodeWith passed c code false (stand_after first false men a men.last u) (other_side side)
+    abbrev Codes : (targeted : Bool) (u code : ℕ) → Type 0
+    Codes targeted u code = IsSomeTurnedCodeWith targeted c code false (stand_after first false men a men.last u) (other_side side)
 
     abbrev Near : (arrivals u : ℕ) → Type 0
     Near arrivals u = Goes 1 u × (bit_at arrivals u ≡ 1)
@@ -110,8 +110,8 @@ module _ (c : ℕ) (worth : ℕ → ℕ) (first : Bool) (men : ShelfMen) (side :
     Far beside u = Goes 2 u × IsBesideWhere beside a u
 
     -- codes after these advances
-    After : (In : ℕ → Type 0) (passed : Bool) → ℕ → Type 0
-    After In passed code = (u : ℕ) × In u × Codes passed u code
+    After : (In : ℕ → Type 0) (targeted : Bool) → ℕ → Type 0
+    After In targeted code = (u : ℕ) × In u × Codes targeted u code
 
     pub all_steps : ((i u : ℕ) → i < 64 → u < 64 → IsReadWith false c worth false (stand_after first false men i men.last u) (other_side side) (at scores i u)) → (arrivals : ℕ) → ((u : ℕ) → u < 64 → (bit_at arrivals u ≡ 1) ↔ FitsPromotion (eqb (rank_of u) (last_rank side)) None)
         → (low mid v : ℕ) → low ≡ 0 → IsRaised low (λ u. AdvancesBy 1 (IsClear men a) side b u × (bit_at arrivals u ≡ 1)) (λ u. at scores a u) mid → IsRaised mid (λ u. AdvancesBy 2 (IsClear men a) side b u × IsBesideWhere false a u) (λ u. at scores a u) v → IsRaised 0 Steps worth v

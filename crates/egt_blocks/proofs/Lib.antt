@@ -4,7 +4,7 @@ pub mod BlockRaising
 pub mod LoneRead
 pub mod QuietRaising
 pub mod AloneRaising
-pub mod Taking
+pub mod LastTaken
 pub mod AdvanceRaising
 pub mod LeapRaising
 pub mod PassingRaising

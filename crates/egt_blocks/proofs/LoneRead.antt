@@ -1,4 +1,4 @@
--- What one man beside the kings is worth, by the codes of turns.
+-- Scores of one man beside the kings, by the codes of turns.
 use Rattle.std.proofs.Common.{◌≡◌, ℕ, ◌<◌, ◌&&◌, Bool, true, false, not, eqb, length, refl, sym, ap, ◌∙◌, inl, inr}
 use Rattle.std.proofs.Common.{subst}
 use Rattle.egt_blocks.specs.Prelude.{false≢true, Man, Side, all_below, passes_below, has_equal_sides, material_of}

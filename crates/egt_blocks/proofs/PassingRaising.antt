@@ -1,14 +1,12 @@
 -- Blocks of scores after a capture in passing.
-use Rattle.std.proofs.Common.{◌||◌, ◌≡◌, ℕ, ◌+◌, ◌/◌, ◌%◌, ◌<◌, Bool, true, false, not, ltb, eqb, List, []}
-use Rattle.std.proofs.Common.{if◌then◌else◌, length, get_or, get_or-set_other, arith, refl, sym, ap, ◌∙◌, inl, inr}
-use Rattle.std.proofs.Common.{subst, slice_index}
-use Rattle.egt_blocks.specs.Prelude.{list_any, cases_eq, cases_lt, false≢true, le-ltb, lt-ltb, get_or-set_at, set}
-use Rattle.egt_blocks.specs.Prelude.{length-set, Reaches, Reaches-on_board, other_side, MayStand, ahead, pawn_of}
-use Rattle.egt_blocks.specs.Prelude.{rank_of, turned_man, turned_square, P, Man, Side, all_below, passes_below}
-use Rattle.egt_blocks.specs.Prelude.{material_of, materials, symmetries, IsLoneMan, lone_stand, has_pawns, men_beside}
-use Rattle.egt_blocks.specs.Prelude.{IsListed, TellsMen, list_of, IsSomeTurnedCode, ShelfMen, Stand, at, IsRaised}
-use Rattle.egt_blocks.specs.Prelude.{is_pawn, ArePassingCodes, IsAtPassed, IsPastPawns, IsPastKings, left_of}
-use Rattle.egt_blocks.specs.Prelude.{stand_left, IsRead}
+use Rattle.std.proofs.Common.{◌||◌, ℕ, false, if◌then◌else◌, length, get_or, get_or-set_other, arith, subst, slice_index}
+use Rattle.std.proofs.Common.{◌≡◌, ◌+◌, ◌/◌, ◌%◌, ◌<◌, Bool, true, not, ltb, eqb, List, [], refl, sym, ap, ◌∙◌, inl, inr}
+use Rattle.egt_blocks.specs.Prelude.{list_any, cases_eq, cases_lt, MayStand, all_below, materials, IsLoneMan, has_pawns}
+use Rattle.egt_blocks.specs.Prelude.{false≢true, le-ltb, length-set, passes_below, material_of, IsPastPawns, IsPastKings}
+use Rattle.egt_blocks.specs.Prelude.{lt-ltb, set, ahead, P, Man, Side, Stand, at, left_of, IsRead}
+use Rattle.egt_blocks.specs.Prelude.{get_or-set_at, Reaches-on_board, turned_square, IsSomeTurnedCode, ArePassingCodes}
+use Rattle.egt_blocks.specs.Prelude.{Reaches, pawn_of, rank_of, IsListed, TellsMen, list_of, ShelfMen, IsRaised, is_pawn}
+use Rattle.egt_blocks.specs.Prelude.{other_side, turned_man, symmetries, lone_stand, men_beside, IsAtPassed, stand_left}
 use Rattle.egt_blocks.proofs.BlockRaising.{raised_alike, raised_by_none}
 use Rattle.egt_blocks.proofs.LoneRead.{some_home}
 use Rattle.egt_blocks.proofs.QuietRaising.{raised_through}
@@ -68,7 +66,7 @@ turned_kind : (flips : Bool) (man : Man) → (turned_man flips man).kind ≡ man
 turned_kind flips man = grind arith
 
 module _ (c : ℕ) (worth : ℕ → ℕ) (flips : Bool) (man : Man) (pawn : man.kind ≡ P) (c_in : c < 36) (lone : IsLoneMan c (turned_man flips man))
-    (pawns : (passed : Bool) (c code : ℕ) (stand : Stand) (side : Side) (man : Man) (s : ℕ) → TellsMen passed c code stand side → IsListed (list_of stand) man s → MayStand man s) where
+    (pawns : (targeted : Bool) (c code : ℕ) (stand : Stand) (side : Side) (man : Man) (s : ℕ) → TellsMen targeted c code stand side → IsListed (list_of stand) man s → MayStand man s) where
   pub none_past : (white black s : ℕ) (side : Side) (code : ℕ) → s < 64 → IsPastPawns s → ¬ IsSomeTurnedCode c code flips (lone_stand white black (turned_man flips man) s) side
   none_past white black s side code s_in past some =
       let kind : (turned_man flips man).kind ≡ P = turned_kind flips man ∙ pawn in
@@ -103,8 +101,8 @@ module _ (c : ℕ) (worth : ℕ → ℕ) (flips : Bool) (men : ShelfMen) (side :
   abbrev pub Passing : ℕ → Type 0
   Passing = ArePassingCodes c flips men side a b
 
-  module _ (mine : men.last ≡ pawn_of side) (theirs : men.one ≡ pawn_of (other_side side)) (c_in : c < 36) (lone : IsLoneMan c (turned_man flips men.last))
-      (pawns : (passed : Bool) (c code : ℕ) (stand : Stand) (side : Side) (man : Man) (s : ℕ) → TellsMen passed c code stand side → IsListed (list_of stand) man s → MayStand man s)
+  module _ (mine : men.last ≡ pawn_of side) (theirs : men.first ≡ pawn_of (other_side side)) (c_in : c < 36) (lone : IsLoneMan c (turned_man flips men.last))
+      (pawns : (targeted : Bool) (c code : ℕ) (stand : Stand) (side : Side) (man : Man) (s : ℕ) → TellsMen targeted c code stand side → IsListed (list_of stand) man s → MayStand man s)
       (scores : List ℕ) (read : (u : ℕ) → u < 64 → IsRead c worth flips (stand_left flips (left_of men men.last u)) (other_side side) (slice_index scores u)) where
     abbrev to : ℕ
     to = ahead side a

@@ -58,7 +58,7 @@ open_is_clear men kings b is u u_in = (
 module _ (c : ℕ) (worth : ℕ → ℕ) (men : ShelfMen) (side : Side) (a b : ℕ) (low : ℕ)
     (king : IsRaised 0 (AreKingCodes c men side (IsBesideKing men side) a b) worth low) where
   -- only the king has steps
-  pub king_alone : (men.one.side ≡ side → men.one.kind ≡ P) → (men.last.side ≡ side → men.last.kind ≡ P) → IsRaised 0 (AreQuietCodes c men side a b) worth low
+  pub king_alone : (men.first.side ≡ side → men.first.kind ≡ P) → (men.last.side ≡ side → men.last.kind ≡ P) → IsRaised 0 (AreQuietCodes c men side a b) worth low
   king_alone other others = grind (arith, raised_alike, other_side, stand_on, with_king)
 
   module _ (scores : List (List ℕ)) (read : (i j : ℕ) → i < 64 → j < 64 → IsRead c worth false (stand_on men i j) (other_side side) (at scores i j)) (a_in : a < 64) (b_in : b < 64) (mid high : ℕ)
@@ -69,7 +69,7 @@ module _ (c : ℕ) (worth : ℕ → ℕ) (men : ShelfMen) (side : Side) (a b : �
 
     by_first : IsRaised low (λ code. (u : ℕ) × IsFirstStep men side a b u × IsSomeTurnedCode c code false (stand_on men u b) (other_side side)) worth mid
     by_first = raised_through low mid (IsFirstStep men side a b) (λ u code. IsSomeTurnedCode c code false (stand_on men u b) (other_side side)) worth (λ u. at scores u b)
-        (λ u step. read u b (Reaches-on_board (IsClear men b) men.one a u step.2) b_in) first
+        (λ u step. read u b (Reaches-on_board (IsClear men b) men.first a u step.2) b_in) first
 
     by_last : IsRaised mid (λ code. (u : ℕ) × IsLastStep men side a b u × IsSomeTurnedCode c code false (stand_on men a u) (other_side side)) worth high
     by_last = raised_through mid high (IsLastStep men side a b) (λ u code. IsSomeTurnedCode c code false (stand_on men a u) (other_side side)) worth (λ u. at scores a u)
@@ -91,6 +91,6 @@ module _ (c : ℕ) (worth : ℕ → ℕ) (men : ShelfMen) (side : Side) (a b : �
         ])
         (λ code h. elim h [
           | inl k ↦ (stand_on (with_king men side k.0) a b, inl (k.0, k.1, refl), k.2)
-          | inr one ↦ (stand_on men one.0 b, inr (inl (one.1.0, one.1.1, one.0, Reaches-on_board (IsClear men b) men.one a one.0 one.1.2, one.1.2, refl)), one.2)
+          | inr one ↦ (stand_on men one.0 b, inr (inl (one.1.0, one.1.1, one.0, Reaches-on_board (IsClear men b) men.first a one.0 one.1.2, one.1.2, refl)), one.2)
         ])
         (λ code last. (stand_on men a last.0, inr (inr (last.1.0, last.1.1, last.0, Reaches-on_board (IsClear men a) men.last b last.0 last.1.2, last.1.2, refl)), last.2))

@@ -1,12 +1,11 @@
--- What a row of a shelf tells, by the last man's square.
+-- A row of a shelf, read by the last man's square.
 use Rattle.std.proofs.Common.{◌≡◌, ℕ, ◌+◌, ◌-◌, ◌*◌, ◌/◌, ◌%◌, ◌<◌, ◌≤◌, ◌⊎◌, if◌then◌else◌, Bool, true, false, List}
 use Rattle.std.proofs.Common.{[], ◌∷◌, take, drop, arith, refl, sym, ap, ◌∙◌, inl, inr, subst, slice_index}
-use Rattle.egt_blocks.specs.Prelude.{cases_lt, get_or-drop, get_or-take, side_number, MayStand, Kind}
-use Rattle.egt_blocks.specs.Prelude.{P, Man, Side, White, Material, material_of, number_from, product}
-use Rattle.egt_blocks.specs.Prelude.{code_of, half_of, places, digits_at, kind_digits, kind_less, last_of, IsShelfOf}
-use Rattle.egt_blocks.specs.Prelude.{IsWithin, number_in, stand_with, bases, has_target, men_beside, size_of, IsListed}
-use Rattle.egt_blocks.specs.Prelude.{TellsMen, list_of, ShelfMen, Stand, code_high, code_low, half_targets}
-use Rattle.egt_blocks.specs.Prelude.{one_pawn_each, IsRaised, is_pawn, IsShelfRow}
+use Rattle.egt_blocks.specs.Prelude.{cases_lt, MayStand, Material, kind_less, IsShelfOf, IsWithin, number_in, code_high}
+use Rattle.egt_blocks.specs.Prelude.{get_or-drop, get_or-take, side_number, P, material_of, half_targets, one_pawn_each}
+use Rattle.egt_blocks.specs.Prelude.{Kind, Man, Side, White, last_of, bases, size_of, list_of, Stand, is_pawn}
+use Rattle.egt_blocks.specs.Prelude.{number_from, digits_at, kind_digits, stand_with, has_target, men_beside, IsShelfRow}
+use Rattle.egt_blocks.specs.Prelude.{product, code_of, half_of, places, IsListed, TellsMen, ShelfMen, code_low, IsRaised}
 
 -- an entry of a piece of a list
 pub piece_at : (xs : List ℕ) (first len k : ℕ) → k < len → slice_index (take (first + len - first) (drop first xs)) k ≡ slice_index xs (first + k)
@@ -29,17 +28,17 @@ side_few side = grind arith
 -- ---- the class with targets
 
 abbrev pub bit_of : Bool → ℕ
-bit_of passed = if passed then 1 else 0
+bit_of targeted = if targeted then 1 else 0
 
-pub bit_few : (passed : Bool) → bit_of passed < 2
-bit_few passed = grind arith
+pub bit_few : (targeted : Bool) → bit_of targeted < 2
+bit_few targeted = grind arith
 
 -- the code's last digit is that of the target
-pub target_digit : (c code : ℕ) (stand : Stand) (side : Side) (passed : Bool) → has_target (material_of c) ≡ true → TellsMen passed c code stand side → code % 2 ≡ bit_of passed
-target_digit c code stand side passed has tells = by passed (tells.ends.number_is ∙ ap (λ b. number_from tells.number (2 ∷ (if b then 2 ∷ [] else [])) (side_number side ∷ (if b then bit_of passed ∷ [] else []))) has)
+pub target_digit : (c code : ℕ) (stand : Stand) (side : Side) (targeted : Bool) → has_target (material_of c) ≡ true → TellsMen targeted c code stand side → code % 2 ≡ bit_of targeted
+target_digit c code stand side targeted has tells = by targeted (tells.ends.number_is ∙ ap (λ b. number_from tells.number (2 ∷ (if b then 2 ∷ [] else [])) (side_number side ∷ (if b then bit_of targeted ∷ [] else []))) has)
   where
-    by : (passed : Bool) → code ≡ number_from tells.number (2 ∷ 2 ∷ []) (side_number side ∷ bit_of passed ∷ []) → code % 2 ≡ bit_of passed
-    by passed is = grind arith
+    by : (targeted : Bool) → code ≡ number_from tells.number (2 ∷ 2 ∷ []) (side_number side ∷ bit_of targeted ∷ []) → code % 2 ≡ bit_of targeted
+    by targeted is = grind arith
 
 pub half_is : (c : ℕ) → has_target (material_of c) ≡ true → (size_of c ≡ 18874368) × (half_of c ≡ 9437184)
 unfolding size_of
@@ -71,36 +70,36 @@ module _ (c shelf : ℕ) (has : has_target (material_of c) ≡ true) (within : I
   first_within = grind (arith, half_is, cases_lt, half_of, code_low, first_is, code_high, ends)
 
   -- so is a target's digit alone left out
-  pub first_of_shelf : (men : ShelfMen) (passed : Bool) → IsShelfOf passed c shelf men → code_of c first / 2 * 2 + bit_of passed ≡ code_of c first
-  first_of_shelf men passed is =
+  pub first_of_shelf : (men : ShelfMen) (targeted : Bool) → IsShelfOf targeted c shelf men → code_of c first / 2 * 2 + bit_of targeted ≡ code_of c first
+  first_of_shelf men targeted is =
       let some : 0 < kind_digits men.last.kind = omega (arith, is.0.len, places_is c has) in
       let number : number_in c shelf White 0 ≡ first = omega arith in
-      let digit = target_digit c (code_of c (number_in c shelf White 0)) (stand_with men (0 + kind_less men.last.kind)) White is.0.passed has (is.0.tells White 0 some) in
+      let digit = target_digit c (code_of c (number_in c shelf White 0)) (stand_with men (0 + kind_less men.last.kind)) White is.0.targeted has (is.0.tells White 0 some) in
       let bit = ap bit_of is.1 in
       let code = ap (code_of c) number in
       omega (arith, digit, bit, code)
 
 -- ---- what a row of a shelf's scores tells
 
-module _ (passed : Bool) (c : ℕ) (worth : ℕ → ℕ) (men : ShelfMen) (shelf : ℕ) (side : Side) (is : IsShelfOf passed c shelf men)
-    (one : (passed : Bool) (c x y : ℕ) (stand : Stand) (side : Side) → TellsMen passed c x stand side → TellsMen passed c y stand side → x ≡ y)
-    (pawns : (passed : Bool) (c code : ℕ) (stand : Stand) (side : Side) (man : Man) (s : ℕ) → TellsMen passed c code stand side → IsListed (list_of stand) man s → MayStand man s) where
+module _ (targeted : Bool) (c : ℕ) (worth : ℕ → ℕ) (men : ShelfMen) (shelf : ℕ) (side : Side) (is : IsShelfOf targeted c shelf men)
+    (one : (targeted : Bool) (c x y : ℕ) (stand : Stand) (side : Side) → TellsMen targeted c x stand side → TellsMen targeted c y stand side → x ≡ y)
+    (pawns : (targeted : Bool) (c code : ℕ) (stand : Stand) (side : Side) (man : Man) (s : ℕ) → TellsMen targeted c code stand side → IsListed (list_of stand) man s → MayStand man s) where
   abbrev pub Told : ℕ → ℕ → Type 0
-  Told s code = TellsMen passed c code (stand_with men s) side
+  Told s code = TellsMen targeted c code (stand_with men s) side
 
   abbrev code_at : ℕ → ℕ
   code_at digit = code_of c (number_in c shelf side digit)
 
   -- the code with this digit tells the men with the last one on its square
   told : (s digit : ℕ) → digit < kind_digits men.last.kind → digit + kind_less men.last.kind ≡ s → Told s (code_at digit)
-  told s digit below at = subst (λ b. TellsMen b c (code_at digit) (stand_with men s) side) is.1 (subst (λ k. TellsMen is.0.passed c (code_at digit) (stand_with men k) side) at (is.0.tells side digit below))
+  told s digit below at = subst (λ b. TellsMen b c (code_at digit) (stand_with men s) side) is.1 (subst (λ k. TellsMen is.0.targeted c (code_at digit) (stand_with men k) side) at (is.0.tells side digit below))
 
   pub read_digit : (s digit v : ℕ) → digit < kind_digits men.last.kind → digit + kind_less men.last.kind ≡ s → v ≡ worth (code_at digit) → IsRaised 0 (Told s) worth v
   read_digit s digit v below at value =
       let here = told s digit below at in
       record {
         kept = omega arith;
-        above = λ code there. let same = ap worth (one passed c code (code_at digit) (stand_with men s) side there here) in omega (arith, same, value);
+        above = λ code there. let same = ap worth (one targeted c code (code_at digit) (stand_with men s) side there here) in omega (arith, same, value);
         reached = inr (code_at digit, here, value);
       }
 
@@ -108,7 +107,7 @@ module _ (passed : Bool) (c : ℕ) (worth : ℕ → ℕ) (men : ShelfMen) (shelf
   read_edge : (s v : ℕ) → men.last.kind ≡ P → (s < 8) ⊎ (56 ≤ s) → v ≡ 0 → IsRaised 0 (Told s) worth v
   read_edge s v pawn edge none = record {
     kept = omega arith;
-    above = λ code there. absurd (let may = pawns passed c code (stand_with men s) side men.last s there (inr (inr (inr (inl (refl, refl))))) pawn in elim edge [
+    above = λ code there. absurd (let may = pawns targeted c code (stand_with men s) side men.last s there (inr (inr (inr (inl (refl, refl))))) pawn in elim edge [
       | inl low ↦ omega (arith, may.0)
       | inr high ↦ omega (arith, may.1)
     ]);

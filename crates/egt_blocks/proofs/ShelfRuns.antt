@@ -88,9 +88,9 @@ pawns_number m number list spells is = go spells.digits (subst (λ (k : Material
     go (x ∷ y ∷ z ∷ v ∷ u ∷ more) are is = absurd (are.1.1.1.1)
     go (x ∷ y ∷ z ∷ v ∷ []) are is = let a = are.0 in let b = are.1.0 in let c = are.1.1.0 in let d = are.1.1.1.0 in omega (arith, a, b, c, d, is)
 
-module _ (passed : Bool) (c first : ℕ) (men : ShelfMen) (is : IsShelfOf passed c first (men_on men (kind_less men.one.kind))) (d : ℕ) (d_in : d < kind_digits men.one.kind) where
+module _ (targeted : Bool) (c first : ℕ) (men : ShelfMen) (is : IsShelfOf targeted c first (men_on men (kind_less men.first.kind))) (d : ℕ) (d_in : d < kind_digits men.first.kind) where
   abbrev there : ShelfMen
-  there = men_on men (d + kind_less men.one.kind)
+  there = men_on men (d + kind_less men.first.kind)
 
   module _ (side : Side) (y : ℕ) (y_in : y < kind_digits men.last.kind) where
     abbrev s : ℕ
@@ -102,7 +102,7 @@ module _ (passed : Bool) (c first : ℕ) (men : ShelfMen) (is : IsShelfOf passed
     abbrev up : ℕ
     up = number_in c (first + d) side y
 
-    abbrev here : TellsMen is.0.passed c (code_of c n) (stand_with (men_on men (kind_less men.one.kind)) s) side
+    abbrev here : TellsMen is.0.targeted c (code_of c n) (stand_with (men_on men (kind_less men.first.kind)) s) side
     here = is.0.tells side y y_in
 
     abbrev pawns : Bool
@@ -111,9 +111,9 @@ module _ (passed : Bool) (c first : ℕ) (men : ShelfMen) (is : IsShelfOf passed
     spells : SpellsMen (material_of c) (here.number + d * kind_digits men.last.kind) (list_of (stand_with there s))
     spells =
         let order = is.0.men_of.are in
-        let low : SpellsIn pawns (four men.one men.last) here.number (on_squares men.one men.last men.white men.black (kind_less men.one.kind) s) = subst (λ (l : List Man). SpellsIn pawns l here.number (on_squares men.one men.last men.white men.black (kind_less men.one.kind) s)) (sym order) (record { digits = here.men.digits; are = here.men.are; list_is = here.men.list_is; number_is = here.men.number_is }) in
-        let high = subst (λ (l : List Man). SpellsIn pawns l (here.number + d * kind_digits men.last.kind) (on_squares men.one men.last men.white men.black (d + kind_less men.one.kind) s)) order
-        (moved_up pawns men.one men.last is.0.men_of.one_beside is.0.men_of.last_beside men.white men.black s d d_in here.number low) in
+        let low : SpellsIn pawns (four men.first men.last) here.number (on_squares men.first men.last men.white men.black (kind_less men.first.kind) s) = subst (λ (l : List Man). SpellsIn pawns l here.number (on_squares men.first men.last men.white men.black (kind_less men.first.kind) s)) (sym order) (record { digits = here.men.digits; are = here.men.are; list_is = here.men.list_is; number_is = here.men.number_is }) in
+        let high = subst (λ (l : List Man). SpellsIn pawns l (here.number + d * kind_digits men.last.kind) (on_squares men.first men.last men.white men.black (d + kind_less men.first.kind) s)) order
+        (moved_up pawns men.first men.last is.0.men_of.one_beside is.0.men_of.last_beside men.white men.black s d d_in here.number low) in
         record { digits = high.digits; are = high.are; list_is = high.list_is; number_is = high.number_is }
 
     wide : places c ≡ kind_digits men.last.kind
@@ -126,35 +126,35 @@ module _ (passed : Bool) (c first : ℕ) (men : ShelfMen) (is : IsShelfOf passed
     number_up = ap (λ w. (first + d) * (2 * w) + side_number side + 2 * y) wide ∙ (let e : (first + d) * (2 * kind_digits men.last.kind) + side_number side + 2 * y ≡ first * (2 * kind_digits men.last.kind) + side_number side + 2 * y + d * (2 * kind_digits men.last.kind) = omega arith in e)
         ∙ ap (λ w. first * (2 * w) + side_number side + 2 * y + d * (2 * kind_digits men.last.kind)) (sym wide)
 
-    code_is : code_of c up ≡ ended (has_target (material_of c)) is.0.passed (here.number + d * kind_digits men.last.kind)
+    code_is : code_of c up ≡ ended (has_target (material_of c)) is.0.targeted (here.number + d * kind_digits men.last.kind)
     code_is = of_targets c plain targets
       where
-        plain : has_target (material_of c) ≡ false → code_of c up ≡ ended (has_target (material_of c)) is.0.passed (here.number + d * kind_digits men.last.kind)
+        plain : has_target (material_of c) ≡ false → code_of c up ≡ ended (has_target (material_of c)) is.0.targeted (here.number + d * kind_digits men.last.kind)
         plain none = grind (arith, code_plain, number_up, kind_digits, side_number)
 
-        targets : has_target (material_of c) ≡ true → code_of c up ≡ ended (has_target (material_of c)) is.0.passed (here.number + d * kind_digits men.last.kind)
+        targets : has_target (material_of c) ≡ true → code_of c up ≡ ended (has_target (material_of c)) is.0.targeted (here.number + d * kind_digits men.last.kind)
         targets has =
-            let from = here.ends.number_is ∙ ap (λ b. ended b is.0.passed here.number) has in
+            let from = here.ends.number_is ∙ ap (λ b. ended b is.0.targeted here.number) has in
             let few = side_few side in
             let width : kind_digits men.last.kind ≡ 48 = sym wide ∙ places_is c has in
             let scaled = ap (λ w. d * w) width in
             let number = number_up ∙ ap (λ w. n + d * (2 * w)) width in
             let below = pawns_number (material_of c) (here.number + d * kind_digits men.last.kind) (list_of (stand_with there s)) spells (one_pawn_each c has) in
             let half = (half_is c has).1 in
-            let told = ap (λ b. ended b is.0.passed (here.number + d * kind_digits men.last.kind)) has in
-            let bit = bit_few is.0.passed in
+            let told = ap (λ b. ended b is.0.targeted (here.number + d * kind_digits men.last.kind)) has in
+            let bit = bit_few is.0.targeted in
             elim (cases_lt n (half_of c)) [
               | inl low ↦
                   let at = code_low c n has low in
                   let above = code_low c up has (omega (arith, from, at, number, scaled, below, half, few, bit)) in
-                  above ∙ (let e : 2 * up ≡ ((here.number + d * kind_digits men.last.kind) * 2 + side_number side) * 2 + bit_of is.0.passed = omega (arith, from, at, number, scaled, few, bit) in e) ∙ sym told
+                  above ∙ (let e : 2 * up ≡ ((here.number + d * kind_digits men.last.kind) * 2 + side_number side) * 2 + bit_of is.0.targeted = omega (arith, from, at, number, scaled, few, bit) in e) ∙ sym told
               | inr high ↦
                   let at = code_high c n has high in
                   let above = code_high c up has (omega (arith, number, high)) in
-                  above ∙ (let e : 2 * (up - half_of c) + 1 ≡ ((here.number + d * kind_digits men.last.kind) * 2 + side_number side) * 2 + bit_of is.0.passed = omega (arith, from, at, number, scaled, high) in e) ∙ sym told
+                  above ∙ (let e : 2 * (up - half_of c) + 1 ≡ ((here.number + d * kind_digits men.last.kind) * 2 + side_number side) * 2 + bit_of is.0.targeted = omega (arith, from, at, number, scaled, high) in e) ∙ sym told
             ]
 
-    told : TellsMen is.0.passed c (code_of c up) (stand_with there s) side
+    told : TellsMen is.0.targeted c (code_of c up) (stand_with there s) side
     told = record {
       number = here.number + d * kind_digits men.last.kind;
       men = spells;
@@ -162,12 +162,12 @@ module _ (passed : Bool) (c first : ℕ) (men : ShelfMen) (is : IsShelfOf passed
       ends = record { number_is = code_is; never = here.ends.never };
     }
 
-  pub shelf_up : IsShelfOf passed c (first + d) there
+  pub shelf_up : IsShelfOf targeted c (first + d) there
   shelf_up = (
     record {
       men_of = record { are = is.0.men_of.are; one_beside = is.0.men_of.one_beside; last_beside = is.0.men_of.last_beside };
       len = is.0.len;
-      passed = is.0.passed;
+      targeted = is.0.targeted;
       tells = λ side digit below. told side digit below;
     },
     is.1,
@@ -186,8 +186,8 @@ digit_there man s s_in may = go man.kind may
     go K may = (omega arith, omega (arith, s_in))
 
 -- the shelf of a digit
-pub run_at : (passed : Bool) (c first : ℕ) (men : ShelfMen) → AreShelvesOf passed c men first → (d n on from : ℕ) → d < kind_digits men.one.kind → n ≡ d → on ≡ from + d → from ≡ kind_less men.one.kind → IsShelfOf passed c (first + n) (men_on men on) × IsWithin c (first + n)
-run_at passed c first men are d n on from d_in n_is on_is from_is =
-    let square : d + kind_less men.one.kind ≡ on = omega (arith, on_is, from_is) in
-    subst (λ k. IsShelfOf passed c (first + k) (men_on men on) × IsWithin c (first + k)) (sym n_is)
-    (subst (λ s. IsShelfOf passed c (first + d) (men_on men s) × IsWithin c (first + d)) square (are d d_in))
+pub run_at : (targeted : Bool) (c first : ℕ) (men : ShelfMen) → AreShelvesOf targeted c men first → (d n on from : ℕ) → d < kind_digits men.first.kind → n ≡ d → on ≡ from + d → from ≡ kind_less men.first.kind → IsShelfOf targeted c (first + n) (men_on men on) × IsWithin c (first + n)
+run_at targeted c first men are d n on from d_in n_is on_is from_is =
+    let square : d + kind_less men.first.kind ≡ on = omega (arith, on_is, from_is) in
+    subst (λ k. IsShelfOf targeted c (first + k) (men_on men on) × IsWithin c (first + k)) (sym n_is)
+    (subst (λ s. IsShelfOf targeted c (first + d) (men_on men s) × IsWithin c (first + d)) square (are d d_in))

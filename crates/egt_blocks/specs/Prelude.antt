@@ -27,7 +27,7 @@ pub use Rattle.egt_class.specs.Below.{passes_below}
 unfoldable pub use Rattle.egt_class.specs.Below.{all_below}
 pub use Rattle.egt_class.specs.Material.{Material}
 unfoldable pub use Rattle.egt_class.specs.Material.{has_equal_sides, material_of, materials}
-pub use Rattle.egt_index.proofs.Halves.{code_high, code_low, code_plain, half_targets, of_targets}
+pub use Rattle.egt_index.proofs.NumbersOfCodes.{code_high, code_low, code_plain, half_targets, of_targets}
 pub use Rattle.egt_index.proofs.OnePosition.{a_pawn_each, one_pawn_each}
 pub use Rattle.egt_index.specs.Code.{king_square, men_at, placed, square_by_digit, square_of}
 pub use Rattle.egt_index.specs.Digits.{AreDigits, number_from, number_of, product}
@@ -48,7 +48,7 @@ pub use Rattle.egt_index.specs.Went.{AreOnBoard}
 pub use Rattle.egt_index.specs.declared.shelf_codes.ShelfMen.{ShelfMen}
 pub use Rattle.egt_index.specs.declared.stand.Stand.{Stand}
 pub use Rattle.egt_lanes.proofs.Advancing.{kept_or_none, one_or_two_squares}
-pub use Rattle.egt_lanes.proofs.Raising.{raised_among, raised_by_one, raised_is}
+pub use Rattle.egt_lanes.proofs.RaisedTwice.{raised_among, raised_by_one, raised_is}
 pub use Rattle.egt_lanes.proofs.Rowwise.{RowsRaised, rows_more}
 pub use Rattle.egt_lanes.specs.Advances.{AdvancesBy}
 pub use Rattle.egt_lanes.specs.Blocks.{IsOpen, at}

@@ -7,7 +7,7 @@ use Rattle.egt_index.specs.declared.shelf_codes.ShelfMen.{ShelfMen}
 
 -- the first man, a piece of that side, from a
 abbrev pub IsFirstStep : ShelfMen → Side → (a b t : ℕ) → Type 0
-IsFirstStep men side a b t = (men.one.side ≡ side) × (men.one.kind ≢ P) × Reaches (IsClear men b) men.one a t
+IsFirstStep men side a b t = (men.first.side ≡ side) × (men.first.kind ≢ P) × Reaches (IsClear men b) men.first a t
 
 -- the last man, a piece of that side, from b
 abbrev pub IsLastStep : ShelfMen → Side → (a b t : ℕ) → Type 0

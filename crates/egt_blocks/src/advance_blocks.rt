@@ -29,7 +29,7 @@ fn men_two(flips: bool, men: &ShelfMen, one: Man, last: Man) -> ShelfMen
     ShelfMen {
         white: if flips { men.black } else { men.white },
         black: if flips { men.white } else { men.black },
-        one: turned_man(one, flips),
+        first: turned_man(one, flips),
         on: men.on,
         last: turned_man(last, flips),
     }
@@ -40,9 +40,9 @@ fn men_after(before: bool, flips: bool, men: &ShelfMen, man: Man) -> ShelfMen
     ensures { result ≡ men_after before flips men.now man }
 {
     if before {
-        men_two(flips, men, man, men.one)
+        men_two(flips, men, man, men.first)
     } else {
-        men_two(flips, men, men.one, man)
+        men_two(flips, men, men.first, man)
     }
 }
 
@@ -54,7 +54,7 @@ fn arrivals(promo: Option<Kind>, side: Side) -> SquareSet
     let last = rank_squares(side.last_rank());
     match promo {
         Some(_kind) => last,
-        None => SquareSet::ALL.without(last),
+        None => SquareSet::ALL.difference(last),
     }
 }
 
@@ -62,7 +62,7 @@ fn arrivals(promo: Option<Kind>, side: Side) -> SquareSet
 pub(crate) fn past_kings(men: &ShelfMen) -> SquareSet
     ensures { (u : ℕ) → u < 64 → Has result u ↔ IsPastKings men.now u }
 {
-    SquareSet::ALL.without(kings_of(men))
+    SquareSet::ALL.difference(kings_of(men))
 }
 
 /// The scores of the positions with these men in these rows and lanes, which are exchanged where `before`. False where
@@ -79,7 +79,7 @@ fn read_after<S: ShelfScores>(
     requires there { S.has source.now reading.now.column }
     requires voids { ScoresNoVoids (S.number source.now) (S.worth source.now reading.now.column) }
     requires men { AreMenOf (S.number source.now) men.now }
-    ensures { result ≡ true → (a t : ℕ) → a < 64 → t < 64 → Has rows a → Has lanes t → IsReadWith reading.now.passed
+    ensures { result ≡ true → (a t : ℕ) → a < 64 → t < 64 → Has rows a → Has lanes t → IsReadWith reading.now.targeted
         (S.number source.now) (S.worth source.now reading.now.column) reading.now.flips
         (if before then stand_on men.now t a else stand_on men.now a t) reading.now.side (at out.new a t) }
 {
@@ -104,7 +104,7 @@ fn raise_advances(men: &ShelfMen, arrivals: SquareSet, side: Side, scores: &Bloc
     let open = past_kings(men);
     for a in 0..64u8 {
         let row = a as usize;
-        let free = open.less(Square::at(a));
+        let free = open.without(Square::at(a));
         out[row] = advanced(out[row], kept(scores[row], arrivals), free, side);
     }
 }
@@ -136,7 +136,7 @@ pub fn promotion_block<S: ShelfScores>(
     let reading = Reading {
         column,
         flips,
-        passed: false,
+        targeted: false,
         side: man.side.other(),
     };
     let arrivals = arrivals(Some(man.kind), man.side);
@@ -165,7 +165,7 @@ fn squares_where(beside: bool, square: Square) -> SquareSet
     if beside {
         here
     } else {
-        SquareSet::ALL.without(here)
+        SquareSet::ALL.difference(here)
     }
 }
 
@@ -178,7 +178,7 @@ fn raise_steps(men: &ShelfMen, arrivals: SquareSet, side: Side, scores: &Block, 
     let open = past_kings(men);
     for a in 0..64u8 {
         let row = a as usize;
-        let free = open.less(Square::at(a));
+        let free = open.without(Square::at(a));
         out[row] = advanced_by_one(out[row], kept(scores[row], arrivals), free, side);
     }
 }
@@ -194,7 +194,7 @@ fn raise_leaps(men: &ShelfMen, beside: bool, side: Side, scores: &Block, out: &m
     for a in 0..64u8 {
         let row = a as usize;
         let square = Square::at(a);
-        let free = open.less(square);
+        let free = open.without(square);
         let arrivals = squares_where(beside, square);
         out[row] = advanced_by_two(out[row], kept(scores[row], arrivals), free, side);
     }
@@ -221,7 +221,7 @@ pub fn step_block<S: ShelfScores>(
         return;
     }
     let arrivals = arrivals(None, side);
-    if is_pawn_of(men.one, side.other()) {
+    if is_pawn_of(men.first, side.other()) {
         raise_steps(men, arrivals, side, still, out);
         raise_leaps(men, false, side, still, out);
     } else {
@@ -257,13 +257,13 @@ pub fn leap_block<S: ShelfScores>(
         (at out.new a b) }
 {
     *out = nothing();
-    if !is_pawn_of(men.last, side) || !is_pawn_of(men.one, side.other()) {
+    if !is_pawn_of(men.last, side) || !is_pawn_of(men.first, side.other()) {
         return true;
     }
     let reading = Reading {
         column,
         flips: false,
-        passed: true,
+        targeted: true,
         side: side.other(),
     };
     // He who may take stands beside.
@@ -303,10 +303,10 @@ pub fn promoting_block<S: LoneScores>(
         (S.worth source.now column) (at out.new a b) }
 {
     *out = nothing();
-    if !is_pawn_of(men.last, man.side) || !is_of(men.one, man.side.other()) {
+    if !is_pawn_of(men.last, man.side) || !is_of(men.first, man.side.other()) {
         return true;
     }
-    let promoted = ShelfMen { one: man, ..*men };
+    let promoted = ShelfMen { first: man, ..*men };
     let mut scores = Row::splat(0);
     if !read_left(source, column, flips, &promoted, man.side, &mut scores) {
         return false;

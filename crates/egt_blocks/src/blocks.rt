@@ -1,6 +1,7 @@
 //! The scores of the positions of a class with two men beside the kings, whose kings stand on two squares: a row for
 //! each square of the first man, a lane for each of the last. Each code has some turn of these men; codes that are not
-//! least score nothing. So the codes after a turn are not read where the kings tell that all of them are void.
+//! least score nothing. So the codes after a turn are not read where the kings tell that all of them are void. In the
+//! block of KQKR's kings on b1 and e5, the queen on d1 and the rook on h8 score in row 3, lane 63.
 ghost use Rattle.std.specs.Prelude.{◌≡◌, ◌%◌, ◌<◌, ◌+◌, ℕ, Bool, false, true, if◌then◌else◌, max, not, IfSome};
 ghost use Rattle.std.specs.Prelude.{slice_index};
 ghost use Rattle.egt_blocks.specs.Prelude.{Has, Side, has_equal_sides, material_of, symmetries, IsVoid, AreMenOf};
@@ -16,9 +17,9 @@ use egt_class::Class;
 use egt_index::home::home;
 use egt_index::laws::codes_tell_turned_men;
 use egt_index::men::has_equal_sides;
-use egt_index::nearer::is_void_after;
+use egt_index::void_by_kings::is_void_after;
 use egt_index::{ShelfMen, has_pawns, last_digits, shelf_of, size};
-use egt_lanes::block::{raise, raise_transposed};
+use egt_lanes::block::{raise_to_max, raise_transposed};
 use egt_lanes::turn::turned;
 use egt_lanes::{Block, Row};
 use egt_table::Column;
@@ -30,21 +31,21 @@ use std::simd::prelude::*;
 pub struct Reading {
     pub column: Column,
     pub flips: bool,
-    pub passed: bool,
+    pub targeted: bool,
     pub side: Side,
 }
 
 /// The first shelf of the men, with a target where one was passed: there is one for each digit of the first man, in
 /// their order. `None` where there are none.
-fn shelves_of(class: Class, men: &ShelfMen, passed: bool) -> Option<u32>
+fn shelves_of(class: Class, men: &ShelfMen, targeted: bool) -> Option<u32>
     requires men { AreMenOf class men.now }
-    ensures shelves { IfSome result (AreShelvesOf passed class men.now) }
+    ensures shelves { IfSome result (AreShelvesOf targeted class men.now) }
     ensures room { IfSome result (λ first. first + 64 < 4294967296) }
 {
-    let on = Square::at(first_square(men.one));
-    let first = shelf_of(class, &men_on(men, on), passed)?;
+    let on = Square::at(first_square(men.first));
+    let first = shelf_of(class, &men_on(men, on), targeted)?;
     let shelves = size(class) / (2 * last_digits(class));
-    let last = shelves.checked_sub(u32::from(digits_of(men.one)))?;
+    let last = shelves.checked_sub(u32::from(digits_of(men.first)))?;
     if last < first {
         return None;
     }
@@ -52,11 +53,11 @@ fn shelves_of(class: Class, men: &ShelfMen, passed: bool) -> Option<u32>
 }
 
 /// Whether the shelves of the men begin with this one.
-pub fn begin_with(class: Class, men: &ShelfMen, passed: bool, first: u32) -> bool
+pub fn begin_with(class: Class, men: &ShelfMen, targeted: bool, first: u32) -> bool
     requires men { AreMenOf class men.now }
-    ensures { result ≡ true → AreShelvesOf passed class men.now first }
+    ensures { result ≡ true → AreShelvesOf targeted class men.now first }
 {
-    match shelves_of(class, men, passed) {
+    match shelves_of(class, men, targeted) {
         Some(shelf) => shelf == first,
         None => false,
     }
@@ -76,9 +77,9 @@ fn row_after<S: ShelfScores>(
 ) -> Row
     requires there { S.has source.now reading.now.column }
     requires turn { turn < 16 }
-    requires shelves { AreShelvesOf reading.now.passed (S.number source.now) (turned_from men.now on turn) first }
+    requires shelves { AreShelvesOf reading.now.targeted (S.number source.now) (turned_from men.now on turn) first }
     requires room { first + 64 < 4294967296 }
-    ensures { (b : ℕ) → b < 64 → Has rows on → IsRaisedAfter reading.now.passed (S.number source.now)
+    ensures { (b : ℕ) → b < 64 → Has rows on → IsRaisedAfter reading.now.targeted (S.number source.now)
         (S.worth source.now reading.now.column) turn (stand_on men.now on b) reading.now.side 0 (slice_index result b) }
 {
     codes_tell_turned_men();
@@ -86,20 +87,20 @@ fn row_after<S: ShelfScores>(
         return Row::splat(0);
     }
     let there = turned_from(men, on, turn);
-    if !may_stand(there.one, there.on) {
+    if !may_stand(there.first, there.on) {
         return Row::splat(0);
     }
-    let shelf = first + u32::from(there.on.number() - first_square(there.one));
+    let shelf = first + u32::from(there.on.number() - first_square(there.first));
     let side = side_after(reading.side, turn);
-    let row = source.shelf_row(reading.column, &there, shelf, side, reading.passed);
+    let row = source.shelf_row(reading.column, &there, shelf, side, reading.targeted);
     turned(row, turn)
 }
 
 /// Whether the kings tell that the codes after the turn are void, wherever the men beside them stand.
 fn are_void_after(class: Class, men: &ShelfMen, turn: u8) -> bool
     requires { turn < 16 }
-    ensures { result ≡ true → (passed : Bool) (code a b : ℕ) (side : Side) → a < 64 → b < 64 →
-        IsTurnedCodeWith passed class turn code (stand_on men.now a b) side → IsVoid class code }
+    ensures { result ≡ true → (targeted : Bool) (code a b : ℕ) (side : Side) → a < 64 → b < 64 →
+        IsTurnedCodeWith targeted class turn code (stand_on men.now a b) side → IsVoid class code }
 {
     let _numbers = (men.white.number(), men.black.number());
     is_void_after(class, men.white, men.black, turn)
@@ -120,7 +121,7 @@ fn turned_block<S: ShelfScores>(
     requires turn { turn < 16 }
     requires keeps { turn % 8 < symmetries (has_pawns (material_of (S.number source.now))) }
     ensures { result ≡ true → (a b : ℕ) → a < 64 → b < 64 → Has rows a →
-        IsRaisedAfter reading.now.passed (S.number source.now)
+        IsRaisedAfter reading.now.targeted (S.number source.now)
         (S.worth source.now reading.now.column) turn (stand_on men.now a b) reading.now.side 0 (at out.new a b) }
 {
     let class = source.class();
@@ -130,7 +131,7 @@ fn turned_block<S: ShelfScores>(
         return true;
     }
     let there = turned_from(men, men.on, turn);
-    let Some(first) = shelves_of(class, &there, reading.passed) else {
+    let Some(first) = shelves_of(class, &there, reading.targeted) else {
         return false;
     };
     // Each row is written once, since the block is seldom in the cache.
@@ -154,7 +155,7 @@ fn home_block<S: ShelfScores>(
     requires voids { ScoresNoVoids (S.number source.now) (S.worth source.now reading.now.column) }
     requires men { AreMenOf (S.number source.now) men.now }
     ensures { result ≡ true → (a b : ℕ) → a < 64 → b < 64 → Has rows a →
-        IsRaisedHome reading.now.passed (S.number source.now)
+        IsRaisedHome reading.now.targeted (S.number source.now)
         (S.worth source.now reading.now.column) reading.now.flips (stand_on men.now a b) reading.now.side 0
         (at out.new a b) }
 {
@@ -166,7 +167,7 @@ fn home_block<S: ShelfScores>(
         Some(second) => {
             let mut other = nothing();
             let told = turned_block(source, reading, men, rows, second, &mut other);
-            raise(out, &other);
+            raise_to_max(out, &other);
             told
         }
         None => true,
@@ -213,7 +214,7 @@ fn raise_across<S: ShelfScores>(
     requires voids { ScoresNoVoids (S.number source.now) (S.worth source.now reading.now.column) }
     requires men { AreMenOf (S.number source.now) men.now }
     ensures raised { result ≡ true → has_equal_sides (S.number source.now) ≡ true → (a b : ℕ) → a < 64 → b < 64 →
-        IsRaisedHome reading.now.passed (S.number source.now) (S.worth source.now reading.now.column)
+        IsRaisedHome reading.now.targeted (S.number source.now) (S.worth source.now reading.now.column)
         (not reading.now.flips)
         (stand_on (men_across men.now) b a) reading.now.side (at out.old a b) (at out.new a b) }
     ensures same { has_equal_sides (S.number source.now) ≡ false → out.new ≡ out.old }
@@ -250,7 +251,7 @@ pub fn read_block<S: ShelfScores>(
     requires voids { ScoresNoVoids (S.number source.now) (S.worth source.now reading.now.column) }
     requires men { AreMenOf (S.number source.now) men.now }
     ensures { result ≡ true → (a b : ℕ) → a < 64 → b < 64 → Has rows a →
-        IsReadWith reading.now.passed (S.number source.now)
+        IsReadWith reading.now.targeted (S.number source.now)
         (S.worth source.now reading.now.column) reading.now.flips (stand_on men.now a b) reading.now.side
         (at out.new a b) }
 {

@@ -10,7 +10,7 @@ use crate::scored::ShelfScores;
 use egt_board::{Side, Square, SquareSet};
 use egt_index::ShelfMen;
 use egt_lanes::Block;
-use egt_lanes::block::raise;
+use egt_lanes::block::raise_to_max;
 use egt_table::Column;
 
 /// Of which column a block is, and where the kings of its positions stand.
@@ -82,7 +82,7 @@ fn read_all<S: ShelfScores>(
     let reading = Reading {
         column,
         flips: false,
-        passed: false,
+        targeted: false,
         side,
     };
     read_block(source, &reading, men, SquareSet::ALL, out)
@@ -148,6 +148,6 @@ pub fn raise_kept<S: ShelfScores>(
     if !keep(source, column, men, side, place, keys, blocks) {
         return false;
     }
-    raise(out, &blocks[place]);
+    raise_to_max(out, &blocks[place]);
     true
 }

@@ -14,7 +14,7 @@ pub fn men_on(men: &ShelfMen, on: Square) -> ShelfMen
     ShelfMen {
         white: men.white,
         black: men.black,
-        one: men.one,
+        first: men.first,
         on,
         last: men.last,
     }
@@ -27,9 +27,9 @@ pub fn men_swapped(men: &ShelfMen) -> ShelfMen
     ShelfMen {
         white: men.white,
         black: men.black,
-        one: men.last,
+        first: men.last,
         on: men.on,
-        last: men.one,
+        last: men.first,
     }
 }
 
@@ -51,14 +51,14 @@ pub fn with_king(men: &ShelfMen, side: Side, to: Square) -> ShelfMen
         Side::White => ShelfMen {
             white: to,
             black: men.black,
-            one: men.one,
+            first: men.first,
             on: men.on,
             last: men.last,
         },
         Side::Black => ShelfMen {
             white: men.white,
             black: to,
-            one: men.one,
+            first: men.first,
             on: men.on,
             last: men.last,
         },
@@ -82,7 +82,7 @@ pub fn turned_from(men: &ShelfMen, on: Square, turn: u8) -> ShelfMen
     ShelfMen {
         white: turned_square(turn, men.white),
         black: turned_square(turn, men.black),
-        one: men.one,
+        first: men.first,
         on: turned_square(turn, on),
         last: men.last,
     }
@@ -95,7 +95,7 @@ pub fn men_across(men: &ShelfMen) -> ShelfMen
     ShelfMen {
         white: men.black,
         black: men.white,
-        one: men.one,
+        first: men.first,
         on: men.on,
         last: men.last,
     }
@@ -110,7 +110,7 @@ pub fn side_after(side: Side, turn: u8) -> Side
 
 /// Whether the two men beside the kings are equal.
 pub fn are_equal(men: &ShelfMen) -> bool
-    ensures { IsTrue result ↔ (men.now.one ≡ men.now.last) }
+    ensures { IsTrue result ↔ (men.now.first ≡ men.now.last) }
 {
-    men.one == men.last
+    men.first == men.last
 }

@@ -33,7 +33,7 @@ fn passed_row(square: Square, side: Side, arrived: &Block) -> Row
     ensures { (b : ℕ) → b < 64 → IsAtPassed side arrived.now square b (slice_index result b) }
 {
     match passed_square(square, side) {
-        Some(passed) => arrived[passed.number() as usize],
+        Some(targeted) => arrived[targeted.number() as usize],
         None => Row::splat(0),
     }
 }
@@ -67,7 +67,7 @@ pub fn passing_block<S: LoneScores>(
     codes_tell_turned_men();
     let _number = source.class().number();
     *out = nothing();
-    if !is_pawn_of(men.last, side) || !is_pawn_of(men.one, side.other()) {
+    if !is_pawn_of(men.last, side) || !is_pawn_of(men.first, side.other()) {
         return true;
     }
     let swapped = men_swapped(men);

@@ -22,17 +22,20 @@ use egt_table::Column;
 fn clear_of(men: &ShelfMen, other: Square) -> SquareSet
     ensures { (u : ℕ) → u < 64 → Has result u ↔ IsClear men.now other u }
 {
-    SquareSet::ALL.less(men.white).less(men.black).less(other)
+    SquareSet::ALL
+        .without(men.white)
+        .without(men.black)
+        .without(other)
 }
 
 /// Raises the scores to those where a first man who is a piece of that side goes quietly.
 fn raise_first(men: &ShelfMen, side: Side, scores: &Block, out: &mut Block)
-    requires { men.now.one.kind ≢ K }
+    requires { men.now.first.kind ≢ K }
     ensures { (a b : ℕ) → a < 64 → b < 64 →
         IsRaised (at out.old a b) (IsFirstStep men.now side a b) (λ t. at scores.now t b) (at out.new a b) }
 {
-    if is_own_piece(men.one, side) {
-        raise_rows(out, scores, men.one, kings_of(men));
+    if is_own_piece(men.first, side) {
+        raise_rows(out, scores, men.first, kings_of(men));
     }
 }
 
@@ -75,7 +78,7 @@ pub fn quiet_block<S: ShelfScores>(
     requires there { S.has source.now column }
     requires voids { ScoresNoVoids (S.number source.now) (S.worth source.now column) }
     requires men { AreMenOf (S.number source.now) men.now }
-    requires one { men.now.one.kind ≢ K }
+    requires one { men.now.first.kind ≢ K }
     requires last { men.now.last.kind ≢ K }
     requires kept { AreKept (S.number source.now) (S.worth source.now) men.now (other_side side) keys.old blocks.old }
     ensures kept { AreKept (S.number source.now) (S.worth source.now) men.now (other_side side) keys.new blocks.new }
@@ -85,7 +88,7 @@ pub fn quiet_block<S: ShelfScores>(
     if !king_block(source, column, men, side, keys, blocks, out) {
         return false;
     }
-    if !is_own_piece(men.one, side) && !is_own_piece(men.last, side) {
+    if !is_own_piece(men.first, side) && !is_own_piece(men.last, side) {
         return true;
     }
     let mut scores = nothing();

@@ -1,4 +1,4 @@
-//! What the codes of a class are worth, told by rows: a number for each square of one man, the others standing still.
+//! Scores of the codes of a class, told by rows: a number for each square of one man, the others standing still.
 ghost use Rattle.std.specs.Prelude.{◌≡◌, ◌<◌, ℕ, false, slice_index};
 ghost use Rattle.egt_blocks.specs.Prelude.{IsLoneRow, lone_stand, IsShelfOf, IsWithin, stand_with, TellsMen, IsRaised};
 ghost use Rattle.egt_blocks.specs.Prelude.{Column};
@@ -24,12 +24,19 @@ pub trait ShelfScores {
 
     /// What the codes that tell these men are worth in the column, by the last man's square, and with a target where
     /// one was passed. The men are those of the shelf.
-    fn shelf_row(&self, column: Column, men: &ShelfMen, shelf: u32, side: Side, passed: bool) -> Row
+    fn shelf_row(
+        &self,
+        column: Column,
+        men: &ShelfMen,
+        shelf: u32,
+        side: Side,
+        targeted: bool,
+    ) -> Row
         requires there { has self.now column }
-        requires shelf { IsShelfOf passed (number self.now) shelf men.now }
+        requires shelf { IsShelfOf targeted (number self.now) shelf men.now }
         requires within { IsWithin (number self.now) shelf }
         ensures { (s : ℕ) → s < 64 → IsRaised 0
-            (λ code. TellsMen passed (number self.now) code (stand_with men.now s) side) (worth self.now column)
+            (λ code. TellsMen targeted (number self.now) code (stand_with men.now s) side) (worth self.now column)
             (slice_index result s) };
 }
 

@@ -31,15 +31,15 @@ pub fn read_left<S: LoneScores>(
     out: &mut Row,
 ) -> bool
     requires there { S.has source.now column }
-    requires lone { IsLoneMan (S.number source.now) (turned_man flips men.now.one) }
+    requires lone { IsLoneMan (S.number source.now) (turned_man flips men.now.first) }
     ensures { result ≡ true → (s : ℕ) → s < 64 →
         IsRead (S.number source.now) (S.worth source.now column) flips
-        (stand_left flips (left_of men.now men.now.one s)) (other_side side) (slice_index out.new s) }
+        (stand_left flips (left_of men.now men.now.first s)) (other_side side) (slice_index out.new s) }
 {
     let there = LoneMen {
         white: if flips { men.black } else { men.white },
         black: if flips { men.white } else { men.black },
-        man: turned_man(men.one, flips),
+        man: turned_man(men.first, flips),
     };
     read_lone(source, column, &there, flips, side.other(), out)
 }
@@ -55,11 +55,11 @@ fn read_king_takes<S: LoneScores>(
     out: &mut Block,
 ) -> bool
     requires there { S.has source.now column }
-    requires lone { IsLoneMan (S.number source.now) (turned_man flips men.now.one) }
+    requires lone { IsLoneMan (S.number source.now) (turned_man flips men.now.first) }
     ensures { result ≡ true → (b a : ℕ) → b < 64 → a < 64 →
         IsRaised 0 (λ code. IsBesideKing men.now side b ×
         IsSomeTurnedCode (S.number source.now) code flips
-        (stand_left flips (left_of (with_king men.now side b) men.now.one a)) (other_side side))
+        (stand_left flips (left_of (with_king men.now side b) men.now.first a)) (other_side side))
         (S.worth source.now column) (at out.new b a) }
 {
     *out = nothing();
@@ -78,13 +78,13 @@ fn read_king_takes<S: LoneScores>(
 /// Raises the scores to those where the first man takes: from the square of the row, on that of the lane.
 pub fn raise_takes(men: &ShelfMen, scores: &Row, out: &mut Block)
     ensures { (a b : ℕ) → a < 64 → b < 64 →
-        IsRaised (at out.old a b) (λ t. (t ≡ b) × Reaches (IsPastKings men.now) men.now.one a t)
+        IsRaised (at out.old a b) (λ t. (t ≡ b) × Reaches (IsPastKings men.now) men.now.first a t)
         (λ t. slice_index scores.now t) (at out.new a b) }
 {
     let kings = kings_of(men);
     for a in 0..64u8 {
         let row = a as usize;
-        let reached = reach_past(men.one, Square::at(a), kings);
+        let reached = reach_past(men.first, Square::at(a), kings);
         out[row] = greater(out[row], kept(*scores, reached));
     }
 }
@@ -100,7 +100,7 @@ pub fn taken_block<S: LoneScores>(
     out: &mut Block,
 ) -> bool
     requires there { S.has source.now column }
-    requires lone { IsLoneMan (S.number source.now) (turned_man flips men.now.one) }
+    requires lone { IsLoneMan (S.number source.now) (turned_man flips men.now.first) }
     ensures { result ≡ true → (a b : ℕ) → a < 64 → b < 64 →
         IsRaised 0 (AreLeftCodes (S.number source.now) flips men.now side a b) (S.worth source.now column)
         (at out.new a b) }
@@ -114,7 +114,7 @@ pub fn taken_block<S: LoneScores>(
         return false;
     }
     raise_transposed(out, &beside);
-    if !is_of(men.one, side) {
+    if !is_of(men.first, side) {
         return true;
     }
     let mut scores = Row::splat(0);

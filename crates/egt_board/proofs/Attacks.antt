@@ -1,9 +1,8 @@
 -- Attacks by the men of a board's slots.
 use Rattle.std.proofs.Common.{arith, ◌≡◌, ◌≢◌, ◌↔◌, ◌⊎◌, ℕ, List, [], ◌∷◌, Some, None, refl, sym, ap, ◌∙◌, subst, inl, inr}
-use Rattle.egt_board.specs.Prelude.{bit_at, nat_cmp, cases_eq, Side, Man, Placement, Stands, IsFree, get-remove_same}
-use Rattle.egt_board.specs.Prelude.{get-remove_other, Reaches, Reaches-free, Slot, listed, placed, InOrder, AreKept}
-use Rattle.egt_board.specs.Prelude.{slots_of, Inside, find-below, first_half, second_half, IsAttacked, AttacksFrom}
-use Rattle.egt_board.specs.Prelude.{IsSeenAs}
+use Rattle.egt_board.specs.Prelude.{bit_at, Side, Man, Stands, IsFree, Slot, listed, placed, InOrder, AreKept, Inside}
+use Rattle.egt_board.specs.Prelude.{nat_cmp, cases_eq, Reaches, slots_of, find-below, first_half, IsAttacked, IsSeenAs}
+use Rattle.egt_board.specs.Prelude.{Placement, get-remove_same, get-remove_other, Reaches-free, second_half, AttacksFrom}
 use Rattle.std.specs.FinMap as map
 use Rattle.egt_board.proofs.Placed.{find-here, find-later}
 use Rattle.egt_board.proofs.Slots.{shown, listed-shown}

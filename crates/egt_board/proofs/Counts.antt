@@ -2,7 +2,7 @@
 use Rattle.std.proofs.Common.{Option, None, ◌≡◌, ◌≢◌, ℕ, zero, suc, ◌+◌, ◌<◌, ◌≤◌, ◌↔◌, List, [], ◌∷◌, length, Some}
 use Rattle.std.proofs.Common.{cond, eqb, arith, refl, sym, ap, ◌∙◌, inl, inr, subst, ◌⊎◌}
 use Rattle.egt_board.specs.Prelude.{bit_at, is_some, cases_eq, false≢true, eqb_tells, bit_at-lt, Side, White, Black}
-use Rattle.egt_board.specs.Prelude.{Man, SquareSet, other_side, Placement, IsHeld, IsKingOn, total, size_of}
+use Rattle.egt_board.specs.Prelude.{Man, SquareSet, other_side, Placement, IsOccupiedBy, IsKingOn, total, size_of}
 use Rattle.std.specs.FinMap as placement
 use Rattle.egt_board.proofs.Placed.{find-later}
 use Rattle.egt_board.proofs.Gather.{IsKey}
@@ -55,7 +55,7 @@ covered (e ∷ es) f n small keys =
     key t one (inr h) = sym (ap is_some (find-later t e.0 e.1 es h)) ∙ keys t (sym (changed_other f e.0 0 t h) ∙ one)
 
 -- the other side's king leaves three
-pub own_few : (men : Placement) (side : Side) (set : SquareSet) (k : ℕ) → placement.len men ≤ 4 → k < 64 → IsKingOn men (other_side side) k → ((t : ℕ) → (bit_at set.bits t ≡ 1) ↔ IsHeld men t side) → size_of set ≤ 3
+pub own_few : (men : Placement) (side : Side) (set : SquareSet) (k : ℕ) → placement.len men ≤ 4 → k < 64 → IsKingOn men (other_side side) k → ((t : ℕ) → (bit_at set.bits t ≡ 1) ↔ IsOccupiedBy men t side) → size_of set ≤ 3
 unfolding size_of
 own_few men side set k few k_in king held =
     let f : ℕ → ℕ = bit_at set.bits in
@@ -76,7 +76,7 @@ own_few men side set k few k_in king held =
         ap is_some (sym (placement.get-entries men t) ∙ ((held t).0 (sym (changed_other (bit_at set.bits) k 1 t other) ∙ one)).stands)
 
 pub few_of_side : (men : Placement) (side : Side) (set : SquareSet) (white black : ℕ) → placement.len men ≤ 4 → white < 64 → black < 64 → IsKingOn men White white → IsKingOn men Black black
-    → ((t : ℕ) → (bit_at set.bits t ≡ 1) ↔ IsHeld men t side) → size_of set ≤ 3
+    → ((t : ℕ) → (bit_at set.bits t ≡ 1) ↔ IsOccupiedBy men t side) → size_of set ≤ 3
 few_of_side men White set white black few white_in black_in w b held = own_few men White set black few black_in b held
 few_of_side men Black set white black few white_in black_in w b held = own_few men Black set white few white_in w held
 

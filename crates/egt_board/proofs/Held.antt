@@ -2,7 +2,7 @@
 use Rattle.std.proofs.Common.{◌≡◌, ℕ, ◌<◌, ◌↔◌, true, false, cond, eqb, List, [], ◌∷◌, Option, Some, None, arith, refl}
 use Rattle.std.proofs.Common.{sym, ap, ◌∙◌, max, inl, inr}
 use Rattle.egt_board.specs.Prelude.{nat_cmp, unsigned_tied, cases_eq, eqb_tells, Side, Man, Placement, Stands, IsFree}
-use Rattle.egt_board.specs.Prelude.{IsHeld, Slot, listed, marks, takes, is_side, InOrder, AreOnBoard, AreKept}
+use Rattle.egt_board.specs.Prelude.{IsOccupiedBy, Slot, listed, marks, takes, is_side, InOrder, AreOnBoard, AreKept}
 use Rattle.egt_board.specs.Prelude.{find-below, first_half, second_half}
 use Rattle.std.specs.FinMap as map
 use Rattle.egt_board.proofs.Placed.{find-later}
@@ -17,9 +17,9 @@ bit_of side None = 0
 bit_of side (Some man) = is_side side man.side
 
 -- a bit that is 1 where a man of the side stands
-bit_of-IsHeld : (men : Placement) (t : ℕ) (side : Side) (slot : Option Man) (b : ℕ) → map.get men t ≡ slot → b ≡ bit_of side slot → (b ≡ 1) ↔ IsHeld men t side
+bit_of-IsOccupiedBy : (men : Placement) (t : ℕ) (side : Side) (slot : Option Man) (b : ℕ) → map.get men t ≡ slot → b ≡ bit_of side slot → (b ≡ 1) ↔ IsOccupiedBy men t side
 unfolding bit_of
-bit_of-IsHeld men t side slot b is e = grind (arith, is_side-same)
+bit_of-IsOccupiedBy men t side slot b is e = grind (arith, is_side-same)
 
 marked : Side → List Slot → ℕ → ℕ
 marked side [] t = 0
@@ -52,11 +52,11 @@ four : (p q r s : ℕ) → max (max p q) (max r s) ≡ max p (max q (max r (max 
 four p q r s = omega arith
 
 -- the squares that the four slots mark are those on which the side's men stand
-pub marked-IsHeld : (side : Side) (a b c d : Slot) (men : Placement) (t n : ℕ) → AreKept (a ∷ b ∷ c ∷ d ∷ []) → AreShown (a ∷ b ∷ c ∷ d ∷ []) men
-    → n ≡ max (max (marks side a t) (marks side b t)) (max (marks side c t) (marks side d t)) → (n ≡ 1) ↔ IsHeld men t side
+pub marked-IsOccupiedBy : (side : Side) (a b c d : Slot) (men : Placement) (t n : ℕ) → AreKept (a ∷ b ∷ c ∷ d ∷ []) → AreShown (a ∷ b ∷ c ∷ d ∷ []) men
+    → n ≡ max (max (marks side a t) (marks side b t)) (max (marks side c t) (marks side d t)) → (n ≡ 1) ↔ IsOccupiedBy men t side
 unfolding marked
-marked-IsHeld side a b c d men t n kept shown is =
-    bit_of-IsHeld men t side (map.find nat_cmp t (map.entries men)) n (map.get-entries men t)
+marked-IsOccupiedBy side a b c d men t n kept shown is =
+    bit_of-IsOccupiedBy men t side (map.find nat_cmp t (map.entries men)) n (map.get-entries men t)
     (is ∙ four (marks side a t) (marks side b t) (marks side c t) (marks side d t) ∙ marked-found side (a ∷ b ∷ c ∷ d ∷ []) t kept.in_order
     ∙ ap (λ es. bit_of side (map.find nat_cmp t es)) (listed-shown (a ∷ b ∷ c ∷ d ∷ []) men shown))
 

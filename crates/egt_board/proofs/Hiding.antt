@@ -1,4 +1,4 @@
--- What a man on a line hides: a square is attacked along it exactly where no square between is taken.
+-- A man on a line hides squares: a square is attacked along it exactly where no square between is taken.
 use Rattle.std.proofs.Common.{◌≡◌, ◌≢◌, ◌↔◌, ℕ, ◌-◌, ◌<◌, Bool, true, false, List, [], ◌∷◌, ◌++◌, min, arith, refl, sym}
 use Rattle.std.proofs.Common.{ap, ◌∙◌, subst, inl, inr, ◌+◌, ◌⊎◌}
 use Rattle.egt_board.specs.Prelude.{bit_at, cases_eq, false≢true, bit_at-lt, bit_at-zero, Side, Man, Step, file_of}

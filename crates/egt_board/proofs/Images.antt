@@ -1,4 +1,4 @@
--- What the images of a position keep, and the way back from each.
+-- The images of a position, what they keep, and the way back from each.
 use Rattle.std.proofs.Common.{◌≡◌, ℕ, zero, suc, ◌<◌, ◌↔◌, ◌⊎◌, ◌/◌, ◌%◌, ◌==◌, Bool, true, false, Option, Some, arith}
 use Rattle.std.proofs.Common.{refl, sym, ap, ◌∙◌, subst, inl, inr}
 use Rattle.egt_board.specs.Prelude.{option_map, eqb-true, Mirror, Files, Ranks, Diagonal, Colours, Side, Man}
@@ -8,7 +8,7 @@ use Rattle.egt_board.specs.Prelude.{ShowsMen, OnBoard, man_by-twice, no_pawn_by,
 use Rattle.egt_board.specs.Prelude.{IsKeepingSides, KeepsPlay, IsCarried, IsImage, IsTurnOf, Comes, AreImages, Reflects}
 use Rattle.egt_board.specs.Prelude.{count_of, SameMen, ExchangedMen, men_by, setup_by, setup_if}
 use Rattle.std.specs.FinMap as map
-use Rattle.egt_board.proofs.Turning.{admissible_by}
+use Rattle.egt_board.proofs.MirroredPosition.{admissible_by}
 use Rattle.egt_board.proofs.Settling.{ready_by}
 use Rattle.egt_board.proofs.Reflected.{men_by-shows, men_by-on_board, men_by-few, same_on_board, setup_by-is}
 use Rattle.egt_board.proofs.Reflected.{setup_by-only, setup_by-back}

@@ -1,12 +1,11 @@
 -- The men of a board beside its kings, chosen among the slots.
 use Rattle.std.proofs.Common.{◌≡◌, ◌≢◌, ◌⊎◌, ℕ, zero, suc, ◌<◌, Bool, true, false, cond, List, [], ◌∷◌, Option, Some}
 use Rattle.std.proofs.Common.{None, IfSome, arith, refl, sym, ap, ◌∙◌, subst, inl, inr, T}
-use Rattle.egt_board.specs.Prelude.{option_map, nat_cmp, below_all, false≢true, Kind, K, Man, Side}
-use Rattle.egt_board.specs.Prelude.{White, Black, king_of, holds_king, without_king, AreBeside, Slot, listed, padded}
-use Rattle.egt_board.specs.Prelude.{placed, InOrder, AreKept, side_number, Placement, Stands, is_king_kind, first_half}
-use Rattle.egt_board.specs.Prelude.{second_half, HasKings}
+use Rattle.egt_board.specs.Prelude.{option_map, false≢true, without_king, listed, side_number, is_king_kind, second_half}
+use Rattle.egt_board.specs.Prelude.{nat_cmp, below_all, king_of, holds_king, AreBeside, Placement, first_half, HasKings}
+use Rattle.egt_board.specs.Prelude.{Kind, K, Man, Side, White, Black, Slot, padded, placed, InOrder, AreKept, Stands}
 use Rattle.std.specs.FinMap as map
-use Rattle.egt_board.proofs.Finding.{AnyHolds, holds_found, found_holds}
+use Rattle.egt_board.proofs.SlotSought.{AnyHolds, holds_found, found_holds}
 use Rattle.egt_board.proofs.Parts.{of_four}
 use Rattle.egt_board.proofs.Slots.{shown, listed-shown}
 use Rattle.egt_board.proofs.Placed.{lt_of_less}

@@ -13,7 +13,7 @@ pub mod Sheltering
 pub mod Placed
 pub mod Slots
 pub mod Held
-pub mod Finding
+pub mod SlotSought
 pub mod KingsAside
 pub mod Attacks
 pub mod Kings
@@ -23,7 +23,7 @@ pub mod Positions
 pub mod Gather
 pub mod Sizes
 pub mod Counts
-pub mod Turning
+pub mod MirroredPosition
 pub mod Reflected
 pub mod Tallies
 pub mod Images

@@ -1,4 +1,4 @@
--- What equal lists begin with and go on with, and what each of four tells.
+-- Equal lists begin and go on alike, and each of four is told.
 use Rattle.std.proofs.Common.{arith, ◌≡◌, ◌⊎◌, List, ◌∷◌}
 
 pub heads : {A : Type 0} {a b : A} {x y : List A} → a ∷ x ≡ b ∷ y → a ≡ b

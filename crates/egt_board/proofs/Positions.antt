@@ -1,4 +1,4 @@
--- What makes a setup admissible, and what each refusal says.
+-- Admissible setups, and the reason of each refusal.
 use Rattle.std.proofs.Common.{true, false, ◌≡◌, ℕ, Option, Some, None, sym, subst, ◌⊎◌, arith}
 use Rattle.egt_board.specs.Prelude.{is_some, Side, White, Black, other_side, Placement, IsKingOn, IsTarget, FitsTarget}
 

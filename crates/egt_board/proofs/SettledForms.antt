@@ -1,4 +1,4 @@
--- What a position settles to, and what its images settle to.
+-- The settled form of a position, and those of its images.
 use Rattle.std.proofs.Common.{arith, ◌≡◌, ℕ, Bool, true, false, if◌then◌else◌, refl, sym, subst, inl, inr}
 use Rattle.egt_board.specs.Prelude.{Decided, tells, decided_settled, settled_form, AreImages, Setup, IsAdmissible}
 use Rattle.egt_board.specs.Prelude.{IsSettled, SettlesTo, untargeted, KeepsPlay, IsTurnedBy}

@@ -3,7 +3,7 @@ use Rattle.std.proofs.Common.{ℕ, ◌<◌, Option, Some, None, IfSome, arith, r
 use Rattle.egt_board.specs.Prelude.{option_map, Mirror, Files, Ranks, Diagonal, Colours, Side, other_side, Placement}
 use Rattle.egt_board.specs.Prelude.{pawn_of, ahead, IsBeside, HasPawnBeside, FitsTarget, square_by, side_by, Allows}
 use Rattle.egt_board.specs.Prelude.{ahead_by, target_between, ShowsMen, OnBoard}
-use Rattle.egt_board.proofs.Turning.{ahead_within, stands_by}
+use Rattle.egt_board.proofs.MirroredPosition.{ahead_within, stands_by}
 
 beside_files : (s t : ℕ) → IsBeside s t → IsBeside (square_by Files s) (square_by Files t)
 beside_files s t h = (let same = h.0 in omega arith, elim h.1 [ inl e ↦ inr (omega arith) | inr e ↦ inl (omega arith) ])

@@ -1,4 +1,4 @@
--- What a side attacks, and where a newcomer keeps it from attacking a square.
+-- Attacks of a side, and where a newcomer keeps it from attacking a square.
 use Rattle.std.proofs.Common.{◌≡◌, ◌≢◌, ◌↔◌, ◌⊎◌, ℕ, ◌*◌, ◌<◌, List, [], ◌∷◌, Some, None, max, min, arith, refl, sym}
 use Rattle.std.proofs.Common.{ap, ◌∙◌, subst, inl, inr}
 use Rattle.egt_board.specs.Prelude.{bit_at, nat_cmp, cases_eq, Inside, Side, Kind, Man, Way, Up, Down, Still, Step}

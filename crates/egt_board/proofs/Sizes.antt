@@ -1,11 +1,10 @@
 -- How many squares a set has.
 use Rattle.std.proofs.Common.{◌≡◌, ◌≢◌, ℕ, zero, suc, ◌+◌, ◌<◌, ◌≤◌, ◌⊎◌, max, Bool, true, cond, ◌&&◌, ◌||◌, not, eqb}
 use Rattle.std.proofs.Common.{leb, List, [], ◌∷◌, ◌++◌, ◌*◌, arith, refl, ap, ◌∙◌, inl, inr, subst}
-use Rattle.egt_board.specs.Prelude.{bit_at, cases_eq, eq-eqb, leb-true, le-leb, and_parts, and_from, bit_at-lt, Side}
-use Rattle.egt_board.specs.Prelude.{White, Black, Kind, Q, R, B, N, P, K, Man, Step, SquareSet, list_all, eqb_tells}
-use Rattle.egt_board.specs.Prelude.{Way, Further, Away, file_of, rank_of, total, size_of, most_reached, Rides, OneOf}
-use Rattle.egt_board.specs.Prelude.{Reaches, farthest, steps_of, straight_steps, diagonal_steps, knight_steps}
-use Rattle.egt_board.specs.Prelude.{pawn_steps, Advances}
+use Rattle.egt_board.specs.Prelude.{bit_at, eq-eqb, Man, Further, file_of, rank_of, size_of, Reaches, steps_of, Advances}
+use Rattle.egt_board.specs.Prelude.{cases_eq, leb-true, and_from, bit_at-lt, R, SquareSet, list_all, eqb_tells, farthest}
+use Rattle.egt_board.specs.Prelude.{le-leb, Side, White, Black, Kind, B, N, P, K, Step, Way, Away, total, Rides, OneOf}
+use Rattle.egt_board.specs.Prelude.{and_parts, Q, most_reached, straight_steps, diagonal_steps, knight_steps, pawn_steps}
 use Rattle.egt_board.proofs.Parts.{of_four}
 
 pub total-le : (f g : ℕ → ℕ) (n : ℕ) → ((t : ℕ) → t < n → f t ≤ g t) → total f n ≤ total g n

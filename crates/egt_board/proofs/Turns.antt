@@ -1,12 +1,11 @@
 -- Positions turned: what a turn makes, and that one turn after another is a turn.
 use Rattle.std.proofs.Common.{◌≡◌, ℕ, zero, suc, ◌+◌, ◌-◌, ◌*◌, ◌<◌, ◌⊎◌, ◌/◌, ◌%◌, ◌==◌, ◌&&◌, not, Bool, true, false}
 use Rattle.std.proofs.Common.{Option, Some, None, arith, refl, sym, ap, ◌∙◌, subst, inl, inr}
-use Rattle.egt_board.specs.Prelude.{option_map, eqb-true, and_parts, cases_eq, Mirror, Files, Ranks, Diagonal, Colours}
-use Rattle.egt_board.specs.Prelude.{Side, Man, Setup, IsAdmissible, IsMirrored, square_by, side_by, man_by}
-use Rattle.egt_board.specs.Prelude.{square_by-within, OnBoard, man_by-twice, side_by-twice, no_pawn_by, AreMirrored}
-use Rattle.egt_board.specs.Prelude.{square_if, square_of, KeepsPlay, IsCarried, IsImage, IsTurnedBy, IsSetBy}
-use Rattle.egt_board.specs.Prelude.{turned_square, turned_man, turned_side, setup_by, setup_if, turned_by, IsTurn}
-use Rattle.egt_board.specs.Prelude.{AreImages, Reflects}
+use Rattle.egt_board.specs.Prelude.{option_map, IsMirrored, no_pawn_by, AreMirrored, IsTurnedBy, turned_man, turned_side}
+use Rattle.egt_board.specs.Prelude.{eqb-true, IsAdmissible, square_by-within, man_by-twice, side_by-twice, turned_square}
+use Rattle.egt_board.specs.Prelude.{and_parts, Colours, square_by, square_if, square_of, KeepsPlay, IsCarried, turned_by}
+use Rattle.egt_board.specs.Prelude.{cases_eq, Files, Diagonal, side_by, OnBoard, setup_by, setup_if, AreImages, Reflects}
+use Rattle.egt_board.specs.Prelude.{Mirror, Ranks, Side, Man, Setup, man_by, IsImage, IsSetBy, IsTurn}
 use Rattle.std.specs.FinMap as map
 use Rattle.egt_board.proofs.Reflected.{men_by-on_board, same_on_board, setup_by-is, setup_by-only, setup_by-back}
 use Rattle.egt_board.proofs.Images.{Kept, Kept-on, setup_by-kept, images_by_turn, images_on, images_kept, image_kept, setup_if-is, carried_on, Onto, carried_only, square_if-within, square_if-twice, onto_three, target_within}

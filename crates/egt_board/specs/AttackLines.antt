@@ -1,4 +1,4 @@
--- What each man attacks: FIDE Laws of Chess 2023, articles 3.2 to 3.8.
+-- Squares that each man attacks: FIDE Laws of Chess 2023, articles 3.2 to 3.8.
 use Rattle.std.specs.Prelude.{Bool, true, false, ℕ, ◌<◌, ◌≤◌, List, [], ◌∷◌, ◌++◌, ◌⊎◌}
 use Rattle.std.proofs.Common.{inl, inr}
 use Rattle.egt_board.specs.declared.man.Side.{Side}

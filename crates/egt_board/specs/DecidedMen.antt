@@ -1,4 +1,4 @@
--- What can be told of the men on a board: who stands where, what is reached, and whether a king is in check.
+-- Statements about the men on a board that can be decided: who stands where, what is reached, and whether a king is in check.
 use Rattle.std.proofs.Common.{◌≡◌, ℕ, suc, ◌+◌, ◌*◌, ◌<◌, inl, inr, List, [], ◌∷◌, Option, Some, None, cond, refl, sym, ap, subst, arith, ◌∙◌}
 use Rattle.std.specs.FinMap as map
 use Rattle.std.proofs.Math.Logic.{⊎_elim}
@@ -19,7 +19,7 @@ use Rattle.egt_board.specs.Attack.{king_of, IsAttacked, IsInCheck}
 use Rattle.egt_board.specs.Coordinate.{Further}
 use Rattle.egt_board.specs.AttackLines.{OneOf, Rides, Reaches, steps_of, farthest}
 use Rattle.egt_board.specs.Pawn.{Advances, farthest_advance, forward}
-use Rattle.egt_board.specs.Placement.{Placement, Stands, IsFree, IsHeld, one_man, untied}
+use Rattle.egt_board.specs.Placement.{Placement, Stands, IsFree, IsOccupiedBy, one_man, untied}
 use Rattle.egt_board.specs.Square.{file_of, rank_of}
 use Rattle.egt_board.specs.Step.{Away}
 use Rattle.egt_board.specs.Among.{any_here, any_there}
@@ -56,10 +56,10 @@ decided_free men s = go (map.get men s) refl
     go None e = inl e
     go (Some man) e = inr (λ free. let both : None ≡ Some man = sym free ∙ e in cc)
 
-pub decided_held : (men : Placement) (s : ℕ) (side : Side) → Decided (IsHeld men s side)
+pub decided_held : (men : Placement) (s : ℕ) (side : Side) → Decided (IsOccupiedBy men s side)
 decided_held men s side = decided_as
     (λ (h : (man : Man) × Stands men s man × (man.side ≡ side)). record { man = h.0; stands = h.1; theirs = h.2 })
-    (λ (h : IsHeld men s side). (h.man, h.stands, h.theirs))
+    (λ (h : IsOccupiedBy men s side). (h.man, h.stands, h.theirs))
     (decided_on men s (λ man. man.side ≡ side) (λ man. decided_side man.side side))
 
 -- the squares of these entries

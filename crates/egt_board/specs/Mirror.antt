@@ -1,4 +1,4 @@
--- What squares, sides and men become in a mirror.
+-- Squares, sides and men in a mirror.
 use Rattle.std.specs.Prelude.{◌≡◌, ℕ, ◌+◌, ◌-◌, ◌*◌, ◌<◌}
 use Rattle.std.specs.Option.{option_map}
 use Rattle.std.specs.FinMap as map

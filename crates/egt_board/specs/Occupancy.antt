@@ -2,7 +2,7 @@
 use Rattle.std.specs.Prelude.{◌≡◌, ℕ, ◌↔◌}
 use Rattle.std.specs.Int.{bit_at}
 use Rattle.egt_board.specs.Man.{other_side}
-use Rattle.egt_board.specs.Placement.{Placement, IsFree, IsHeld}
+use Rattle.egt_board.specs.Placement.{Placement, IsFree, IsOccupiedBy}
 use Rattle.egt_board.specs.Setup.{Setup}
 use Rattle.egt_board.specs.SquareSet.{Has}
 use Rattle.egt_board.specs.declared.occupancy.Occupancy.{Occupancy}
@@ -14,5 +14,5 @@ IsOccupied men all = (t : ℕ) → (bit_at all.bits t ≡ 0) ↔ IsFree men t
 
 -- these are the squares of the side to move, and of the side that waits
 pub record IsOccupancy (p : Setup) (occupancy : Occupancy) : Type 0 where
-  pub own : (t : ℕ) → Has occupancy.own t ↔ IsHeld p.men t p.side
-  pub enemy : (t : ℕ) → Has occupancy.enemy t ↔ IsHeld p.men t (other_side p.side)
+  pub own : (t : ℕ) → Has occupancy.own t ↔ IsOccupiedBy p.men t p.side
+  pub enemy : (t : ℕ) → Has occupancy.enemy t ↔ IsOccupiedBy p.men t (other_side p.side)

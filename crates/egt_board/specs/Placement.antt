@@ -21,7 +21,7 @@ abbrev pub IsFree : Placement → ℕ → Type 0
 IsFree men s = map.get men s ≡ None
 
 -- a man of this side stands on the square
-pub record IsHeld (men : Placement) (s : ℕ) (side : Side) : Type 0 where
+pub record IsOccupiedBy (men : Placement) (s : ℕ) (side : Side) : Type 0 where
   pub man : Man
   pub stands : Stands men s man
   pub theirs : man.side ≡ side

@@ -29,7 +29,7 @@ pub use Rattle.egt_board.specs.NonKings.{AreBeside, holds_king, without_king}
 pub use Rattle.egt_board.specs.Occupancy.{IsOccupancy, IsOccupied}
 pub use Rattle.egt_board.specs.Pawn.{Advances, HasNoPawn, HasPawnBeside, IsBeside, MayStand, PawnsFit, ahead, facing}
 pub use Rattle.egt_board.specs.Pawn.{farthest_advance, forward, home_rank, last_rank, pawn_of}
-pub use Rattle.egt_board.specs.Placement.{IsFree, IsHeld, Placement, Stands, get-insert_other, get-insert_same}
+pub use Rattle.egt_board.specs.Placement.{IsFree, IsOccupiedBy, Placement, Stands, get-insert_other, get-insert_same}
 pub use Rattle.egt_board.specs.Placement.{get-remove_other, get-remove_same, one_man, same_men, tied, untied}
 pub use Rattle.egt_board.specs.Position.{find-below, first_half, is_king_kind, second_half}
 pub use Rattle.egt_board.specs.Safety.{IsKeptFrom, IsSeenAs, Stops, StopsSlot}

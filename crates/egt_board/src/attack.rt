@@ -1,4 +1,4 @@
-//! What the men on a board attack: FIDE Laws of Chess 2023, articles 3.1.3 and 3.9.
+//! Attacks by the men on a board: FIDE Laws of Chess 2023, articles 3.1.3 and 3.9.
 ghost use Rattle.std.specs.Prelude.{◌≡◌, ℕ, ◌≤◌, ◌↔◌, IsTrue};
 ghost use Rattle.egt_board.specs.Prelude.{bit_at, IsAttacked, IsInCheck, AttacksFrom, IsOccupied, Reaches, IsFree};
 ghost use Rattle.egt_board.specs.Prelude.{IsKingOn, Has, size_of, most_reached};

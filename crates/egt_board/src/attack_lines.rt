@@ -1,4 +1,4 @@
-//! What a man attacks past the men on the board: FIDE Laws of Chess 2023, articles 3.2 to 3.8.
+//! Attacks of a man past the men on the board: FIDE Laws of Chess 2023, articles 3.2 to 3.8.
 ghost use Rattle.std.specs.Prelude.{◌≡◌, ℕ, ◌<◌, ◌≤◌, ◌↔◌, IsTrue};
 ghost use Rattle.egt_board.specs.Prelude.{bit_at, IsBetween, Reaches, Rides, Stops, Has, size_of, most_reached};
 
@@ -36,9 +36,9 @@ fn seen(from: Square, squares: SquareSet, occupied: SquareSet) -> SquareSet
         ((u : ℕ) → Has squares u → Has occupied u → ¬ IsBetween from t u)) }
 {
     let mut left = squares;
-    let mut blockers = squares.common(occupied);
+    let mut blockers = squares.intersection(occupied);
     while let Some(blocker) = blockers.pop_first() {
-        left = left.without(behind(from, blocker));
+        left = left.difference(behind(from, blocker));
     }
     left
 }
@@ -62,7 +62,7 @@ pub fn reach_past(man: Man, from: Square, occupied: SquareSet) -> SquareSet
 pub(crate) fn attacks(man: Man, from: Square, to: Square, occupied: SquareSet) -> bool
     ensures { IsTrue result ↔ Reaches (λ u. bit_at occupied.bits u ≡ 0) man from to }
 {
-    lone_reach(man, from).contains(to) && between(from, to).common(occupied).is_empty()
+    lone_reach(man, from).contains(to) && between(from, to).intersection(occupied).is_empty()
 }
 
 /// The squares to which a man may come so that this man on `from`, which it takes or whose line it crosses, does not

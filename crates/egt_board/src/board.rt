@@ -75,7 +75,7 @@ fn either<'a>(first: bool, one: &'a Slot, other: &'a Slot) -> &'a Slot
 }
 
 /// The square of the slot's man, if it is that side's.
-fn held(slot: Slot, side: Side) -> SquareSet
+fn occupied_by(slot: Slot, side: Side) -> SquareSet
     ensures { (t : ℕ) → bit_at result.bits t ≡ marks side slot t }
 {
     let Some(placed) = slot else {
@@ -142,7 +142,7 @@ fn greater(new: &Slot, slot: &Slot) -> Slot
 impl Board {
     ghost use Rattle.egt_board.specs.SquareSet.{Has, size_of};
     ghost use Rattle.egt_board.specs.Corners.{corners};
-    ghost use Rattle.egt_board.specs.Placement.{IsHeld};
+    ghost use Rattle.egt_board.specs.Placement.{IsOccupiedBy};
     ghost use Rattle.egt_board.specs.Placement.{IsFree, Stands};
     ghost use Rattle.egt_board.specs.Listed.{men_of};
     ghost use Rattle.std.specs.Option.{option_to_list};
@@ -250,10 +250,10 @@ impl Board {
 
     /// The squares of that side's men.
     pub fn of(&self, side: Side) -> SquareSet
-        ensures { (t : ℕ) → Has result t ↔ IsHeld self.now t side }
+        ensures { (t : ℕ) → Has result t ↔ IsOccupiedBy self.now t side }
     {
-        let front = held(self.first, side).union(held(self.second, side));
-        let back = held(self.third, side).union(held(self.fourth, side));
+        let front = occupied_by(self.first, side).union(occupied_by(self.second, side));
+        let back = occupied_by(self.third, side).union(occupied_by(self.fourth, side));
         front.union(back)
     }
 

@@ -1,4 +1,4 @@
-//! What holds of positions and their images. These functions do nothing: a caller calls one to know what it
+//! Laws of positions and their images. These functions do nothing: a caller calls one to know what it
 //! ensures.
 ghost use Rattle.std.specs.Prelude.{◌≡◌, ◌<◌, ◌↔◌, ◌⊎◌, ℕ, Bool};
 ghost use Rattle.egt_board.specs.Prelude.{Setup, IsAdmissible, IsSettled, SettlesTo, AreImages, Reflects, SameMen};

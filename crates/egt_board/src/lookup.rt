@@ -1,4 +1,4 @@
-//! What men attack on the bare board, by a table, and the squares between squares.
+//! Attacks of men on the bare board, by a table, and the squares between squares.
 ghost use Rattle.std.specs.Prelude.{◌≡◌, ℕ, ◌+◌, ◌*◌, ◌<◌, ◌↔◌, slice_index};
 ghost use Rattle.egt_board.specs.Prelude.{bit_at, IsBetween, Reaches, row_by, below, beyond, line_of, Has};
 

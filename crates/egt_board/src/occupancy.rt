@@ -30,7 +30,7 @@ impl Position {
         let own = self.of(self.side());
         Occupancy {
             own,
-            enemy: self.board().occupied().without(own),
+            enemy: self.board().occupied().difference(own),
         }
     }
 }

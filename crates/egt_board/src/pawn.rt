@@ -126,7 +126,7 @@ impl Board {
         ensures few { size_of result ≤ 2 }
     {
         let occupied = self.occupied();
-        attack_lines::ride(from, side.forward(), farthest_advance(side, from), occupied).without(
+        attack_lines::ride(from, side.forward(), farthest_advance(side, from), occupied).difference(
             occupied,
         )
     }

@@ -44,7 +44,7 @@ impl Model for Position {
 
 impl Position {
     ghost use Rattle.egt_board.specs.Setup.{IsAdmissible, IsKingOn};
-    ghost use Rattle.egt_board.specs.Placement.{IsHeld};
+    ghost use Rattle.egt_board.specs.Placement.{IsOccupiedBy};
     ghost use Rattle.egt_board.specs.SquareSet.{Has, size_of};
     ghost use Rattle.egt_board.specs.Listed.{setup_of, man_entry, FitsBoard, IsFirstFault};
 
@@ -142,7 +142,7 @@ impl Position {
 
     /// The squares of that side's men, of which the other side's king leaves at most three.
     pub fn of(&self, side: Side) -> SquareSet
-        ensures held { (t : ℕ) → Has result t ↔ IsHeld self.now.men t side }
+        ensures held { (t : ℕ) → Has result t ↔ IsOccupiedBy self.now.men t side }
         ensures few { size_of result ≤ 3 }
     {
         self.board.of(side)

@@ -48,7 +48,7 @@ impl Board {
         requires all { IsOccupied self.now all }
         ensures { (t : ℕ) → t < 64 → Has result t ↔ IsAttacked (map.remove self.now lifted) t side }
     {
-        let occupied = all.less(lifted);
+        let occupied = all.without(lifted);
         let first = attacked_by(&self.first, side, occupied);
         let second = attacked_by(&self.second, side, occupied);
         let third = attacked_by(&self.third, side, occupied);
@@ -67,7 +67,9 @@ impl Board {
         let second = stops(&self.second, side, to, occupied);
         let third = stops(&self.third, side, to, occupied);
         let fourth = stops(&self.fourth, side, to, occupied);
-        first.common(second).common(third.common(fourth))
+        first
+            .intersection(second)
+            .intersection(third.intersection(fourth))
     }
 
     /// The squares to which a man of the other side may come so that no man of that side attacks `to`.
@@ -93,7 +95,7 @@ impl Board {
         ensures { (t : ℕ) (newcomer : Man) → t < 64 → newcomer.side ≢ side →
             Has result t ↔ IsKeptFrom (map.remove self.now lifted) t newcomer to side }
     {
-        self.shelter_among(to, side, all.less(lifted))
+        self.shelter_among(to, side, all.without(lifted))
     }
 }
 

@@ -45,7 +45,7 @@ impl SquareSet {
     }
 
     /// The set without the square.
-    pub fn less(self, square: Square) -> SquareSet
+    pub fn without(self, square: Square) -> SquareSet
         ensures same { bit_at result.bits square ≡ 0 }
         ensures others { (t : ℕ) → t ≢ square → bit_at result.bits t ≡ bit_at self.bits t }
         ensures fewer { Has self square → result.bits < self.bits }
@@ -56,14 +56,14 @@ impl SquareSet {
     }
 
     /// The set, with the square in it or not.
-    pub fn changed(self, square: Square, here: bool) -> SquareSet
+    pub fn set(self, square: Square, here: bool) -> SquareSet
         ensures same { bit_at result.bits square ≡ (if here then 1 else 0) }
         ensures others { (t : ℕ) → t ≢ square → bit_at result.bits t ≡ bit_at self.bits t }
     {
         if here {
             self.with(square)
         } else {
-            self.less(square)
+            self.without(square)
         }
     }
 
@@ -78,7 +78,7 @@ impl SquareSet {
     }
 
     /// The squares of both sets.
-    pub fn common(self, other: SquareSet) -> SquareSet
+    pub fn intersection(self, other: SquareSet) -> SquareSet
         ensures squares { (t : ℕ) → bit_at result.bits t ≡ min (bit_at self.bits t) (bit_at other.bits t) }
         ensures few { size_of result ≤ size_of self }
     {
@@ -88,7 +88,7 @@ impl SquareSet {
     }
 
     /// The squares that the other set lacks.
-    pub fn without(self, other: SquareSet) -> SquareSet
+    pub fn difference(self, other: SquareSet) -> SquareSet
         ensures squares { (t : ℕ) → bit_at result.bits t ≡ min (bit_at self.bits t) (1 - bit_at other.bits t) }
         ensures few { size_of result ≤ size_of self }
     {
@@ -109,7 +109,7 @@ impl SquareSet {
         ensures stays { IfNone result (self.new ≡ self.old) }
     {
         let first = Square::new(self.bits.trailing_zeros() as u8)?;
-        *self = self.less(first);
+        *self = self.without(first);
         Some(first)
     }
 }

@@ -1,4 +1,4 @@
--- What is said of a library that is lent is said of what the handle holds.
+-- Facts of a library that is lent are facts of the one that the handle holds.
 use Rattle.std.proofs.Common.{◌≡◌, Option, Some, IfSome, sym, subst, IfOk, IfErr, MatchResult, Result, Ok, Err}
 use Rattle.egt_c.specs.Prelude.{Places}
 use Rattle.egt_board.specs.Setup.{Setup}

@@ -1,4 +1,4 @@
--- What is left of an open handle while its owner is lent. Assumes `Logic`.
+-- An open handle while its owner is lent. Assumes `Logic`.
 use Rattle.std.proofs.Common.{◌≡◌, ℕ, List, [], ◌∷◌, refl, sym}
 use Rattle.egt_c.specs.Prelude.{with_library, owned, heap, EgtbLibrary}
 use Rattle.std.specs.contracts.impls.GlobalAllocator.TheImpl.{ghosts}

@@ -1,4 +1,4 @@
--- What the calls that C makes answer. Where there is a fault, what was there before stays.
+-- Answers of the calls that C makes. Where there is a fault, what was there before stays.
 use Rattle.std.specs.Prelude.{◌≡◌, ◌≢◌, ◌↔◌, ℕ, ◌≤◌, Bool, true, false, List, length, map, take, Option, Some, None}
 use Rattle.egt_probe.specs.Prelude.{Contains, Setup, IsLegal, IsInOrder, TableValue, table_at, IsBest, Loaded}
 use Rattle.egt_probe.specs.Prelude.{IsMissing, IsRoot, IsVerdict}
@@ -20,7 +20,7 @@ use Rattle.egt_c.specs.declared.men.EgtbPosition.{EgtbPosition}
 use Rattle.egt_c.specs.declared.root_moves.EgtbRootMoves.{EgtbRootMoves}
 use Rattle.egt_c.specs.declared.verdict.EgtbAnswer.{EgtbAnswer}
 use Rattle.egt_c.specs.Fault.{no_fault, of_fen, of_file, of_check, missing, no_memory, no_class, shared}
-use Rattle.egt_c.specs.Held.{Places}
+use Rattle.egt_c.specs.Contents.{Places}
 use Rattle.egt_c.specs.Men.{IsOfMen, IsMenFault}
 use Rattle.egt_c.specs.Move.{written, written_or_none}
 use Rattle.egt_c.specs.RootMoves.{shown_root}

@@ -1,4 +1,4 @@
--- What a borrow of the owner leaves in the handle.
+-- The handle while its owner is borrowed.
 use Rattle.std.specs.Prelude.{Option}
 use Rattle.std.specs.Borrow.{LendsIf, MutBor, Fml}
 use Rattle.egt_c.specs.Shared.{Shared, shared_row}

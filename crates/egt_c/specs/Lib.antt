@@ -1,7 +1,7 @@
 pub mod Places
 pub mod Shared
 pub mod Owned
-pub mod Held
+pub mod Contents
 pub mod Lent
 pub mod Fault
 pub mod Verdict

@@ -1,4 +1,4 @@
--- What a handle owns.
+-- The library that a handle owns.
 use Rattle.std.specs.Prelude.{Bool, true, false}
 use base.Fml.{Fml, ftrue}
 use denote.RawPtr.{Ptr}

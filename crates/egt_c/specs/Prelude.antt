@@ -6,7 +6,7 @@ pub use Rattle.egt_c.specs.Calls.{Added, Adds, Answered, Best, IsOfText, IsTextF
 pub use Rattle.egt_c.specs.Calls.{NotRead, OfMen, OfText, Opened, Opens, Ranked, Refused, Shares, TellsMove, TellsMoves}
 pub use Rattle.egt_c.specs.Calls.{TellsRoot, TellsVerdict, Told, TurnedAway, Unloaded, level}
 pub use Rattle.egt_c.specs.Fault.{closed}
-pub use Rattle.egt_c.specs.Held.{Places, held, if_open}
+pub use Rattle.egt_c.specs.Contents.{Places, contents, if_open}
 pub use Rattle.egt_c.specs.Lent.{with_library}
 pub use Rattle.egt_c.specs.Men.{NoPosition, joined, man_of, men_of}
 pub use Rattle.egt_c.specs.Move.{padded_name, written, written_or_none, zeros}

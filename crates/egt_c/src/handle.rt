@@ -1,4 +1,4 @@
-//! What C keeps of a library. Raw pointers stand in this file and in `loose.rt` alone.
+//! The library as C keeps it. Raw pointers stand in this file and in `loose.rt` alone.
 ghost use Rattle.std.specs.Prelude.{◌≡◌};
 ghost use Rattle.std.specs.Arc.{arc_value};
 ghost use Rattle.egt_c.specs.Shared.{Shared, shared_coded};
@@ -37,12 +37,12 @@ impl EgtbLibrary {
     ghost use Rattle.std.specs.Prelude.{◌≡◌, Some, None, IfSome, IfNone, option_map};
     ghost use Rattle.std.specs.Arc.{arc_value};
     ghost use Rattle.std.specs.Borrow.{sem};
-    ghost use Rattle.egt_c.specs.Held.{held};
+    ghost use Rattle.egt_c.specs.Contents.{contents};
     ghost use Rattle.egt_c.specs.Lent.{LendsOwner};
 
     /// A closed one.
     fn closed() -> EgtbLibrary
-        ensures { held result ≡ None }
+        ensures { contents result ≡ None }
     {
         EgtbLibrary {
             at: null_mut(),
@@ -52,7 +52,7 @@ impl EgtbLibrary {
 
     /// One that keeps the library.
     fn of(loose: Loose<Owner, Global>) -> EgtbLibrary
-        ensures { held result ≡ Some (arc_value loose.value) }
+        ensures { contents result ≡ Some (arc_value loose.value) }
     {
         let Loose { at, alloc: _alloc } = loose;
         EgtbLibrary {
@@ -63,7 +63,7 @@ impl EgtbLibrary {
 
     /// The library that it keeps.
     fn into_loose(self, alloc: Global) -> Option<Loose<Owner, Global>>
-        ensures { option_map (λ l. arc_value l.value) result ≡ held self }
+        ensures { option_map (λ l. arc_value l.value) result ≡ contents self }
     {
         let EgtbLibrary { at, is_open } = self;
         if is_open {
@@ -78,7 +78,7 @@ impl EgtbLibrary {
 
     /// Keeps the library. One that was kept before goes.
     pub(crate) fn put(&mut self, alloc: Global, library: Box<Owner, Global>)
-        ensures { held self.new ≡ Some (arc_value library.value) }
+        ensures { contents self.new ≡ Some (arc_value library.value) }
     {
         let before = replace(self, EgtbLibrary::of(Loose::of(library)));
         if let Some(loose) = before.into_loose(alloc) {
@@ -88,9 +88,9 @@ impl EgtbLibrary {
 
     /// Takes the library out, and closes.
     pub(crate) fn take(&mut self, alloc: Global) -> Option<Box<Owner, Global>>
-        ensures taken { IfSome result (λ b. held self.old ≡ Some (arc_value b.value)) }
-        ensures was_closed { IfNone result (held self.old ≡ None) }
-        ensures closed { held self.new ≡ None }
+        ensures taken { IfSome result (λ b. contents self.old ≡ Some (arc_value b.value)) }
+        ensures was_closed { IfNone result (contents self.old ≡ None) }
+        ensures closed { contents self.new ≡ None }
     {
         match replace(self, EgtbLibrary::closed()).into_loose(alloc) {
             Some(loose) => Some(loose.into_box()),
@@ -101,7 +101,7 @@ impl EgtbLibrary {
     /// The owner that it keeps, which is lent for as long as the handle is. It writes nothing.
     pub(crate) fn owner(&mut self) -> Option<&mut Owner>
         ensures* writes_back { sem 𝓛 (LendsOwner self.entry result) }
-        ensures owner { option_map (λ o. arc_value o.now) result ≡ held self.old }
+        ensures owner { option_map (λ o. arc_value o.now) result ≡ contents self.old }
     {
         if !self.is_open {
             return None;

@@ -1,6 +1,6 @@
 //! A library is made, filled, asked for its classes, and goes.
 ghost use Rattle.std.specs.Prelude.{◌≡◌, ◌<◌, ◌≤◌, None, IfSome, IfNone};
-ghost use Rattle.egt_c.specs.Prelude.{arc_value, loaded_in, Opens, Shares, Adds, level, closed, held};
+ghost use Rattle.egt_c.specs.Prelude.{arc_value, loaded_in, Opens, Shares, Adds, level, closed, contents};
 
 use crate::fault::EgtbFault;
 use crate::handle::{EgtbLibrary, Owner};
@@ -13,7 +13,7 @@ use std::sync::Arc;
 /// Opens a library without tables in place of what was kept there. Refuses for want of memory alone.
 #[unsafe(no_mangle)]
 pub extern "C" fn egtb_open(alloc: Global, library: &mut EgtbLibrary) -> EgtbFault
-    ensures { Opens result (held library.old) (held library.new) }
+    ensures { Opens result (contents library.old) (contents library.new) }
 {
     let Ok(made) = Library::new(alloc) else {
         return EgtbFault::no_memory();
@@ -30,7 +30,7 @@ pub extern "C" fn egtb_open(alloc: Global, library: &mut EgtbLibrary) -> EgtbFau
 
 /// Has the other keep the library too.
 fn share_with(alloc: Global, owner: &Owner, other: &mut EgtbLibrary) -> EgtbFault
-    ensures { Shares (arc_value owner.now) result (held other.old) (held other.new) }
+    ensures { Shares (arc_value owner.now) result (contents other.old) (contents other.new) }
 {
     let Ok(again) = Arc::try_clone(owner) else {
         return EgtbFault::no_memory();
@@ -49,9 +49,10 @@ pub extern "C" fn egtb_share(
     library: &mut EgtbLibrary,
     other: &mut EgtbLibrary,
 ) -> EgtbFault
-    ensures shares { IfSome (held library.old) (λ places. Shares places result (held other.old) (held other.new)) }
-    ensures closed { IfNone (held library.old) ((result ≡ closed) × (held other.new ≡ held other.old)) }
-    ensures kept { held library.new ≡ held library.old }
+    ensures shares { IfSome (contents library.old)
+        (λ places. Shares places result (contents other.old) (contents other.new)) }
+    ensures closed { IfNone (contents library.old) ((result ≡ closed) × (contents other.new ≡ contents other.old)) }
+    ensures kept { contents library.new ≡ contents library.old }
 {
     match library.owner() {
         Some(owner) => share_with(alloc, owner, other),
@@ -62,7 +63,7 @@ pub extern "C" fn egtb_share(
 /// Closes a library, whose tables go. One that is closed stays so.
 #[unsafe(no_mangle)]
 pub extern "C" fn egtb_close(alloc: Global, library: &mut EgtbLibrary)
-    ensures { held library.new ≡ None }
+    ensures { contents library.new ≡ None }
 {
     let _library = library.take(alloc);
 }
@@ -109,10 +110,10 @@ pub extern "C" fn egtb_add(
     class_number: u8,
     bytes: &[u8],
 ) -> EgtbFault
-    ensures adds { IfSome (held library.old)
-        (λ before. IfSome (held library.new) (λ after. Adds class_number bytes.now result before after)) }
-    ensures open { IfSome (held library.old) (λ before. IfNone (held library.new) ⊥) }
-    ensures closed { IfNone (held library.old) ((result ≡ closed) × (held library.new ≡ None)) }
+    ensures adds { IfSome (contents library.old)
+        (λ before. IfSome (contents library.new) (λ after. Adds class_number bytes.now result before after)) }
+    ensures open { IfSome (contents library.old) (λ before. IfNone (contents library.new) ⊥) }
+    ensures closed { IfNone (contents library.old) ((result ≡ closed) × (contents library.new ≡ None)) }
 {
     let Some(mut boxed) = library.take(alloc) else {
         return EgtbFault::closed();
@@ -141,10 +142,10 @@ fn level_in(library: &Library, class_number: u8) -> u8
 #[unsafe(no_mangle)]
 pub extern "C" fn egtb_loaded(library: &mut EgtbLibrary, class_number: u8) -> u8
     ensures level { class_number < 36 →
-        IfSome (held library.old) (λ places. result ≡ level (loaded_in places class_number)) }
+        IfSome (contents library.old) (λ places. result ≡ level (loaded_in places class_number)) }
     ensures no_class { 36 ≤ class_number → result ≡ 0 }
-    ensures closed { IfNone (held library.old) (result ≡ 0) }
-    ensures kept { held library.new ≡ held library.old }
+    ensures closed { IfNone (contents library.old) (result ≡ 0) }
+    ensures kept { contents library.new ≡ contents library.old }
 {
     match library.owner() {
         Some(owner) => level_in(owner, class_number),

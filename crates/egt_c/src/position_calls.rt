@@ -1,7 +1,7 @@
-//! What is asked of positions, each given by its FEN or by its men.
+//! Questions about positions, each given by its FEN or by its men.
 ghost use Rattle.std.specs.Prelude.{◌≡◌, IfSome, IfNone, IfOk, IfErr, MatchResult};
 ghost use Rattle.egt_c.specs.Prelude.{loaded_in, IsOfText, IsTextFault, OfText, OfMen, TellsVerdict, TellsMove};
-ghost use Rattle.egt_c.specs.Prelude.{TellsRoot, TellsMoves, closed, held};
+ghost use Rattle.egt_c.specs.Prelude.{TellsRoot, TellsMoves, closed, contents};
 
 use crate::fault::EgtbFault;
 use crate::handle::EgtbLibrary;
@@ -99,10 +99,10 @@ pub extern "C" fn egtb_verdict(
     fen: &[u8],
     answer: &mut EgtbAnswer,
 ) -> EgtbFault
-    ensures told { IfSome (held library.old) (λ places.
+    ensures told { IfSome (contents library.old) (λ places.
         OfText (TellsVerdict (loaded_in places)) fen.now result answer.old answer.new) }
-    ensures closed { IfNone (held library.old) ((result ≡ closed) × (answer.new ≡ answer.old)) }
-    ensures kept { held library.new ≡ held library.old }
+    ensures closed { IfNone (contents library.old) ((result ≡ closed) × (answer.new ≡ answer.old)) }
+    ensures kept { contents library.new ≡ contents library.old }
 {
     match library.owner() {
         Some(owner) => tell_verdict(owner, position_in(fen), answer),
@@ -117,10 +117,10 @@ pub extern "C" fn egtb_verdict_of(
     position: &EgtbPosition,
     answer: &mut EgtbAnswer,
 ) -> EgtbFault
-    ensures told { IfSome (held library.old) (λ places.
+    ensures told { IfSome (contents library.old) (λ places.
         OfMen (TellsVerdict (loaded_in places)) position.now result answer.old answer.new) }
-    ensures closed { IfNone (held library.old) ((result ≡ closed) × (answer.new ≡ answer.old)) }
-    ensures kept { held library.new ≡ held library.old }
+    ensures closed { IfNone (contents library.old) ((result ≡ closed) × (answer.new ≡ answer.old)) }
+    ensures kept { contents library.new ≡ contents library.old }
 {
     match library.owner() {
         Some(owner) => tell_verdict(owner, position_of(position), answer),
@@ -132,10 +132,10 @@ pub extern "C" fn egtb_verdict_of(
 /// checkmate and stalemate.
 #[unsafe(no_mangle)]
 pub extern "C" fn egtb_move(library: &mut EgtbLibrary, fen: &[u8], best: &mut EgtbMove) -> EgtbFault
-    ensures told { IfSome (held library.old) (λ places.
+    ensures told { IfSome (contents library.old) (λ places.
         OfText (TellsMove (loaded_in places)) fen.now result best.old best.new) }
-    ensures closed { IfNone (held library.old) ((result ≡ closed) × (best.new ≡ best.old)) }
-    ensures kept { held library.new ≡ held library.old }
+    ensures closed { IfNone (contents library.old) ((result ≡ closed) × (best.new ≡ best.old)) }
+    ensures kept { contents library.new ≡ contents library.old }
 {
     match library.owner() {
         Some(owner) => tell_move(owner, position_in(fen), best),
@@ -151,10 +151,10 @@ pub extern "C" fn egtb_move_of(
     position: &EgtbPosition,
     best: &mut EgtbMove,
 ) -> EgtbFault
-    ensures told { IfSome (held library.old) (λ places.
+    ensures told { IfSome (contents library.old) (λ places.
         OfMen (TellsMove (loaded_in places)) position.now result best.old best.new) }
-    ensures closed { IfNone (held library.old) ((result ≡ closed) × (best.new ≡ best.old)) }
-    ensures kept { held library.new ≡ held library.old }
+    ensures closed { IfNone (contents library.old) ((result ≡ closed) × (best.new ≡ best.old)) }
+    ensures kept { contents library.new ≡ contents library.old }
 {
     match library.owner() {
         Some(owner) => tell_move(owner, position_of(position), best),
@@ -170,10 +170,10 @@ pub extern "C" fn egtb_root(
     fen: &[u8],
     moves: &mut EgtbRootMoves,
 ) -> EgtbFault
-    ensures told { IfSome (held library.old) (λ places.
+    ensures told { IfSome (contents library.old) (λ places.
         OfText (TellsRoot (loaded_in places)) fen.now result moves.old moves.new) }
-    ensures closed { IfNone (held library.old) ((result ≡ closed) × (moves.new ≡ moves.old)) }
-    ensures kept { held library.new ≡ held library.old }
+    ensures closed { IfNone (contents library.old) ((result ≡ closed) × (moves.new ≡ moves.old)) }
+    ensures kept { contents library.new ≡ contents library.old }
 {
     match library.owner() {
         Some(owner) => tell_root(owner, position_in(fen), moves),
@@ -189,10 +189,10 @@ pub extern "C" fn egtb_root_of(
     position: &EgtbPosition,
     moves: &mut EgtbRootMoves,
 ) -> EgtbFault
-    ensures told { IfSome (held library.old) (λ places.
+    ensures told { IfSome (contents library.old) (λ places.
         OfMen (TellsRoot (loaded_in places)) position.now result moves.old moves.new) }
-    ensures closed { IfNone (held library.old) ((result ≡ closed) × (moves.new ≡ moves.old)) }
-    ensures kept { held library.new ≡ held library.old }
+    ensures closed { IfNone (contents library.old) ((result ≡ closed) × (moves.new ≡ moves.old)) }
+    ensures kept { contents library.new ≡ contents library.old }
 {
     match library.owner() {
         Some(owner) => tell_root(owner, position_of(position), moves),

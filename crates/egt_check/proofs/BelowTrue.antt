@@ -1,4 +1,4 @@
--- What true tables of the children tell column by column.
+-- True tables of the children, column by column.
 use Rattle.std.proofs.Common.{ℕ, IsSome, IfSome, Option, subst}
 use Rattle.egt_check.specs.Prelude.{TableValue, Tables, HasReachChildren, HasTrueChildren, HasTrueReachesBelow}
 use Rattle.egt_check.specs.Prelude.{HasTrueValues, HasTrueValuesBelow, IsTrueTable}

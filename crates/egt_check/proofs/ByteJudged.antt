@@ -1,18 +1,17 @@
 -- Entries whose bytes are due to the greatest bytes of the moves are right.
 use Rattle.std.proofs.Common.{◌≡◌, ◌≢◌, ◌⊎◌, ℕ, ◌+◌, ◌-◌, ◌*◌, ◌/◌, ◌%◌, ◌<◌, ◌≤◌, Bool, true, false, cond, eqb, max}
 use Rattle.std.proofs.Common.{Option, Some, None, arith, refl, sym, ap, ◌∙◌, inl, inr, subst}
-use Rattle.egt_check.specs.Prelude.{cases_eq, cases_lt, eq-eqb, eqb_tells, nat_tests, Setup, IsAdmissible, shown_once}
-use Rattle.egt_check.specs.Prelude.{byte_score, due_score, zeroing_score, Value, NoMove, chess, Leads, Move, Metric}
-use Rattle.egt_check.specs.Prelude.{Mate, Zeroing, ByMetric, Outcome, Shows, Facts, AreAlike, AreGiven, HasScores}
-use Rattle.egt_check.specs.Prelude.{IsGiven, IsKnown, IsZeroingScore, IsCompared, IsJudged, IsAtEnd, IsBest, IsDue}
-use Rattle.egt_check.specs.Prelude.{IsShownBy, Scores, number_at, score_of, value_of, zeroing_said, Tables, HasEntry}
-use Rattle.egt_check.specs.Prelude.{ShowsOf, entry_at, Spells, IsVoid, SameKind, TableValue, ComesOf, at_end_due}
-use Rattle.egt_check.specs.Prelude.{both_due}
+use Rattle.egt_check.specs.Prelude.{cases_eq, cases_lt, ByMetric, AreAlike, AreGiven, IsJudged, IsShownBy, number_at}
+use Rattle.egt_check.specs.Prelude.{eq-eqb, Zeroing, Outcome, score_of, value_of, HasEntry, entry_at, SameKind, both_due}
+use Rattle.egt_check.specs.Prelude.{eqb_tells, nat_tests, due_score, Move, HasScores, IsCompared, TableValue, at_end_due}
+use Rattle.egt_check.specs.Prelude.{Setup, Value, chess, Leads, Mate, Shows, Facts, IsDue, Spells, IsVoid}
+use Rattle.egt_check.specs.Prelude.{IsAdmissible, shown_once, byte_score, zeroing_score, IsZeroingScore, zeroing_said}
+use Rattle.egt_check.specs.Prelude.{NoMove, Metric, IsGiven, IsKnown, IsAtEnd, IsBest, Scores, Tables, ShowsOf, ComesOf}
 use Rattle.egt_entries.specs.declared.outcome.Outcome.TheVariants as outcomes
 use Rattle.egt_entries.proofs.Scoring.{told}
 use Rattle.egt_check.proofs.ShelfJudged.{right_judged}
 use Rattle.egt_check.proofs.Showing.{one_after}
-use Rattle.egt_check.proofs.Stepping.{Seen, scores_by}
+use Rattle.egt_check.proofs.MoveScored.{Seen, scores_by}
 
 -- ---- what a byte is
 

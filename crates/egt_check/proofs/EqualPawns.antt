@@ -1,14 +1,13 @@
 -- Equal pawns: the advances of the first are those of the last, with their squares exchanged.
 use Rattle.std.proofs.Common.{◌≡◌, ℕ, Bool, true, false, ◌∷◌, [], sym, ap, ◌∙◌, inl, inr, subst}
-use Rattle.egt_check.specs.Prelude.{option_to_list, false≢true, other_side, Man, Side, has_equal_sides, men_among}
-use Rattle.egt_check.specs.Prelude.{IsSomeTurnedCodeWith, swapped, ShelfMen, Stand, TableValue, Column, AreLeapCodes}
-use Rattle.egt_check.specs.Prelude.{AreStepCodes, stand_after, AreAdvanceScores, men_swapped, column_score}
-use Rattle.egt_check.specs.Prelude.{raised_alike}
+use Rattle.egt_check.specs.Prelude.{option_to_list, has_equal_sides, IsSomeTurnedCodeWith, stand_after, AreAdvanceScores}
+use Rattle.egt_check.specs.Prelude.{false≢true, Man, AreLeapCodes, AreStepCodes, men_swapped, column_score, raised_alike}
+use Rattle.egt_check.specs.Prelude.{other_side, Side, men_among, swapped, ShelfMen, Stand, TableValue, Column}
 
 -- equal men are told in either order
-other_order : (passed : Bool) (c code : ℕ) (flips : Bool) (stand : Stand) (side : Side) → has_equal_sides c ≡ false → men_among (option_to_list stand.next) ≡ men_among (option_to_list stand.last)
-    → IsSomeTurnedCodeWith passed c code flips stand side → IsSomeTurnedCodeWith passed c code flips (swapped stand) side
-other_order passed c code flips stand side apart alike some = record {
+other_order : (targeted : Bool) (c code : ℕ) (flips : Bool) (stand : Stand) (side : Side) → has_equal_sides c ≡ false → men_among (option_to_list stand.first) ≡ men_among (option_to_list stand.last)
+    → IsSomeTurnedCodeWith targeted c code flips stand side → IsSomeTurnedCodeWith targeted c code flips (swapped stand) side
+other_order targeted c code flips stand side apart alike some = record {
   turn = some.turn;
   after = some.after;
   seen = elim some.seen [
@@ -19,15 +18,15 @@ other_order passed c code flips stand side apart alike some = record {
 }
 
 -- equal men are the same in either order
-pub same_order : (men : ShelfMen) → men.one ≡ men.last → men ≡ men_swapped men
-same_order men equal = λ i. record { white = men.white; black = men.black; one = equal i; on = men.on; last = sym equal i }
+pub same_order : (men : ShelfMen) → men.first ≡ men.last → men ≡ men_swapped men
+same_order men equal = λ i. record { white = men.white; black = men.black; first = equal i; on = men.on; last = sym equal i }
 
-module _ (column : Column) (own : TableValue) (men : ShelfMen) (apart : has_equal_sides own.class ≡ false) (equal : men.one ≡ men.last) where
-  as_first : (passed : Bool) (code a t : ℕ) (side : Side) → IsSomeTurnedCodeWith passed own.class code false (stand_after false false men a men.last t) side → IsSomeTurnedCodeWith passed own.class code false (stand_after true false men a men.last t) side
-  as_first passed code a t side = other_order passed own.class code false (stand_after false false men a men.last t) side apart (ap (λ (m : Man). m ∷ []) equal)
+module _ (column : Column) (own : TableValue) (men : ShelfMen) (apart : has_equal_sides own.class ≡ false) (equal : men.first ≡ men.last) where
+  as_first : (targeted : Bool) (code a t : ℕ) (side : Side) → IsSomeTurnedCodeWith targeted own.class code false (stand_after false false men a men.last t) side → IsSomeTurnedCodeWith targeted own.class code false (stand_after true false men a men.last t) side
+  as_first targeted code a t side = other_order targeted own.class code false (stand_after false false men a men.last t) side apart (ap (λ (m : Man). m ∷ []) equal)
 
-  as_last : (passed : Bool) (code a t : ℕ) (side : Side) → IsSomeTurnedCodeWith passed own.class code false (stand_after true false men a men.last t) side → IsSomeTurnedCodeWith passed own.class code false (stand_after false false men a men.last t) side
-  as_last passed code a t side = other_order passed own.class code false (stand_after true false men a men.last t) side apart (ap (λ (m : Man). m ∷ []) (sym equal))
+  as_last : (targeted : Bool) (code a t : ℕ) (side : Side) → IsSomeTurnedCodeWith targeted own.class code false (stand_after true false men a men.last t) side → IsSomeTurnedCodeWith targeted own.class code false (stand_after false false men a men.last t) side
+  as_last targeted code a t side = other_order targeted own.class code false (stand_after true false men a men.last t) side apart (ap (λ (m : Man). m ∷ []) (sym equal))
 
   advanced_as_first : (side : Side) (a b score : ℕ) → AreAdvanceScores column own false men side a b score → AreAdvanceScores column own true men side a b score
   advanced_as_first side a b score s = record {

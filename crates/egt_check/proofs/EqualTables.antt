@@ -1,10 +1,9 @@
 -- Two true tables of one class with the same columns.
 use Rattle.std.proofs.Common.{◌≡◌, ℕ, ◌<◌, ◌⊎◌, true, List, length, Option, Some, None, refl, sym, ap, ◌∙◌, subst, inl}
 use Rattle.std.proofs.Common.{inr}
-use Rattle.egt_check.specs.Prelude.{is_some, false≢true, ext_get_or, Setup, Spells, IsIndex, IsVoid, size_of, Value}
-use Rattle.egt_check.specs.Prelude.{chess, HasReach, Metric, Mate, Zeroing, TableValue, IsTable, entries_or_none}
-use Rattle.egt_check.specs.Prelude.{entry_of, reach_entry_of, entries_in, entry_at, reach_at, IsTrueReach, IsTrueTable}
-use Rattle.egt_check.specs.Prelude.{Tells}
+use Rattle.egt_check.specs.Prelude.{is_some, IsIndex, HasReach, TableValue, entry_of, entries_in, entry_at, reach_at}
+use Rattle.egt_check.specs.Prelude.{false≢true, ext_get_or, entries_or_none, reach_entry_of, IsTrueReach, IsTrueTable}
+use Rattle.egt_check.specs.Prelude.{Setup, Spells, IsVoid, size_of, Value, chess, Metric, Mate, Zeroing, IsTable, Tells}
 use Rattle.egt_table.specs.declared.column.Column.TheVariants as columns
 
 -- what other laws say: a code is an index or void, and one thing is told of a position

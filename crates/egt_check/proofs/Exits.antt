@@ -1,11 +1,10 @@
 -- The greatest score of the moves that zero: that of the moves that leave the class, and of pawns' moves that do not.
 use Rattle.std.proofs.Common.{◌≡◌, ◌↔◌, ◌∙◌, ℕ, max, Bool, IsTrue, true, false, Option, arith, inl, inr, refl, sym}
 use Rattle.std.proofs.Common.{subst}
-use Rattle.egt_check.specs.Prelude.{false≢true, pawn_of, P, Man, Side, ShelfMen, TableValue, Column, AreLeapCodes}
-use Rattle.egt_check.specs.Prelude.{AreStepCodes, men_swapped, AreExits, AreZeroingMoves, AreAdvanceScores}
-use Rattle.egt_check.specs.Prelude.{AreOwnPawnMoves, ArePawnScores, ArePromotionScores, IsBestPromotion}
-use Rattle.egt_check.specs.Prelude.{IsPromotionScore, IsRaisedByPawn, column_score, FourMen, Promotion, Promotions}
-use Rattle.egt_check.specs.Prelude.{raised_by_none}
+use Rattle.egt_check.specs.Prelude.{false≢true, P, TableValue, AreLeapCodes, AreStepCodes, column_score, FourMenTables}
+use Rattle.egt_check.specs.Prelude.{pawn_of, Side, ShelfMen, Column, AreExits, Promotion, Promotions}
+use Rattle.egt_check.specs.Prelude.{Man, AreOwnPawnMoves, ArePawnScores, IsBestPromotion, IsRaisedByPawn, raised_by_none}
+use Rattle.egt_check.specs.Prelude.{men_swapped, AreZeroingMoves, AreAdvanceScores, ArePromotionScores, IsPromotionScore}
 
 -- the man is no pawn of that side
 pub no_own_pawn : (told : Bool) (man : Man) (side : Side) → IsTrue told ↔ (man ≡ pawn_of side) → told ≡ false → ¬ ((man.kind ≡ P) × (man.side ≡ side))
@@ -55,7 +54,7 @@ greatest : (taken last first stepped leapt : ℕ) → max (max taken (max last f
 greatest taken last first stepped leapt = omega arith
 
 -- the greater of both
-pub zeroing_of : (column : Column) (four : FourMen) (men : ShelfMen) (side : Side) (a b exits own score : ℕ) → AreExits column four.children men side a b exits → AreOwnPawnMoves column four.own men side a b own → score ≡ max exits own → AreZeroingMoves column four men side a b score
+pub zeroing_of : (column : Column) (four : FourMenTables) (men : ShelfMen) (side : Side) (a b exits own score : ℕ) → AreExits column four.children men side a b exits → AreOwnPawnMoves column four.own men side a b own → score ≡ max exits own → AreZeroingMoves column four men side a b score
 zeroing_of column four men side a b exits own score e o is =
     let last = max o.by_last e.last_promoted in
     let first = max o.by_first e.first_promoted in record {
@@ -79,8 +78,8 @@ zeroing_of column four men side a b exits own score e o is =
         (subst (λ n. max (max taken (max last first)) n ≡ max taken (max (max stepped last) (max leapt first))) (sym o_is) (greatest taken last first stepped leapt))
 
 -- where neither man is a pawn of that side, that of the moves that leave the class
-pub zeroed_alone : (column : Column) (four : FourMen) (men : ShelfMen) (side : Side) (a b exits : ℕ)
-    → ¬ ((men.last.kind ≡ P) × (men.last.side ≡ side)) → ¬ ((men.one.kind ≡ P) × (men.one.side ≡ side))
+pub zeroed_alone : (column : Column) (four : FourMenTables) (men : ShelfMen) (side : Side) (a b exits : ℕ)
+    → ¬ ((men.last.kind ≡ P) × (men.last.side ≡ side)) → ¬ ((men.first.kind ≡ P) × (men.first.side ≡ side))
     → AreExits column four.children men side a b exits → AreZeroingMoves column four men side a b exits
 zeroed_alone column four men side a b exits last one e = grind (arith, zeroing_of, no_advances, men_swapped)
 

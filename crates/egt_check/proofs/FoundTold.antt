@@ -1,15 +1,14 @@
--- What scores tell of a table's entries.
+-- A table's entries, told by scores.
 use Rattle.std.proofs.Common.{◌≡◌, ◌≢◌, ◌∙◌, ◌⊎◌, ℕ, ◌+◌, ◌-◌, ◌*◌, ◌/◌, ◌%◌, ◌<◌, ◌≤◌, ◌==◌, if◌then◌else◌, Bool, false, List, [], ◌∷◌}
 use Rattle.std.proofs.Common.{Option, Some, None, IsSome, get_or, length, map, take, drop, slice_index, arith, refl, sym, ap, subst}
 use Rattle.std.proofs.Common.{inl, inr}
 use Rattle.std.proofs.lemmas.List.{length-drop, length-take-le}
-use Rattle.egt_check.specs.Prelude.{cases_eq, cases_lt, false≢true, get_or-map, Kind, MayStand, Man, Side, White, Black}
-use Rattle.egt_check.specs.Prelude.{has_target, material_of, code_of, code_plain, places, kind_digits, kind_less}
-use Rattle.egt_check.specs.Prelude.{number_in, square_in, IsShelfOf, stand_with}
-use Rattle.egt_check.specs.Prelude.{IsListed, list_of, TellsMen, ShelfMen, Stand, IsRaised, HasColumn, TableValue}
-use Rattle.egt_check.specs.Prelude.{entries_of, entries_or_none, Column, IsShelfRow, row_read, column_score}
-use Rattle.egt_check.specs.Prelude.{entry_score, IsToldEntry, IsToldFrom, TellColumn, TellsEntry, table_told, told}
-use Rattle.egt_check.specs.Prelude.{CodeScores}
+use Rattle.egt_check.specs.Prelude.{cases_eq, cases_lt, MayStand, number_in, square_in, IsShelfOf, IsListed, HasColumn}
+use Rattle.egt_check.specs.Prelude.{false≢true, get_or-map, has_target, code_plain, stand_with, TableValue, entries_of}
+use Rattle.egt_check.specs.Prelude.{Kind, Side, Black, Stand, told}
+use Rattle.egt_check.specs.Prelude.{Man, White, code_of, places, list_of, TellsMen, ShelfMen, IsRaised, Column, row_read}
+use Rattle.egt_check.specs.Prelude.{material_of, kind_digits, entries_or_none, column_score, entry_score, IsToldEntry}
+use Rattle.egt_check.specs.Prelude.{kind_less, IsShelfRow, IsToldFrom, TellColumn, TellsEntry, table_told, CodeScores}
 use Rattle.egt_table.specs.declared.column.Column.TheVariants.{Mate, Zeroing, Reach}
 
 -- an entry that is told
@@ -31,13 +30,13 @@ module _ (t : TableValue) (scores clocks : CodeScores) where
   near_score tell code = told_score Reach scores.scores code refl (tell.tell code)
 
 -- a row of scores is one of the table's
-pub rows_read : (passed : Bool) (u : TableValue) (column : Column) (v : CodeScores) → v.class ≡ u.class → ((code : ℕ) → column_score u column code ≡ slice_index v.scores code) → (men : ShelfMen) (shelf : ℕ) (side : Side) → IsShelfOf passed u.class shelf men
-    → ((passed : Bool) (c x y : ℕ) (stand : Stand) (side : Side) → TellsMen passed c x stand side → TellsMen passed c y stand side → x ≡ y)
-    → ((passed : Bool) (c code : ℕ) (stand : Stand) (side : Side) (man : Man) (s : ℕ) → TellsMen passed c code stand side → IsListed (list_of stand) man s → MayStand man s)
-    → (row : List ℕ) → IsShelfRow v.class (slice_index v.scores) men shelf side row → (s : ℕ) → s < 64 → IsRaised 0 (λ code. TellsMen passed u.class code (stand_with men s) side) (column_score u column) (slice_index row s)
-rows_read passed u column v same score men shelf side is one pawns row read =
+pub rows_read : (targeted : Bool) (u : TableValue) (column : Column) (v : CodeScores) → v.class ≡ u.class → ((code : ℕ) → column_score u column code ≡ slice_index v.scores code) → (men : ShelfMen) (shelf : ℕ) (side : Side) → IsShelfOf targeted u.class shelf men
+    → ((targeted : Bool) (c x y : ℕ) (stand : Stand) (side : Side) → TellsMen targeted c x stand side → TellsMen targeted c y stand side → x ≡ y)
+    → ((targeted : Bool) (c code : ℕ) (stand : Stand) (side : Side) (man : Man) (s : ℕ) → TellsMen targeted c code stand side → IsListed (list_of stand) man s → MayStand man s)
+    → (row : List ℕ) → IsShelfRow v.class (slice_index v.scores) men shelf side row → (s : ℕ) → s < 64 → IsRaised 0 (λ code. TellsMen targeted u.class code (stand_with men s) side) (column_score u column) (slice_index row s)
+rows_read targeted u column v same score men shelf side is one pawns row read =
     let here = subst (λ c. IsShelfRow c (slice_index v.scores) men shelf side row) same read in
-    row_read passed u.class (column_score u column) men shelf side is one pawns row (record { digits = λ digit below. here.digits digit below ∙ sym (score _); edges = here.edges })
+    row_read targeted u.class (column_score u column) men shelf side is one pawns row (record { digits = λ digit below. here.digits digit below ∙ sym (score _); edges = here.edges })
 
 -- ---- entries that are put
 

@@ -5,15 +5,15 @@ pub mod BelowTrue
 pub mod ReachTold
 pub mod TrueReach
 pub mod Showing
-pub mod Finding
-pub mod Stepping
+pub mod TableFound
+pub mod MoveScored
 pub mod FirstRule
 pub mod Shelving
 mod Marks
 mod ShelfJudged
-pub mod Worth
+pub mod GreatestScores
 pub mod RowRead
-pub mod LoneRead
+pub mod LoneEntries
 pub mod EqualPawns
 pub mod Exits
 pub mod TablePairs
@@ -33,7 +33,7 @@ pub mod PartGiven
 pub mod PawnGiven
 pub mod PawnsGiven
 pub mod PromotionTables
-pub mod Nearing
+pub mod NearestStep
 pub mod NearReading
 pub mod VoidScores
 pub mod NearBytes

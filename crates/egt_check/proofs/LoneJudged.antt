@@ -14,7 +14,7 @@ run_keeps Right first digits i rows from under = elim (cases_eq ((i - first) % 2
 ]
 
 module _ (t : TableValue) (men : ShelfMen) (first : ℕ) (side : Side) (is : IsLoneRow t.class first men.white men.black men.last)
-    (one : (passed : Bool) (c x y : ℕ) (stand : Stand) (side : Side) → TellsMen passed c x stand side → TellsMen passed c y stand side → x ≡ y) (column : Column) (row : List ℕ)
+    (one : (targeted : Bool) (c x y : ℕ) (stand : Stand) (side : Side) → TellsMen targeted c x stand side → TellsMen targeted c y stand side → x ≡ y) (column : Column) (row : List ℕ)
     (read : (s : ℕ) → s < 64 → IsRaised 0 (λ code. TellsMen false t.class code (stand_alone men s) side) (column_score t column) (slice_index row s)) (digit : ℕ) (below : digit < kind_digits men.last.kind) where
   abbrev pub square : ℕ
   square = digit + kind_less men.last.kind

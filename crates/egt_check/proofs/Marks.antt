@@ -1,10 +1,8 @@
--- What the scores of a shelf's mate entries tell, beside the bits of its indexes.
-use Rattle.std.proofs.Common.{◌≡◌, ◌≢◌, ℕ, ◌+◌, ◌*◌, ◌/◌, ◌%◌, ◌^◌, ◌<◌, ◌==◌, if◌then◌else◌, arith, ap, sym}
-use Rattle.std.proofs.Common.{◌∙◌}
-use Rattle.egt_check.specs.Prelude.{bit_at, bit_at-zero, shr-shr, Side, White, Black}
-use Rattle.egt_check.specs.Prelude.{code_of, places, AreIndexed, AreIndexes, IsWithin, number_in, size_of, Places}
-use Rattle.egt_check.specs.Prelude.{TableValue, Mate, AreAllAlike, TellsVoid, TellsVoidsIn, score_at}
-use Rattle.egt_check.specs.Prelude.{side_few, nat_tests}
+-- The scores of a shelf's mate entries, beside the bits of its indexes.
+use Rattle.std.proofs.Common.{◌≡◌, ◌≢◌, ℕ, ◌+◌, ◌*◌, ◌/◌, ◌%◌, ◌^◌, ◌<◌, ◌==◌, if◌then◌else◌, arith, ap, sym, ◌∙◌}
+use Rattle.egt_check.specs.Prelude.{bit_at, White, Black, places, Places, Mate}
+use Rattle.egt_check.specs.Prelude.{bit_at-zero, AreIndexed, AreIndexes, IsWithin, TableValue, AreAllAlike, TellsVoidsIn}
+use Rattle.egt_check.specs.Prelude.{shr-shr, Side, code_of, number_in, size_of, TellsVoid, score_at, side_few, nat_tests}
 
 -- a bit of a number that was shifted down
 pub bit_shifted : (n down k : ℕ) → bit_at (n / 2 ^ down) k ≡ bit_at n (k + down)

@@ -7,7 +7,7 @@ use Rattle.egt_check.specs.Prelude.{AreGiven, HasScores, IsKnown, near_entry, ne
 use Rattle.egt_check.specs.Prelude.{FitsReachBeside, HasReachEntry, ShowsReachOf, reach_entry_of, IsJudgedBy}
 use Rattle.egt_check.specs.Prelude.{KeepsReach, IsAtEnd, HasEntry, Tables, entry_at, reach_at}
 use Rattle.egt_entries.specs.declared.rule.Rule.TheVariants as rules
-use Rattle.egt_check.proofs.Nearing.{one_reach_entry}
+use Rattle.egt_check.proofs.NearestStep.{one_reach_entry}
 
 -- ---- entries as they are read
 

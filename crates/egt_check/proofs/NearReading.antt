@@ -1,11 +1,10 @@
 -- Tables whose column of the nearest mates is read as a mate column.
 use Rattle.std.proofs.Common.{◌≡◌, ℕ, ◌*◌, ◌-◌, ◌%◌, ◌<◌, ◌⊎◌, ◌∙◌, List, Option, Some, IsSome, arith, inl, inr}
 use Rattle.std.proofs.Common.{length, sym, ap}
-use Rattle.egt_check.specs.Prelude.{get_or-map, cases_lt, false≢true, get_or_past, length-map, Setup, Spells, IsIndex}
-use Rattle.egt_check.specs.Prelude.{IsVoid, size_of, byte_score, HasColumn, IsTable, TableValue, entries_of}
-use Rattle.egt_check.specs.Prelude.{entries_or_none, Column, Mate, Part, Reach, near_entry, near_if, near_of}
-use Rattle.egt_check.specs.Prelude.{near_table, column_of, table_in, tables_in, Tables, entry_at, reach_at, HasBytes}
-use Rattle.egt_check.specs.Prelude.{column_score, score_at}
+use Rattle.egt_check.specs.Prelude.{get_or-map, false≢true, get_or_past, length-map, entries_or_none, Mate, column_score}
+use Rattle.egt_check.specs.Prelude.{cases_lt, IsIndex, Part, table_in, tables_in, entry_at, reach_at, HasBytes, score_at}
+use Rattle.egt_check.specs.Prelude.{Setup, Spells, IsVoid, size_of, IsTable, Column, Reach, near_if, near_of, Tables}
+use Rattle.egt_check.specs.Prelude.{byte_score, HasColumn, TableValue, entries_of, near_entry, near_table, column_of}
 use Rattle.egt_table.specs.declared.column.Column.TheVariants as columns
 
 -- ---- entries

@@ -2,7 +2,7 @@
 use Rattle.std.proofs.Common.{◌≡◌, ℕ, ◌<◌, ◌≤◌, ◌⊎◌, Bool, true, false, max, Option, IfSome, refl, ap, ◌∙◌, inl, inr}
 use Rattle.std.proofs.Common.{subst}
 use Rattle.egt_check.specs.Prelude.{Setup, Side, Spells, IsIndex, IsVoid, ShelfMen, IsRaised, zeroing_score, IsTable}
-use Rattle.egt_check.specs.Prelude.{TableValue, Mate, Reach, FourMen, Promotion, Promotions, AreAllScores}
+use Rattle.egt_check.specs.Prelude.{TableValue, Mate, Reach, FourMenTables, Promotion, Promotions, AreAllScores}
 use Rattle.egt_check.specs.Prelude.{AreMoveScores, ArePassingCaptures, AreTablesOf, AreZeroingMoves, children_in}
 use Rattle.egt_check.specs.Prelude.{four_in, promotion_in, promotions_in, some_promotions_in, ArePawnScores}
 use Rattle.egt_check.specs.Prelude.{HasPromotion, HasPromotions, IsPromotionScore, IsRaisedByPawn, AreAllReachScores}
@@ -65,7 +65,7 @@ module _ (or_void : (c code : ℕ) → c < 36 → ((p : Setup) × Spells c code 
 
   -- ---- of all moves
 
-  module _ (tables : Tables) (four : FourMen) (men : ShelfMen) (side : Side) (a b : ℕ) (are : AreTablesOf tables (four_in Reach four) men) where
+  module _ (tables : Tables) (four : FourMenTables) (men : ShelfMen) (side : Side) (a b : ℕ) (are : AreTablesOf tables (four_in Reach four) men) where
     of_zeroing : (score : ℕ) → AreZeroingMoves columns.Reach four men side a b score → AreZeroingMoves columns.Mate (four_in Reach four) men side a b score
     of_zeroing score s = record {
       by_first = s.by_first;
@@ -108,7 +108,7 @@ module _ (or_void : (c code : ℕ) → c < 36 → ((p : Setup) × Spells c code 
           },
         )
 
-    pub reach_read : (passed : Bool) (reach : ℕ) → AreAllReachScores passed four men side a b reach → (zeroing : ℕ) × AreAllScores passed (four_in Reach four) men side a b reach zeroing
+    pub reach_read : (targeted : Bool) (reach : ℕ) → AreAllReachScores targeted four men side a b reach → (zeroing : ℕ) × AreAllScores targeted (four_in Reach four) men side a b reach zeroing
     reach_read false reach s = of_plain reach s
     reach_read true reach s =
         let plain = of_plain s.plain s.plain_is in (

@@ -9,7 +9,7 @@ use Rattle.egt_check.specs.Prelude.{score_at, settled_index}
 use Rattle.egt_check.proofs.ByteJudged.{zeroing_above}
 use Rattle.egt_check.proofs.QuietGiven.{low_score}
 use Rattle.egt_check.proofs.Told.{entry_there}
-use Rattle.egt_check.proofs.Worth.{AreWhole, SpellsSettled, Turning, best_with}
+use Rattle.egt_check.proofs.GreatestScores.{AreWhole, SpellsSettled, Turning, best_with}
 
 -- the moves among these zero, and lead to the positions with men of some stand, and a target where one is left, and to all
 -- of them

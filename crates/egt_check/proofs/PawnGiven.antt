@@ -2,21 +2,20 @@
 -- passing are those of these moves.
 use Rattle.std.proofs.Common.{◌≡◌, ℕ, ◌<◌, ◌==◌, ◌⊎◌, ◌↔◌, if◌then◌else◌, max, Bool, true, false, IsTrue, Option, Some}
 use Rattle.std.proofs.Common.{None, IsSome, refl, sym, ap, ◌∙◌, subst, inl, inr}
-use Rattle.egt_check.specs.Prelude.{and_parts, false≢true, eqb_tells, Reaches-on_board, other_side, ahead, last_rank}
-use Rattle.egt_check.specs.Prelude.{IsHeld, SettlesTo, Setup, rank_of, Kind, P, Man, Side, sides_differ, HasStand}
-use Rattle.egt_check.specs.Prelude.{IsSomeTurnedCode, IsSomeTurnedCodeWith, ShelfMen, Stand, IsRaised, zeroing_score}
-use Rattle.egt_check.specs.Prelude.{raised_as, Zeroes, Captures, Leads, arriving, is_pawn, promotes, Move, TableValue}
-use Rattle.egt_check.specs.Prelude.{Mate, Facts, AreGiven, AreLeapCodes, ArePassingCodes, AreStepCodes}
-use Rattle.egt_check.specs.Prelude.{IsPassingCapture, IsPassingFrom, LeavesTarget, AreAdvancedCodes, ArePromotedCodes}
-use Rattle.egt_check.specs.Prelude.{IsAdvance, IsAdvanceFrom, IsClassAfter, IsPromotingCapture, IsPromotingCaptureFrom}
-use Rattle.egt_check.specs.Prelude.{officer_of, stand_after, stand_in, IsTableAfter, IsTableOf, IsClear, IsClassOf}
-use Rattle.egt_check.specs.Prelude.{IsPastKings, left_of, stand_left, Tables, score_at, unpromoted, promoted, AreTwo}
-use Rattle.egt_check.specs.Prelude.{are_in}
+use Rattle.egt_check.specs.Prelude.{and_parts, eqb_tells, last_rank, SettlesTo, rank_of, raised_as, IsAdvance, IsTableOf}
+use Rattle.egt_check.specs.Prelude.{false≢true, other_side, TableValue, officer_of, IsPastKings, stand_left, unpromoted}
+use Rattle.egt_check.specs.Prelude.{Reaches-on_board, IsSomeTurnedCodeWith, IsPromotingCapture, IsPromotingCaptureFrom}
+use Rattle.egt_check.specs.Prelude.{ahead, Zeroes, is_pawn, IsClear, left_of, Tables, score_at, promoted, AreTwo, are_in}
+use Rattle.egt_check.specs.Prelude.{IsOccupiedBy, IsSomeTurnedCode, IsPassingCapture, AreAdvancedCodes, ArePromotedCodes}
+use Rattle.egt_check.specs.Prelude.{Setup, Kind, Side, Stand, Leads, Move, Mate, Facts}
+use Rattle.egt_check.specs.Prelude.{P, AreLeapCodes, AreStepCodes, LeavesTarget, IsClassAfter, stand_after, IsTableAfter}
+use Rattle.egt_check.specs.Prelude.{Man, ShelfMen, IsRaised, Captures, arriving, promotes, AreGiven, stand_in, IsClassOf}
+use Rattle.egt_check.specs.Prelude.{sides_differ, HasStand, zeroing_score, ArePassingCodes, IsPassingFrom, IsAdvanceFrom}
 use Rattle.std.specs.FinMap as placement
 use Rattle.egt_check.proofs.ByteJudged.{zeroing_max}
 use Rattle.egt_check.proofs.EitherGiven.{same_given, union_given}
 use Rattle.egt_check.proofs.PartGiven.{Parts, PartsWith, part_given, part_given_with}
-use Rattle.egt_check.proofs.Worth.{AreWhole, SpellsSettled, Turning}
+use Rattle.egt_check.proofs.GreatestScores.{AreWhole, SpellsSettled, Turning}
 
 -- either square is on the board
 either : (f : Bool) (x y : ℕ) → x < 64 → y < 64 → (if f then x else y) < 64
@@ -33,9 +32,9 @@ one_answer false true one other = one.1 (other.0 refl)
 unread : false ≡ true → SpellsSettled
 unread some = absurd (false≢true some)
 
-module _ (facts : Facts) (turning : Turning) (tables : Tables) (c : ℕ) (men : ShelfMen) (first : Bool) (side : Side) (passed : Bool) (a b : ℕ) (p : Setup) (pawn : men.last.kind ≡ P) (has : HasStand c false (stand_in first men a b) side passed p) where
-  there : AreTwo p.men men.white men.black men.one a men.last b
-  there = are_in c men first side passed a b p has
+module _ (facts : Facts) (turning : Turning) (tables : Tables) (c : ℕ) (men : ShelfMen) (first : Bool) (side : Side) (targeted : Bool) (a b : ℕ) (p : Setup) (pawn : men.last.kind ≡ P) (has : HasStand c false (stand_in first men a b) side targeted p) where
+  there : AreTwo p.men men.white men.black men.first a men.last b
+  there = are_in c men first side targeted a b p has
 
   white_in : men.white < 64
   white_in = has.admissible.on_board men.white _ there.white_there
@@ -44,7 +43,7 @@ module _ (facts : Facts) (turning : Turning) (tables : Tables) (c : ℕ) (men : 
   black_in = has.admissible.on_board men.black _ there.black_there
 
   one_in : a < 64
-  one_in = has.admissible.on_board a men.one there.one_there
+  one_in = has.admissible.on_board a men.first there.one_there
 
   -- the last man is a pawn, so that each move of his zeroes
   pawn_zeroes : (m : Move) → m.from ≡ b → Zeroes p m
@@ -53,7 +52,7 @@ module _ (facts : Facts) (turning : Turning) (tables : Tables) (c : ℕ) (men : 
   -- ---- advances
 
   -- a promotion leaves no target, nor does any advance where the first man is no pawn of the other side
-  leaves_none : (promo : Option Kind) → IsSome promo ⊎ (men.one.kind ≡ P → men.one.side ≡ side) → (to : ℕ) → IsAdvance men side a b promo to → ¬ LeavesTarget men side a b to
+  leaves_none : (promo : Option Kind) → IsSome promo ⊎ (men.first.kind ≡ P → men.first.side ≡ side) → (to : ℕ) → IsAdvance men side a b promo to → ¬ LeavesTarget men side a b to
   leaves_none promo (inr mine) to advance leaves = sides_differ side (sym (mine leaves.pawn) ∙ leaves.theirs)
   leaves_none None (inl some) to advance leaves = false≢true some
   leaves_none (Some kind) (inl some) to advance leaves =
@@ -66,30 +65,30 @@ module _ (facts : Facts) (turning : Turning) (tables : Tables) (c : ℕ) (men : 
   -- what the law says of them
   abbrev pub Going : Type 0
   Going =
-      (q : Setup) (m : Move) → Leads p m q → m.from ≡ b → ¬ Captures p m → IsAdvance men side a b m.promo m.to × ((d : ℕ) (before flips : Bool) → IsClassAfter before d flips men.one (arriving men.last m.promo)
+      (q : Setup) (m : Move) → Leads p m q → m.from ≡ b → ¬ Captures p m → IsAdvance men side a b m.promo m.to × ((d : ℕ) (before flips : Bool) → IsClassAfter before d flips men.first (arriving men.last m.promo)
       → (left : Bool) × (IsTrue left ↔ LeavesTarget men side a b m.to) × (r : Setup) × SettlesTo q r × HasStand d flips (stand_after before flips men a (arriving men.last m.promo) m.to) (other_side side) left r)
 
   abbrev pub Coming : Option Kind → Type 0
   Coming promo =
-      (to : ℕ) → IsAdvance men side a b promo to → (d : ℕ) (before flips : Bool) → IsClassAfter before d flips men.one (arriving men.last promo) → (left : Bool) → IsTrue left ↔ LeavesTarget men side a b to → (r : Setup)
+      (to : ℕ) → IsAdvance men side a b promo to → (d : ℕ) (before flips : Bool) → IsClassAfter before d flips men.first (arriving men.last promo) → (left : Bool) → IsTrue left ↔ LeavesTarget men side a b to → (r : Setup)
       → HasStand d flips (stand_after before flips men a (arriving men.last promo) to) (other_side side) left r → (m : Move) × (q : Setup) × Leads p m q × SettlesTo q r × IsAdvanceFrom p b promo m × (m.to ≡ to)
 
-  module _ (promo : Option Kind) (t : TableValue) (before flips : Bool) (is : IsTableAfter tables t before flips men.one (arriving men.last promo)) (goes : Going) (comes : Coming promo) where
+  module _ (promo : Option Kind) (t : TableValue) (before flips : Bool) (is : IsTableAfter tables t before flips men.first (arriving men.last promo)) (goes : Going) (comes : Coming promo) where
     on_board : (order : Bool) (man : Man) (to : ℕ) → to < 64 → AreWhole (stand_after order flips men a man to)
     on_board false man to to_in = record {
       filled = λ none. let e = none in cc;
-      on_board = record { white = either flips men.black men.white black_in white_in; black = either flips men.white men.black white_in black_in; next = one_in; last = to_in };
+      on_board = record { white = either flips men.black men.white black_in white_in; black = either flips men.white men.black white_in black_in; first = one_in; last = to_in };
     }
     on_board true man to to_in = record {
       filled = λ none. let e = none in cc;
-      on_board = record { white = either flips men.black men.white black_in white_in; black = either flips men.white men.black white_in black_in; next = to_in; last = one_in };
+      on_board = record { white = either flips men.black men.white black_in white_in; black = either flips men.white men.black white_in black_in; first = to_in; last = one_in };
     }
 
     -- by the promotion that the move names
     abbrev Led : Setup → (to : ℕ) → Option Kind → Type 0
     Led q to o =
         IsAdvance men side a b o to
-        × ((d : ℕ) (before flips : Bool) → IsClassAfter before d flips men.one (arriving men.last o)
+        × ((d : ℕ) (before flips : Bool) → IsClassAfter before d flips men.first (arriving men.last o)
         → (left : Bool) × (IsTrue left ↔ LeavesTarget men side a b to) × (r : Setup) × SettlesTo q r × HasStand d flips (stand_after before flips men a (arriving men.last o) to) (other_side side) left r)
 
     led : (q : Setup) (m : Move) → Leads p m q → IsAdvanceFrom p b promo m → Led q m.to promo
@@ -142,7 +141,7 @@ module _ (facts : Facts) (turning : Turning) (tables : Tables) (c : ℕ) (men : 
 
     -- ---- where none leaves a target
 
-    pub advances_given : IsSome promo ⊎ (men.one.kind ≡ P → men.one.side ≡ side) → (w : ℕ) → IsRaised 0 (AreAdvancedCodes t.class before flips men side promo a b) (score_at t Mate) w → AreGiven tables p (IsAdvanceFrom p b promo) w (zeroing_score w)
+    pub advances_given : IsSome promo ⊎ (men.first.kind ≡ P → men.first.side ≡ side) → (w : ℕ) → IsRaised 0 (AreAdvancedCodes t.class before flips men side promo a b) (score_at t Mate) w → AreGiven tables p (IsAdvanceFrom p b promo) w (zeroing_score w)
     advances_given bare w raised =
         same_given tables p (IsAdvanceFrom p b promo) (AmongTold false unread) w (zeroing_score w)
         (told_given false unread w
@@ -154,7 +153,7 @@ module _ (facts : Facts) (turning : Turning) (tables : Tables) (c : ℕ) (men : 
 
   -- ---- where the first man is a pawn who may take in passing
 
-  pub advances_beside_given : SpellsSettled → (t : TableValue) (order : Bool) → IsTableAfter tables t order false men.one men.last → Going → Coming None → (u v : ℕ) → IsRaised 0 (AreStepCodes t.class order men side a b) (score_at t Mate) u
+  pub advances_beside_given : SpellsSettled → (t : TableValue) (order : Bool) → IsTableAfter tables t order false men.first men.last → Going → Coming None → (u v : ℕ) → IsRaised 0 (AreStepCodes t.class order men side a b) (score_at t Mate) u
       → IsRaised 0 (AreLeapCodes t.class order men side a b) (score_at t Mate) v → AreGiven tables p (IsAdvanceFrom p b None) (max u v) (zeroing_score (max u v))
   advances_beside_given settled t order is goes comes u v steps leaps =
       subst (AreGiven tables p (IsAdvanceFrom p b None) (max u v)) (zeroing_max u v)
@@ -189,7 +188,7 @@ module _ (facts : Facts) (turning : Turning) (tables : Tables) (c : ℕ) (men : 
   -- ---- captures by which the pawn is promoted
 
   module _ (kind : Kind) (t : TableValue) (flips : Bool) (is : IsTableOf tables t flips (officer_of side kind))
-      (goes : (q : Setup) (m : Move) → Leads p m q → m.from ≡ b → IsHeld p.men m.to (other_side p.side) → m.promo ≡ Some kind → IsPromotingCapture men side kind a b
+      (goes : (q : Setup) (m : Move) → Leads p m q → m.from ≡ b → IsOccupiedBy p.men m.to (other_side p.side) → m.promo ≡ Some kind → IsPromotingCapture men side kind a b
       × ((d : ℕ) (flips : Bool) → IsClassOf d flips (officer_of side kind) → HasStand d flips (stand_left flips (left_of men (officer_of side kind) a)) (other_side side) false q))
       (comes : IsPromotingCapture men side kind a b → (d : ℕ) (flips : Bool) → IsClassOf d flips (officer_of side kind) → (q : Setup)
       → HasStand d flips (stand_left flips (left_of men (officer_of side kind) a)) (other_side side) false q → (m : Move) × Leads p m q × IsPromotingCaptureFrom p b kind m) where
@@ -200,7 +199,7 @@ module _ (facts : Facts) (turning : Turning) (tables : Tables) (c : ℕ) (men : 
     three_whole : (stand : Stand) → Promoted stand → AreWhole stand
     three_whole stand (capture, e) = subst AreWhole (sym e) (record {
       filled = λ none. let e = none in cc;
-      on_board = record { white = either flips men.black men.white black_in white_in; black = either flips men.white men.black white_in black_in; next = one_in; last = tt };
+      on_board = record { white = either flips men.black men.white black_in white_in; black = either flips men.white men.black white_in black_in; first = one_in; last = tt };
     })
 
     capture_parts : Parts p side t.class flips Promoted (IsPromotingCaptureFrom p b kind)
@@ -242,7 +241,7 @@ module _ (facts : Facts) (turning : Turning) (tables : Tables) (c : ℕ) (men : 
     on_board = record {
       white = either flips men.black men.white (black_in facts turning tables c men first side true a b p pawn has) (white_in facts turning tables c men first side true a b p pawn has);
       black = either flips men.white men.black (white_in facts turning tables c men first side true a b p pawn has) (black_in facts turning tables c men first side true a b p pawn has);
-      next = Reaches-on_board (IsPastKings men) men.last b (ahead side a) capture.reaches;
+      first = Reaches-on_board (IsPastKings men) men.last b (ahead side a) capture.reaches;
       last = tt;
     };
   })

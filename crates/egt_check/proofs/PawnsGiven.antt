@@ -1,15 +1,14 @@
 -- The greatest scores of all moves of pawns: their advances, and the captures by which they are promoted.
 use Rattle.std.proofs.Common.{◌≡◌, ◌≢◌, ℕ, ◌⊎◌, max, Bool, true, false, Option, Some, None, IfSome, arith, refl, sym}
 use Rattle.std.proofs.Common.{ap, ◌∙◌, inl, inr, subst}
-use Rattle.egt_check.specs.Prelude.{other_side, Stands, IsHeld, one_man, Setup, Kind, Q, R, B, N, P, Man}
-use Rattle.egt_check.specs.Prelude.{Side, HasStand, ShelfMen, IsRaised, zeroing_score, Zeroes, Leads}
-use Rattle.egt_check.specs.Prelude.{FitsPromotion, IsOfficer, is_pawn, promotes, Move, pawn_told, TableValue, Mate}
-use Rattle.egt_check.specs.Prelude.{stand_on, AreGiven, AreLeapCodes, ArePassingCodes, AreStepCodes, IsOfFourKinds}
-use Rattle.egt_check.specs.Prelude.{IsPassingFrom, AreAdvancedCodes, ArePromotedCodes, IsAdvanceFrom}
-use Rattle.egt_check.specs.Prelude.{IsPromotingCaptureFrom, officer_of, IsTableAfter, IsTableOf, men_swapped}
-use Rattle.egt_check.specs.Prelude.{ArePawnScores, AreRaisedByPawns, HasPromotion, HasPromotions, IsPromotionScore}
-use Rattle.egt_check.specs.Prelude.{IsRaisedByPawn, Tables, IsPlainCapture, score_at, Promotion, Promotions, AreTwo}
-use Rattle.egt_check.specs.Prelude.{are_in, who}
+use Rattle.egt_check.specs.Prelude.{other_side, R, pawn_told, TableValue, officer_of, IsTableOf, men_swapped, Promotions}
+use Rattle.egt_check.specs.Prelude.{Stands, AreAdvancedCodes, ArePromotedCodes, IsPromotingCaptureFrom, AreRaisedByPawns}
+use Rattle.egt_check.specs.Prelude.{IsOccupiedBy, AreLeapCodes, AreStepCodes, IsTableAfter, HasPromotion, HasPromotions}
+use Rattle.egt_check.specs.Prelude.{one_man, Setup, Kind, B, Side, Zeroes, Leads, is_pawn, Move, Tables, AreTwo, are_in}
+use Rattle.egt_check.specs.Prelude.{Q, zeroing_score, ArePassingCodes, IsPromotionScore, IsRaisedByPawn, IsPlainCapture}
+use Rattle.egt_check.specs.Prelude.{N, P, Mate, who}
+use Rattle.egt_check.specs.Prelude.{Man, HasStand, ShelfMen, IsRaised, promotes, stand_on, AreGiven, score_at, Promotion}
+use Rattle.egt_check.specs.Prelude.{FitsPromotion, IsOfficer, IsOfFourKinds, IsPassingFrom, IsAdvanceFrom, ArePawnScores}
 use Rattle.egt_table.specs.declared.column.Column.TheVariants as columns
 use Rattle.egt_check.proofs.EitherGiven.{same_given, union_given}
 use Rattle.egt_check.proofs.ByteJudged.{zeroing_max}
@@ -39,9 +38,9 @@ IsPawnMove men side p b m = (men.last.kind ≡ P) × (men.last.side ≡ side) ×
 
 -- what the laws on moves of pawns say of this position, whose class names the last man first where `first`
 pub record PawnLaws (tables : Tables) (men : ShelfMen) (first : Bool) (side : Side) (a b : ℕ) (p : Setup) : Type 0 where
-  pub advances : (t : TableValue) (u v : ℕ) → IsTableAfter tables t first false men.one men.last → IsRaised 0 (AreStepCodes t.class first men side a b) (score_at t Mate) u → IsRaised 0 (AreLeapCodes t.class first men side a b) (score_at t Mate) v
+  pub advances : (t : TableValue) (u v : ℕ) → IsTableAfter tables t first false men.first men.last → IsRaised 0 (AreStepCodes t.class first men side a b) (score_at t Mate) u → IsRaised 0 (AreLeapCodes t.class first men side a b) (score_at t Mate) v
       → AreGiven tables p (IsAdvanceFrom p b None) (max u v) (zeroing_score (max u v))
-  pub promotions : (kind : Kind) (t : TableValue) (before flips : Bool) (w : ℕ) → IsTableAfter tables t before flips men.one (officer_of men.last.side kind) → IsRaised 0 (AreAdvancedCodes t.class before flips men side (Some kind) a b) (score_at t Mate) w
+  pub promotions : (kind : Kind) (t : TableValue) (before flips : Bool) (w : ℕ) → IsTableAfter tables t before flips men.first (officer_of men.last.side kind) → IsRaised 0 (AreAdvancedCodes t.class before flips men side (Some kind) a b) (score_at t Mate) w
       → AreGiven tables p (IsAdvanceFrom p b (Some kind)) w (zeroing_score w)
   pub captures : (kind : Kind) (t : TableValue) (flips : Bool) (w : ℕ) → IsTableOf tables t flips (officer_of side kind) → IsRaised 0 (ArePromotedCodes t.class flips men side kind a b) (score_at t Mate) w
       → AreGiven tables p (IsPromotingCaptureFrom p b kind) w (zeroing_score w)
@@ -59,7 +58,7 @@ module _ (tables : Tables) (men : ShelfMen) (first : Bool) (side : Side) (a b : 
         (laws.captures promotion.kind promotion.alone.now promotion.alone_flips score.taken (subst (λ (s : Side). IsTableOf tables promotion.alone.now promotion.alone_flips (officer_of s promotion.kind)) mine has.alone) score.taken_raised))
         score.is (λ q m leads is. is) (λ m is. inl is) (λ m is. inr is)
 
-    moves_given : (own : TableValue) (promotions : Promotions) (score : ℕ) → IsTableAfter tables own first false men.one men.last → HasPromotions tables promotions men
+    moves_given : (own : TableValue) (promotions : Promotions) (score : ℕ) → IsTableAfter tables own first false men.first men.last → HasPromotions tables promotions men
         → ArePawnScores columns.Mate own first promotions men side a b score → AreGiven tables p (IsMoveFrom p b) score (zeroing_score score)
     moves_given own promotions score after has s =
         let plain = laws.advances own s.stepped s.leapt after s.stepped_raised s.leapt_raised in
@@ -72,7 +71,7 @@ module _ (tables : Tables) (men : ShelfMen) (first : Bool) (side : Side) (a b : 
   none_given : ¬ ((men.last.kind ≡ P) × (men.last.side ≡ side)) → AreGiven tables p (IsPawnMove men side p b) 0 (zeroing_score 0)
   none_given none = record { above = λ q m leads is. absurd (none (is.0, is.1)); mate_given = inl refl; zeroing_given = inl refl }
 
-  pub raised_given : (men.last.kind ≡ P → men.last.side ≡ side → PawnLaws tables men first side a b p) → (own : TableValue) (promotions : Option Promotions) (high : ℕ) → IsTableAfter tables own first false men.one men.last
+  pub raised_given : (men.last.kind ≡ P → men.last.side ≡ side → PawnLaws tables men first side a b p) → (own : TableValue) (promotions : Option Promotions) (high : ℕ) → IsTableAfter tables own first false men.first men.last
       → IfSome promotions (λ kinds. HasPromotions tables kinds men) → IsRaisedByPawn columns.Mate own first promotions men side a b 0 high → AreGiven tables p (IsPawnMove men side p b) high (zeroing_score high)
   raised_given laws own promotions high after has (inl (same, none)) = subst (λ n. AreGiven tables p (IsPawnMove men side p b) n (zeroing_score n)) (sym same) (none_given none)
   raised_given laws own promotions high after has (inr (pawn, mine, kinds, some, score, scores, is)) =
@@ -110,16 +109,16 @@ IsEitherPassing men p a b m = IsPawnPassing men p b m ⊎ IsPawnPassing (men_swa
 abbrev pub IsLoud : ShelfMen → Side → Setup → (a b : ℕ) → Move → Type 0
 IsLoud men side p a b m = (IsPlainCapture p m ⊎ IsEitherPawnMove men side p a b m) ⊎ IsEitherPassing men p a b m
 
-module _ (c : ℕ) (men : ShelfMen) (side : Side) (passed : Bool) (a b : ℕ) (p : Setup) (has : HasStand c false (stand_on men a b) side passed p) where
-  there : AreTwo p.men men.white men.black men.one a men.last b
-  there = are_in c men false side passed a b p has
+module _ (c : ℕ) (men : ShelfMen) (side : Side) (targeted : Bool) (a b : ℕ) (p : Setup) (has : HasStand c false (stand_on men a b) side targeted p) where
+  there : AreTwo p.men men.white men.black men.first a men.last b
+  there = are_in c men false side targeted a b p has
 
   module _ (q : Setup) (m : Move) (leads : Leads p m q) (kinds : IsOfFourKinds p m.from m) where
     mine : leads.man.side ≡ side
     mine = leads.mine ∙ has.side_is
 
     -- the pawn is one of these two
-    whose : leads.man.kind ≡ P → ((m.from ≡ a) × (men.one.kind ≡ P) × (men.one.side ≡ side)) ⊎ ((m.from ≡ b) × (men.last.kind ≡ P) × (men.last.side ≡ side))
+    whose : leads.man.kind ≡ P → ((m.from ≡ a) × (men.first.kind ≡ P) × (men.first.side ≡ side)) ⊎ ((m.from ≡ b) × (men.last.kind ≡ P) × (men.last.side ≡ side))
     whose pawn = grind (arith, who, there, mine)
 
     by_pawn : leads.man.kind ≡ P → ((s : ℕ) → m.from ≡ s → IsMoveFrom p s m) → IsEitherPawnMove men side p a b m
@@ -132,7 +131,7 @@ module _ (c : ℕ) (men : ShelfMen) (side : Side) (passed : Bool) (a b : ℕ) (p
     by_passing pawn is = grind (arith, whose)
 
     -- a capture that promotes nothing, or a pawn's
-    captures : IsHeld p.men m.to (other_side p.side) → (promo : Option Kind) → m.promo ≡ promo → IsPlainCapture p m ⊎ IsEitherPawnMove men side p a b m
+    captures : IsOccupiedBy p.men m.to (other_side p.side) → (promo : Option Kind) → m.promo ≡ promo → IsPlainCapture p m ⊎ IsEitherPawnMove men side p a b m
     captures held promo is = grind (arith, fits_pawn, promotes, by_pawn)
 
     of_pawn : leads.man.kind ≡ P → IsLoud men side p a b m
@@ -154,8 +153,8 @@ module _ (c : ℕ) (men : ShelfMen) (side : Side) (passed : Bool) (a b : ℕ) (p
   last_zeroes : (m : Move) → men.last.kind ≡ P → m.from ≡ b → Zeroes p m
   last_zeroes m pawn from = inr (record { man = men.last; stands = subst (λ s. Stands p.men s men.last) (sym from) there.other_there; pawn = pawn })
 
-  one_zeroes : (m : Move) → men.one.kind ≡ P → m.from ≡ a → Zeroes p m
-  one_zeroes m pawn from = inr (record { man = men.one; stands = subst (λ s. Stands p.men s men.one) (sym from) there.one_there; pawn = pawn })
+  one_zeroes : (m : Move) → men.first.kind ≡ P → m.from ≡ a → Zeroes p m
+  one_zeroes m pawn from = inr (record { man = men.first; stands = subst (λ s. Stands p.men s men.first) (sym from) there.one_there; pawn = pawn })
 
   pub pawns_zero : (m : Move) → IsEitherPawnMove men side p a b m → Zeroes p m
   pawns_zero m h = grind (arith, last_zeroes, from_there, one_zeroes)
@@ -186,7 +185,7 @@ passing_of tables men side a b p t flips w law raised = by_kind (is_pawn men.las
 -- of either man
 pub passing_given : (tables : Tables) (men : ShelfMen) (side : Side) (a b : ℕ) (p : Setup) (first last : TableValue) (first_flips last_flips : Bool) (u v : ℕ)
     → (men.last.kind ≡ P → IsRaised 0 (ArePassingCodes last.class last_flips men side a b) (score_at last Mate) u → AreGiven tables p (IsPassingFrom p b) u (zeroing_score u))
-    → (men.one.kind ≡ P → IsRaised 0 (ArePassingCodes first.class first_flips (men_swapped men) side b a) (score_at first Mate) v → AreGiven tables p (IsPassingFrom p a) v (zeroing_score v))
+    → (men.first.kind ≡ P → IsRaised 0 (ArePassingCodes first.class first_flips (men_swapped men) side b a) (score_at first Mate) v → AreGiven tables p (IsPassingFrom p a) v (zeroing_score v))
     → IsRaised 0 (ArePassingCodes last.class last_flips men side a b) (score_at last Mate) u → IsRaised 0 (ArePassingCodes first.class first_flips (men_swapped men) side b a) (score_at first Mate) v
     → AreGiven tables p (IsEitherPassing men p a b) (max u v) (zeroing_score (max u v))
 passing_given tables men side a b p first last first_flips last_flips u v last_law first_law last_raised first_raised =
@@ -205,14 +204,14 @@ nothing_passing tables men a b p none = record {
 -- ---- all moves that zero
 
 -- the captures, and the pawns' other moves
-pub loud_given : (tables : Tables) (c : ℕ) (men : ShelfMen) (side : Side) (passed : Bool) (a b : ℕ) (p : Setup) → HasStand c false (stand_on men a b) side passed p
+pub loud_given : (tables : Tables) (c : ℕ) (men : ShelfMen) (side : Side) (targeted : Bool) (a b : ℕ) (p : Setup) → HasStand c false (stand_on men a b) side targeted p
     → ((q : Setup) (m : Move) → Leads p m q → IsOfFourKinds p m.from m) → (own : TableValue) (first last : Option Promotions) (taken pawns passing : ℕ)
-    → (men.last.kind ≡ P → men.last.side ≡ side → PawnLaws tables men false side a b p) → (men.one.kind ≡ P → men.one.side ≡ side → PawnLaws tables (men_swapped men) true side b a p)
-    → IsTableAfter tables own false false men.one men.last
+    → (men.last.kind ≡ P → men.last.side ≡ side → PawnLaws tables men false side a b p) → (men.first.kind ≡ P → men.first.side ≡ side → PawnLaws tables (men_swapped men) true side b a p)
+    → IsTableAfter tables own false false men.first men.last
     → IfSome first (λ kinds. HasPromotions tables kinds (men_swapped men)) → IfSome last (λ kinds. HasPromotions tables kinds men) → AreGiven tables p (IsPlainCapture p) taken (zeroing_score taken)
     → AreRaisedByPawns columns.Mate own first last men side a b pawns → AreGiven tables p (IsEitherPassing men p a b) passing (zeroing_score passing)
     → AreGiven tables p (Zeroes p) (max (max taken pawns) passing) (zeroing_score (max (max taken pawns) passing))
-loud_given tables c men side passed a b p has kinds own first last taken pawns passing last_laws first_laws after has_first has_last captures s by_passing =
+loud_given tables c men side targeted a b p has kinds own first last taken pawns passing last_laws first_laws after has_first has_last captures s by_passing =
     either_zeroing tables p (Zeroes p) (λ m. IsPlainCapture p m ⊎ IsEitherPawnMove men side p a b m) (IsEitherPassing men p a b) (max taken pawns) passing (max (max taken pawns) passing)
     (either_zeroing tables p (λ m. IsPlainCapture p m ⊎ IsEitherPawnMove men side p a b m) (IsPlainCapture p) (IsEitherPawnMove men side p a b) taken pawns (max taken pawns) captures
     (either_zeroing tables p (IsEitherPawnMove men side p a b) (IsPawnMove men side p b) (IsPawnMove (men_swapped men) side p a) s.by_last s.by_first pawns
@@ -221,5 +220,5 @@ loud_given tables c men side passed a b p has kinds own first last taken pawns p
     (record { is_table = after.is_table; found = after.found; bytes = after.bytes; class_after = after.class_after }) has_first s.first_is)
     s.is (λ q m leads is. is) (λ m is. inl is) (λ m is. inr is))
     refl (λ q m leads is. is) (λ m is. inl is) (λ m is. inr is))
-    by_passing refl (λ q m leads zeroes. zeroing_moves c men side passed a b p has q m leads (kinds q m leads) zeroes)
-    (λ m is. elim is [ inl takes ↦ inl takes.0 | inr pawns ↦ pawns_zero c men side passed a b p has m pawns ]) (passing_zeroes c men side passed a b p has)
+    by_passing refl (λ q m leads zeroes. zeroing_moves c men side targeted a b p has q m leads (kinds q m leads) zeroes)
+    (λ m is. elim is [ inl takes ↦ inl takes.0 | inr pawns ↦ pawns_zero c men side targeted a b p has m pawns ]) (passing_zeroes c men side targeted a b p has)

@@ -1,13 +1,11 @@
 -- The tables of the classes that promotions lead to, wherever the kings stand.
-use Rattle.std.proofs.Common.{◌≡◌, ◌≢◌, ℕ, ◌<◌, Bool, [], ◌∷◌, Option, Some, None, IfSome, arith, sym, ap}
-use Rattle.std.proofs.Common.{◌∙◌, subst}
-use Rattle.egt_check.specs.Prelude.{king_of, Setup, turned_man, White, Black, material_of, IsOf, AreNonKings}
-use Rattle.egt_check.specs.Prelude.{men_in_order, Man, AreMenOf, ShelfMen, arriving, HasColumn, TableValue, Column}
-use Rattle.egt_check.specs.Prelude.{with_kings, AreChildren, AreFourMen, AreTablesOf, IsShelved, column_of}
-use Rattle.egt_check.specs.Prelude.{promotions_in, some_promotions_in, table_in, tables_in, IsClassAfter, men_after}
-use Rattle.egt_check.specs.Prelude.{IsTableAfter, men_swapped, AreNamed, ArePromotionsOf, HasPromotion, HasPromotions}
-use Rattle.egt_check.specs.Prelude.{IsPromotionOf, Tables, beside, HasBytes, Children, FourMen, Part, Values, Reach}
-use Rattle.egt_check.specs.Prelude.{Promotion, Promotions}
+use Rattle.std.proofs.Common.{◌≡◌, ◌≢◌, ℕ, ◌<◌, Bool, [], ◌∷◌, Option, Some, None, IfSome, arith, sym, ap, ◌∙◌, subst}
+use Rattle.egt_check.specs.Prelude.{king_of, turned_man, material_of, AreNonKings, AreChildren, AreTablesOf, men_swapped}
+use Rattle.egt_check.specs.Prelude.{Setup, White, Black, Man, Column, Tables, beside, Children, Part, Values, Reach}
+use Rattle.egt_check.specs.Prelude.{IsOf, HasColumn, TableValue, with_kings, IsShelved, column_of, tables_in, Promotions}
+use Rattle.egt_check.specs.Prelude.{men_in_order, IsClassAfter, IsTableAfter, HasPromotion, IsPromotionOf, FourMenTables}
+use Rattle.egt_check.specs.Prelude.{AreMenOf, ShelfMen, arriving, table_in, men_after, AreNamed, HasBytes, Promotion}
+use Rattle.egt_check.specs.Prelude.{AreFourMenTables, promotions_in, some_promotions_in, ArePromotionsOf, HasPromotions}
 use Rattle.egt_check.proofs.NearReading.{is_table_in}
 use Rattle.egt_check.proofs.TablePairs.{found_beside}
 
@@ -53,10 +51,10 @@ module _ (men : ShelfMen) (white black : ℕ) where
     same = are.same;
   }
 
-  pub four_there : (column : Column) (four : FourMen) → AreFourMen column four men → AreFourMen column four (with_kings men white black)
+  pub four_there : (column : Column) (four : FourMenTables) → AreFourMenTables column four men → AreFourMenTables column four (with_kings men white black)
   four_there column four are = grind (arith, children_there)
 
-  pub tables_of_there : (tables : Tables) (four : FourMen) → AreTablesOf tables four men → AreTablesOf tables four (with_kings men white black)
+  pub tables_of_there : (tables : Tables) (four : FourMenTables) → AreTablesOf tables four men → AreTablesOf tables four (with_kings men white black)
   tables_of_there tables four are = grind (arith, tables_there, men_swapped)
 
 -- ---- the table of a class that a promotion leads to
@@ -65,7 +63,7 @@ module _ (men : ShelfMen) (white black : ℕ) where
 beside_swapped : (p : Setup) (one other : Option Man) → AreNonKings p one other → AreNonKings p other one
 beside_swapped p one other is = record { kings = is.kings; others = λ man beside. let count = is.others man beside in omega (arith, count); first_other = is.second_other; second_other = is.first_other }
 
-in_order : (c : ℕ) (men : ShelfMen) (next last : Man) → AreMenOf c men → men.one ≡ next → men.last ≡ last → men_in_order (material_of c) ≡ king_of White ∷ king_of Black ∷ next ∷ last ∷ []
+in_order : (c : ℕ) (men : ShelfMen) (next last : Man) → AreMenOf c men → men.first ≡ next → men.last ≡ last → men_in_order (material_of c) ≡ king_of White ∷ king_of Black ∷ next ∷ last ∷ []
 in_order c men next last are one_is last_is = sym are.are ∙ ap (λ (m : Man). king_of White ∷ king_of Black ∷ m ∷ men.last ∷ []) one_is ∙ ap (λ (m : Man). king_of White ∷ king_of Black ∷ next ∷ m ∷ []) last_is
 
 class_after : (before : Bool) (c : ℕ) (flips : Bool) (one man : Man) (men : ShelfMen) → c < 36 → ((p : Setup) → AreNonKings p (Some one) (Some man) → IsOf c flips p) → AreMenOf c men

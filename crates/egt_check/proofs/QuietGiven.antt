@@ -1,12 +1,11 @@
 -- The greatest scores of the codes of quiet steps are those of the quiet moves.
 use Rattle.std.proofs.Common.{◌≡◌, ℕ, ◌%◌, ◌<◌, ◌≤◌, false, Some, arith, sym, ap, inl, inr, subst}
-use Rattle.egt_check.specs.Prelude.{Setup, Side, IsIndex, AllStand, HasStand, IsSomeTurnedCode, list_of}
-use Rattle.egt_check.specs.Prelude.{ShelfMen, Stand, IsRaised, byte_score, Zeroes, Leads, Move, IsTable, TableValue}
-use Rattle.egt_check.specs.Prelude.{Metric, Mate, Zeroing, stand_on, with_king, Facts, AreAlike, AreGiven, HasScores}
-use Rattle.egt_check.specs.Prelude.{IsQuietAlone, IsQuietStand, stand_alone, HasEntry, Tables, entry_at, HasBytes}
-use Rattle.egt_check.specs.Prelude.{IsBestOf, score_at}
+use Rattle.egt_check.specs.Prelude.{Setup, Side, Stand, Leads, Move, IsTable, Metric, Mate, Zeroing, Facts, Tables}
+use Rattle.egt_check.specs.Prelude.{IsIndex, list_of, Zeroes, AreGiven, HasEntry, entry_at, HasBytes, IsBestOf, score_at}
+use Rattle.egt_check.specs.Prelude.{AllStand, HasStand, ShelfMen, IsRaised, stand_on, with_king, AreAlike, HasScores}
+use Rattle.egt_check.specs.Prelude.{IsSomeTurnedCode, byte_score, TableValue, IsQuietAlone, IsQuietStand, stand_alone}
 use Rattle.egt_check.proofs.Told.{entry_there}
-use Rattle.egt_check.proofs.Worth.{AreWhole, Turning, best_of}
+use Rattle.egt_check.proofs.GreatestScores.{AreWhole, Turning, best_of}
 
 pub low_score : (e : ℕ) → e < 254 → byte_score (e % 256) ≡ byte_score e
 low_score e low = let same : e % 256 ≡ e = omega arith in ap byte_score same

@@ -1,9 +1,8 @@
--- What the column of the nearest mates shows of positions, as a function.
+-- The column of the nearest mates as a function of positions.
 use Rattle.std.proofs.Common.{◌≡◌, ◌≢◌, ℕ, zero, suc, ◌-◌, ◌≤◌, ◌↔◌, false, nat_lt, le-ltb, if◌then◌else◌, Option, Some}
 use Rattle.std.proofs.Common.{None, refl, sym, ap, ◌∙◌, subst, inl, inr, arith}
-use Rattle.egt_check.specs.Prelude.{cases_eq, Decided, decided_admissible, AreImages, Setup, IsAdmissible, IsIndex}
-use Rattle.egt_check.specs.Prelude.{TableValue, longest, Facts, HasReachEntry, ShowsReach, ShowsReachOf, Tables}
-use Rattle.egt_check.specs.Prelude.{reach_at}
+use Rattle.egt_check.specs.Prelude.{cases_eq, Decided, Setup, IsIndex, longest, Facts, ShowsReach, Tables, reach_at}
+use Rattle.egt_check.specs.Prelude.{decided_admissible, AreImages, IsAdmissible, TableValue, HasReachEntry, ShowsReachOf}
 use Rattle.egt_check.proofs.Alike.{image_index}
 
 -- the number that an entry shows, if it shows one

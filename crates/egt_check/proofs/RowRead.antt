@@ -1,11 +1,10 @@
 -- The entries of a shelf, read by the last man's square.
 use Rattle.std.proofs.Common.{◌≡◌, ℕ, ◌+◌, ◌-◌, ◌*◌, ◌%◌, ◌<◌, ◌≤◌, ◌⊎◌, Bool, true, false, List, take, drop, arith}
 use Rattle.std.proofs.Common.{sym, ap, ◌∙◌, slice_index}
-use Rattle.egt_check.specs.Prelude.{false≢true, side_number, Side, material_of, code_of, places, kind_digits, kind_less}
-use Rattle.egt_check.specs.Prelude.{IsShelf, IsWithin, number_in, has_target, ShelfMen, code_plain, is_pawn, TableValue}
-use Rattle.egt_check.specs.Prelude.{entries_of, Column, IsShelfRow, column_score, entry_score, bit_few, bit_of}
-use Rattle.egt_check.specs.Prelude.{code_in_shelf, pawn_digits, pawn_of_digits, piece_at, piece_digits, places_is}
-use Rattle.egt_check.specs.Prelude.{side_few}
+use Rattle.egt_check.specs.Prelude.{false≢true, kind_digits, kind_less, has_target, code_plain, entry_score, pawn_digits}
+use Rattle.egt_check.specs.Prelude.{side_number, material_of, column_score, code_in_shelf, pawn_of_digits, piece_digits}
+use Rattle.egt_check.specs.Prelude.{Side, code_of, IsShelf, is_pawn, Column, bit_few, bit_of, piece_at, side_few}
+use Rattle.egt_check.specs.Prelude.{places, IsWithin, number_in, ShelfMen, TableValue, entries_of, IsShelfRow, places_is}
 use Rattle.egt_table.specs.declared.column.Column.TheVariants as columns
 
 -- no position has no score
@@ -59,27 +58,27 @@ module _ (t : TableValue) (column : Column) (men : ShelfMen) (shelf : ℕ) (side
         }
 
   -- of the class with targets
-  module _ (passed : Bool) (has : has_target (material_of t.class) ≡ true) (within : IsWithin t.class shelf) (piece : List ℕ) (first : ℕ) (first_is : first + bit_of passed ≡ code_of t.class (shelf * (2 * places t.class)))
+  module _ (targeted : Bool) (has : has_target (material_of t.class) ≡ true) (within : IsWithin t.class shelf) (piece : List ℕ) (first : ℕ) (first_is : first + bit_of targeted ≡ code_of t.class (shelf * (2 * places t.class)))
       (piece_is : piece ≡ take (first + 192 - first) (drop first entries)) where
-    pub of_targets : ((s : ℕ) → 8 ≤ s → s < 56 → slice_index loaded s ≡ slice_index piece (4 * (s - 8) + 2 * side_number side + bit_of passed)) → ((s : ℕ) → s < 64 → (s < 8) ⊎ (56 ≤ s) → slice_index loaded s ≡ 0) → Row
+    pub of_targets : ((s : ℕ) → 8 ≤ s → s < 56 → slice_index loaded s ≡ slice_index piece (4 * (s - 8) + 2 * side_number side + bit_of targeted)) → ((s : ℕ) → s < 64 → (s < 8) ⊎ (56 ≤ s) → slice_index loaded s ≡ 0) → Row
     of_targets middle edge =
         let few = side_few side in
-        let bit : bit_of passed < 2 = bit_few passed in
+        let bit : bit_of targeted < 2 = bit_few targeted in
         let len : kind_digits men.last.kind ≡ 48 = sym is.len ∙ places_is t.class has in
         let pawn = pawn_of_digits men.last.kind len in record {
           digits = λ digit below.
-              let k : ℕ = 4 * digit + 2 * side_number side + bit_of passed in
+              let k : ℕ = 4 * digit + 2 * side_number side + bit_of targeted in
               let square : digit + kind_less men.last.kind ≡ digit + 8 = omega (arith, pawn.1) in
               let back : digit + 8 - 8 ≡ digit = omega arith in
               let s_in : digit + 8 < 56 = omega (arith, below, len) in
               let k_in : k < 192 = omega (arith, below, len, few, bit) in
-              let from = middle (digit + 8) (omega arith) s_in ∙ ap (λ d. slice_index piece (4 * d + 2 * side_number side + bit_of passed)) back in
+              let from = middle (digit + 8) (omega arith) s_in ∙ ap (λ d. slice_index piece (4 * d + 2 * side_number side + bit_of targeted)) back in
               ap (slice_index row) square
               ∙ lane (digit + 8) (first + k) (code_of t.class (number_in t.class shelf side digit)) (omega (arith, s_in)) (from ∙ ap (λ (l : List ℕ). slice_index l k) piece_is ∙ piece_at entries first 192 k k_in) (place digit (omega (arith, below, len)));
           edges = λ pawn s s_in past. none s s_in (edge s s_in past);
         }
       where
-        place : (digit : ℕ) → digit < 48 → first + (4 * digit + 2 * side_number side + bit_of passed) ≡ code_of t.class (number_in t.class shelf side digit)
+        place : (digit : ℕ) → digit < 48 → first + (4 * digit + 2 * side_number side + bit_of targeted) ≡ code_of t.class (number_in t.class shelf side digit)
         place digit below =
             let few = side_few side in
             let number : number_in t.class shelf side digit ≡ shelf * (2 * places t.class) + (side_number side + 2 * digit) = omega arith in

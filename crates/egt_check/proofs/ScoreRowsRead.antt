@@ -1,12 +1,11 @@
 -- The scores of codes, read from rows and put in them.
 use Rattle.std.proofs.Common.{◌≡◌, ◌⊎◌, ℕ, ◌+◌, ◌*◌, ◌/◌, ◌%◌, ◌<◌, ◌≤◌, ◌∙◌, if◌then◌else◌, ◌==◌, List, [], length}
 use Rattle.std.proofs.Common.{set, replicate, slice_index, arith, sym, ap, subst, inl, inr, slice_index_or}
-use Rattle.egt_check.specs.Prelude.{bit_at, cases_eq, cases_lt, bit_at-lt, get_or-replicate, get_or-set_other}
-use Rattle.egt_check.specs.Prelude.{get_or-set_same, nat_tests, get_or-map-range_with_len, length-map-range_with_len}
-use Rattle.egt_check.specs.Prelude.{div-add-mod', div_below, mod_below, get_or-eq_default, length-replicate}
-use Rattle.egt_check.specs.Prelude.{side_number, Has, Man, Side, SquareSet, code_of, number_of, places, kind_digits}
-use Rattle.egt_check.specs.Prelude.{kind_less, AreMenOf, IsShelf, IsWithin, number_in, size_of, ShelfMen, side_few}
-use Rattle.egt_check.specs.Prelude.{square_in, IsShelfRow}
+use Rattle.egt_check.specs.Prelude.{bit_at, Has, Man, code_of, places, IsShelf, size_of, ShelfMen, side_few}
+use Rattle.egt_check.specs.Prelude.{cases_eq, cases_lt, number_of, kind_less, AreMenOf, IsWithin, number_in, square_in}
+use Rattle.egt_check.specs.Prelude.{bit_at-lt, nat_tests, div_below, mod_below, Side, SquareSet, kind_digits, IsShelfRow}
+use Rattle.egt_check.specs.Prelude.{get_or-replicate, get_or-set_other, get_or-set_same, div-add-mod', length-replicate}
+use Rattle.egt_check.specs.Prelude.{get_or-map-range_with_len, length-map-range_with_len, get_or-eq_default, side_number}
 use Rattle.egt_check.specs.ScoreRows.{AreWholeRows, IsLaneIn, IsMaskOf, score_of, scores_in}
 
 module _ (c less shelves : ℕ) (rows : List (List ℕ)) where

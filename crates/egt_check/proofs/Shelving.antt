@@ -7,7 +7,7 @@ use Rattle.egt_check.specs.Prelude.{length-set, get_or_append_left, get_or-appen
 use Rattle.egt_check.specs.Prelude.{TableValue, IsTable, Reject, Missing, NoReach, Rejected, AlreadyThere, IsLibrary}
 use Rattle.egt_check.specs.Prelude.{IsRefused, IsShelved, IsTurnedAway, ReachesDown, Tables, table_at, beside}
 use Rattle.egt_check.specs.Prelude.{HasChildren, IsAccepted, IsTrueTable, HasTrueChildren, KeepsRules}
-use Rattle.egt_check.proofs.Finding.{lower, beside_own, beside_other}
+use Rattle.egt_check.proofs.TableFound.{lower, beside_own, beside_other}
 
 abbrev pub Places : Type 0
 Places = List (Option TableValue)

@@ -1,4 +1,4 @@
--- What tables show of positions.
+-- Values that tables show of positions.
 use Rattle.std.proofs.Common.{◌≡◌, ℕ, Option, Some, None, sym, ap, subst, ◌∙◌}
 use Rattle.egt_check.specs.Prelude.{Setup, IsAdmissible, IsIndex, chess, Metric, Outcome, Shows, Facts, IsShownBy}
 use Rattle.egt_check.specs.Prelude.{Tables, entry_at, HasEntry, ShowsOf, IsOne, IsShownOf, shown_once}

@@ -5,7 +5,7 @@ use Rattle.egt_check.specs.Prelude.{ne_eqb, cases_lt, Setup, turned_man, side_nu
 use Rattle.egt_check.specs.Prelude.{White, Black, IsOf, AreNonKings, IsLoneMan, code_of, places, kind_digits}
 use Rattle.egt_check.specs.Prelude.{number_in, HasColumn, TableValue, Part, column_of, table_in, tables_in}
 use Rattle.egt_check.specs.Prelude.{IsShelved, Tables, beside, IsTableOf, HasBytes}
-use Rattle.egt_check.proofs.Finding.{beside_other}
+use Rattle.egt_check.proofs.TableFound.{beside_other}
 use Rattle.egt_check.proofs.NearReading.{found_in, is_table_in}
 
 -- a code of shelves that each have so many digits

@@ -1,16 +1,15 @@
 -- The greatest scores of the codes after captures are those of the captures.
 use Rattle.std.proofs.Common.{◌≡◌, ℕ, ◌<◌, ◌⊎◌, ◌↔◌, if◌then◌else◌, max, Bool, true, false, refl, sym, ap, ◌∙◌, inl}
 use Rattle.std.proofs.Common.{inr, subst}
-use Rattle.egt_check.specs.Prelude.{Reaches-on_board, other_side, Setup, IsAdmissible, Man, Side, White, Black}
-use Rattle.egt_check.specs.Prelude.{AllStand, HasStand, list_of, IsSomeTurnedCode, ShelfMen, Stand, IsRaised}
-use Rattle.egt_check.specs.Prelude.{zeroing_score, raised_as, leads_to_one, Leads, Move, TableValue, Mate, IsBesideKing}
-use Rattle.egt_check.specs.Prelude.{stand_on, with_king, Facts, AreGiven, IsTableOf, AreLeftCodes, IsLastTaken}
-use Rattle.egt_check.specs.Prelude.{men_swapped, IsClassOf, IsPlainCapture, IsTaken, Left, left_of, stand_left, Tables}
-use Rattle.egt_check.specs.Prelude.{score_at}
+use Rattle.egt_check.specs.Prelude.{Reaches-on_board, IsAdmissible, Man, IsSomeTurnedCode, zeroing_score, IsPlainCapture}
+use Rattle.egt_check.specs.Prelude.{other_side, Side, leads_to_one, IsBesideKing, AreLeftCodes, IsLastTaken, men_swapped}
+use Rattle.egt_check.specs.Prelude.{Setup, HasStand, list_of, ShelfMen, IsRaised, stand_on, AreGiven, IsTaken, score_at}
+use Rattle.egt_check.specs.Prelude.{White, Black, Stand, Leads, Move, Mate, Facts, Left, left_of}
+use Rattle.egt_check.specs.Prelude.{AllStand, raised_as, TableValue, with_king, IsTableOf, IsClassOf, stand_left, Tables}
 use Rattle.egt_check.proofs.ByteJudged.{zeroing_max}
 use Rattle.egt_check.proofs.EitherGiven.{union_given}
 use Rattle.egt_check.proofs.PartGiven.{Parts, part_given}
-use Rattle.egt_check.proofs.Worth.{AreWhole, Turning}
+use Rattle.egt_check.proofs.GreatestScores.{AreWhole, Turning}
 
 -- one position after each capture that leaves a man, and one capture before it
 pub record Takes (c : ℕ) (men : ShelfMen) (side : Side) (a b : ℕ) (p : Setup) : Type 0 where
@@ -20,15 +19,15 @@ pub record Takes (c : ℕ) (men : ShelfMen) (side : Side) (a b : ℕ) (p : Setup
 -- ---- the captures that leave one man
 
 module _ (facts : Facts) (turning : Turning) (tables : Tables) (p : Setup) (ok : IsAdmissible p) (men : ShelfMen) (white_in : men.white < 64) (black_in : men.black < 64) (side : Side) (a b : ℕ) (one_in : a < 64) (t : TableValue) (flips : Bool)
-    (is : IsTableOf tables t flips men.one) where
+    (is : IsTableOf tables t flips men.first) where
   -- the men of some capture of the last man
   abbrev pub After : Stand → Type 0
   After stand = (left : Left) × IsLastTaken men side a b left × (stand ≡ stand_left flips left)
 
-  on_board : (white black s : ℕ) → white < 64 → black < 64 → s < 64 → AreWhole (stand_left flips (record { white = white; black = black; man = men.one; square = s }))
+  on_board : (white black s : ℕ) → white < 64 → black < 64 → s < 64 → AreWhole (stand_left flips (record { white = white; black = black; man = men.first; square = s }))
   on_board white black s w k o = record {
     filled = λ none. let e = none in cc;
-    on_board = record { white = either flips black white k w; black = either flips white black w k; next = o; last = tt };
+    on_board = record { white = either flips black white k w; black = either flips white black w k; first = o; last = tt };
   }
     where
       either : (f : Bool) (x y : ℕ) → x < 64 → y < 64 → (if f then x else y) < 64
@@ -38,10 +37,10 @@ module _ (facts : Facts) (turning : Turning) (tables : Tables) (p : Setup) (ok :
   whole : (stand : Stand) → After stand → AreWhole stand
   whole stand (left, inl (of, beside, is), e) = subst AreWhole (sym (e ∙ ap (stand_left flips) is)) (of_side side)
     where
-      of_side : (s : Side) → AreWhole (stand_left flips (left_of (with_king men s b) men.one a))
+      of_side : (s : Side) → AreWhole (stand_left flips (left_of (with_king men s b) men.first a))
       of_side White = on_board b men.black a beside.0 black_in one_in
       of_side Black = on_board men.white b a white_in beside.0 one_in
-  whole stand (left, inr (of, other, reaches, is), e) = subst AreWhole (sym (e ∙ ap (stand_left flips) is)) (on_board men.white men.black b white_in black_in (Reaches-on_board _ men.one a b reaches))
+  whole stand (left, inr (of, other, reaches, is), e) = subst AreWhole (sym (e ∙ ap (stand_left flips) is)) (on_board men.white men.black b white_in black_in (Reaches-on_board _ men.first a b reaches))
 
   abbrev pub HasLeft : Left → Setup → Type 0
   HasLeft left q = HasStand t.class flips (stand_left flips left) (other_side side) false q
@@ -86,13 +85,13 @@ left_same men Black k man s = refl
 
 -- ---- both classes
 
-module _ (facts : Facts) (turning : Turning) (tables : Tables) (c : ℕ) (men : ShelfMen) (side : Side) (passed : Bool) (a b : ℕ) (p : Setup) (has : HasStand c false (stand_on men a b) side passed p) (takes : Takes c men side a b p)
-    (first : TableValue) (first_flips : Bool) (is_first : IsTableOf tables first first_flips men.one) (last : TableValue) (last_flips : Bool) (is_last : IsTableOf tables last last_flips men.last) where
+module _ (facts : Facts) (turning : Turning) (tables : Tables) (c : ℕ) (men : ShelfMen) (side : Side) (targeted : Bool) (a b : ℕ) (p : Setup) (has : HasStand c false (stand_on men a b) side targeted p) (takes : Takes c men side a b p)
+    (first : TableValue) (first_flips : Bool) (is_first : IsTableOf tables first first_flips men.first) (last : TableValue) (last_flips : Bool) (is_last : IsTableOf tables last last_flips men.last) where
   pub apart : AllStand false p.men (list_of (stand_on men a b))
   apart = has.stood.all
 
   -- a capture of the last man, and of the first
-  taken_last : (left : Left) → IsLastTaken men side a b left → IsTaken men side a b left × (left.man ≡ men.one)
+  taken_last : (left : Left) → IsLastTaken men side a b left → IsTaken men side a b left × (left.man ≡ men.first)
   taken_last left (inl h) = (inr (inl h), ap (λ (l : Left). l.man) h.2)
   taken_last left (inr h) = (inr (inr (inl h)), ap (λ (l : Left). l.man) h.3)
 
@@ -100,7 +99,7 @@ module _ (facts : Facts) (turning : Turning) (tables : Tables) (c : ℕ) (men : 
   taken_first left (inl h) = (inl (h.0, (king_as men side a).0 h.1, h.2 ∙ left_same men side a men.last b), ap (λ (l : Left). l.man) h.2)
   taken_first left (inr h) = (inr (inr (inr (h.0, h.1, h.2, h.3))), ap (λ (l : Left). l.man) h.3)
 
-  either : (left : Left) → IsTaken men side a b left → (IsLastTaken men side a b left × (left.man ≡ men.one)) ⊎ (IsLastTaken (men_swapped men) side b a left × (left.man ≡ men.last))
+  either : (left : Left) → IsTaken men side a b left → (IsLastTaken men side a b left × (left.man ≡ men.first)) ⊎ (IsLastTaken (men_swapped men) side b a left × (left.man ≡ men.last))
   either left (inl h) = inr (inl (h.0, (king_as men side a).1 h.1, h.2 ∙ sym (left_same men side a men.last b)), ap (λ (l : Left). l.man) h.2)
   either left (inr (inl h)) = inl (inl h, ap (λ (l : Left). l.man) h.2)
   either left (inr (inr (inl h))) = inl (inr h, ap (λ (l : Left). l.man) h.3)

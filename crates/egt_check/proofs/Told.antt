@@ -1,4 +1,4 @@
--- What tables show of positions, as a function.
+-- Tables as a function of positions.
 use Rattle.std.proofs.Common.{◌≡◌, ℕ, Option, Some, None, sym, ap, ◌∙◌, subst, inl, inr, Bool, ◌<◌, refl}
 use Rattle.egt_check.specs.Prelude.{Decided, IsOf, decided_admissible, Setup, IsAdmissible, IsIndex, Value, Draw}
 use Rattle.egt_check.specs.Prelude.{Metric, TableValue, Facts, Tables, entry_at, HasEntry, ShowsOf, read, read_shown}

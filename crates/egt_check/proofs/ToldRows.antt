@@ -1,4 +1,4 @@
--- What the entries that rows of scores tell come to at one lane. A mask's lane is 65535 or 0.
+-- The entries that rows of scores tell, at one lane. A mask's lane is 65535 or 0.
 use Rattle.std.proofs.Common.{◌≡◌, ℕ, zero, suc, ◌+◌, ◌<◌, ◌-◌, ◌%◌, ◌^◌, cond, eqb, ltb, List, [], ◌∷◌, map, length}
 use Rattle.std.proofs.Common.{get_or, replicate, arith, Fits, w8}
 use Rattle.egt_check.specs.Prelude.{agreed, near_told, value_told}

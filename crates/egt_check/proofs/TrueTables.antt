@@ -1,12 +1,11 @@
 -- Where the children's columns of wins and losses are true, a table's keep the rules exactly where they are true.
 use Rattle.std.proofs.Common.{◌≡◌, ◌≢◌, ℕ, zero, suc, ◌<◌, ◌≤◌, ◌⊎◌, ◌↔◌, Bool, IsTrue, Some, refl, sym, subst, inl}
 use Rattle.std.proofs.Common.{inr, arith}
-use Rattle.egt_check.specs.Prelude.{cases_eq, cases_lt, ⊎_elim, ⊎_map, Contains, Decided, tells, tells_so, tells_where}
-use Rattle.egt_check.specs.Prelude.{decided_admissible, Setup, IsAdmissible, children_of, IsOf, IsIndex, IsVoid}
-use Rattle.egt_check.specs.Prelude.{size_of, Value, Win, Loss, Draw, chess, Metric, Mate, Zeroing, TableValue, IsTable}
-use Rattle.egt_check.specs.Prelude.{Rule, StepAlike, Shows, Facts, Shown, FitsBeside, Tables, entry_at, ShowsOf, Tells}
-use Rattle.egt_check.specs.Prelude.{HasTrueValues, HasTrueValuesBelow, ShownAlike, PlaysLike, carry, in_range}
-use Rattle.egt_check.specs.Prelude.{shown_range}
+use Rattle.egt_check.specs.Prelude.{cases_eq, cases_lt, ⊎_elim, Contains, Decided, tells_so, IsIndex, entry_at, in_range}
+use Rattle.egt_check.specs.Prelude.{⊎_map, tells, Setup, IsVoid, size_of, Win, Metric, Zeroing, IsTable, Tables, ShowsOf}
+use Rattle.egt_check.specs.Prelude.{tells_where, decided_admissible, IsAdmissible, HasTrueValues, HasTrueValuesBelow}
+use Rattle.egt_check.specs.Prelude.{children_of, TableValue, StepAlike, FitsBeside, ShownAlike, PlaysLike, shown_range}
+use Rattle.egt_check.specs.Prelude.{IsOf, Value, Loss, Draw, chess, Mate, Rule, Shows, Facts, Shown, Tells, carry}
 use Rattle.egt_moves.specs.Entries as entries
 use Rattle.egt_entries.specs.declared.rule.Rule.TheVariants as rules
 use Rattle.egt_entries.specs.Rules.{Fits, Keeps, KeepsBelow}

@@ -5,7 +5,7 @@ use Rattle.egt_check.specs.Prelude.{entries_or_none, Mate, Zeroing, Part, Values
 use Rattle.egt_check.specs.Prelude.{HasBytes, column_score, ScoresNoVoids}
 use Rattle.egt_table.specs.declared.column.Column.TheVariants as columns
 use Rattle.egt_check.proofs.NearReading.{near, near_at}
-use Rattle.egt_check.proofs.Worth.{void_score}
+use Rattle.egt_check.proofs.GreatestScores.{void_score}
 
 -- an entry of the nearest mates is 0 where the one that is read of it is
 void_reach : (t : TableValue) → IsTable t → HasColumn columns.Reach t → HasBytes (near t) → (code : ℕ) → IsVoid t.class code → reach_at t code ≡ 0

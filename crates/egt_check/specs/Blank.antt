@@ -13,4 +13,4 @@ pub record IsBlank (t : TableValue) (column : Column) (i : ℕ) : Type 0 where
 
 -- so are those of the shelves from this one on, with that side to move: one shelf for each digit of the first man
 abbrev pub AreBlank : TableValue → Column → ShelfMen → (first : ℕ) → Side → Type 0
-AreBlank t column men first side = (x y : ℕ) → x < kind_digits men.one.kind → y < kind_digits men.last.kind → IsBlank t column (code_of t.class (number_in t.class (first + x) side y))
+AreBlank t column men first side = (x y : ℕ) → x < kind_digits men.first.kind → y < kind_digits men.last.kind → IsBlank t column (code_of t.class (number_in t.class (first + x) side y))

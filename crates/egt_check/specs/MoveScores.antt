@@ -15,24 +15,24 @@ use Rattle.egt_check.specs.PawnScores.{ArePromotionsOf, AreRaisedByPawns, HasPro
 use Rattle.egt_check.specs.Taken.{IsTableOf}
 use Rattle.egt_check.specs.Worth.{HasBytes, column_score, score_at}
 use Rattle.egt_check.specs.declared.move_scores.Children.{Children}
-use Rattle.egt_check.specs.declared.move_scores.FourMen.{FourMen}
+use Rattle.egt_check.specs.declared.move_scores.FourMenTables.{FourMenTables}
 use Rattle.egt_table.specs.declared.column.Column.TheVariants as columns
 
 -- the tables are those of the classes that the moves of these men lead to when they leave their own, and have the column
 pub record AreChildren (column : Column) (children : Children) (men : ShelfMen) : Type 0 where
   pub first_there : HasColumn column children.first.now
   pub last_there : HasColumn column children.last.now
-  pub one : men.one.kind ≢ K
+  pub one : men.first.kind ≢ K
   pub last : men.last.kind ≢ K
-  pub first_left : IsLoneMan children.first.now.class (turned_man children.first_flips men.one)
+  pub first_left : IsLoneMan children.first.now.class (turned_man children.first_flips men.first)
   pub last_left : IsLoneMan children.last.now.class (turned_man children.last_flips men.last)
   pub first_pawn : IfSome children.first_pawn (λ kinds. ArePromotionsOf column kinds (men_swapped men))
   pub last_pawn : IfSome children.last_pawn (λ kinds. ArePromotionsOf column kinds men)
-  pub same : men.one ≡ men.last → children.first_pawn ≡ children.last_pawn
+  pub same : men.first ≡ men.last → children.first_pawn ≡ children.last_pawn
 
 -- the class has these men beside its kings, and all tables have the column; void codes of the class score nothing there,
 -- nor in the zeroing column, which is judged with the mate column
-pub record AreFourMen (column : Column) (four : FourMen) (men : ShelfMen) : Type 0 where
+pub record AreFourMenTables (column : Column) (four : FourMenTables) (men : ShelfMen) : Type 0 where
   pub own_there : HasColumn column four.own
   pub own_voids : ScoresNoVoids four.own.class (column_score four.own column)
   pub zeroing_voids : column ≡ columns.Mate → ScoresNoVoids four.own.class (column_score four.own columns.Zeroing)
@@ -52,7 +52,7 @@ pub record AreExits (column : Column) (children : Children) (men : ShelfMen) (si
   pub is : score ≡ max (max by_first by_last) (max last_promoted first_promoted)
 
 -- the greatest score in the column of captures that promote no pawn, and of the other moves of pawns but captures in passing
-pub record AreZeroingMoves (column : Column) (four : FourMen) (men : ShelfMen) (side : Side) (a b score : ℕ) : Type 0 where
+pub record AreZeroingMoves (column : Column) (four : FourMenTables) (men : ShelfMen) (side : Side) (a b score : ℕ) : Type 0 where
   pub by_first : ℕ
   pub by_last : ℕ
   pub by_pawns : ℕ
@@ -77,7 +77,7 @@ abbrev pub HoldsPassing : Column → Children → ShelfMen → Side → List (Li
 HoldsPassing column children men side block = (a b : ℕ) → a < 64 → b < 64 → ArePassingCaptures column children men side a b (at block a b)
 
 -- the greatest of quiet moves and of those that zero but captures in passing
-pub record AreMoveScores (four : FourMen) (men : ShelfMen) (side : Side) (a b mate zeroing : ℕ) : Type 0 where
+pub record AreMoveScores (four : FourMenTables) (men : ShelfMen) (side : Side) (a b mate zeroing : ℕ) : Type 0 where
   pub quiet_mate : ℕ
   pub quiet_zeroing : ℕ
   pub zeroed : ℕ
@@ -88,7 +88,7 @@ pub record AreMoveScores (four : FourMen) (men : ShelfMen) (side : Side) (a b ma
   pub zeroing_is : zeroing ≡ max quiet_zeroing (zeroing_score zeroed)
 
 -- where there is a target, those raised to the scores of captures in passing
-pub record ArePassedScores (four : FourMen) (men : ShelfMen) (side : Side) (a b mate zeroing : ℕ) : Type 0 where
+pub record ArePassingScores (four : FourMenTables) (men : ShelfMen) (side : Side) (a b mate zeroing : ℕ) : Type 0 where
   pub plain_mate : ℕ
   pub plain_zeroing : ℕ
   pub passing : ℕ
@@ -98,17 +98,17 @@ pub record ArePassedScores (four : FourMen) (men : ShelfMen) (side : Side) (a b 
   pub zeroing_is : zeroing ≡ max plain_zeroing (zeroing_score passing)
 
 -- those of all moves, where there is a target or where there is none
-abbrev pub AreAllScores : (passed : Bool) (four : FourMen) (men : ShelfMen) (side : Side) (a b mate zeroing : ℕ) → Type 0
+abbrev pub AreAllScores : (targeted : Bool) (four : FourMenTables) (men : ShelfMen) (side : Side) (a b mate zeroing : ℕ) → Type 0
 AreAllScores false = AreMoveScores
-AreAllScores true = ArePassedScores
+AreAllScores true = ArePassingScores
 
 -- the table, whose bytes tell its entries, and those of the classes that captures and promotions lead to
-pub record AreTablesOf (tables : Tables) (four : FourMen) (men : ShelfMen) : Type 0 where
+pub record AreTablesOf (tables : Tables) (four : FourMenTables) (men : ShelfMen) : Type 0 where
   pub is_table : IsTable four.own
   pub found : tables four.own.class ≡ Some four.own
   pub bytes : HasBytes four.own
-  pub first : IsTableOf tables four.children.first.now four.children.first_flips men.one
+  pub first : IsTableOf tables four.children.first.now four.children.first_flips men.first
   pub last : IsTableOf tables four.children.last.now four.children.last_flips men.last
-  pub own_after : IsClassOfTwo four.own.class false men.one men.last
+  pub own_after : IsClassOfTwo four.own.class false men.first men.last
   pub first_pawn : IfSome four.children.first_pawn (λ kinds. HasPromotions tables kinds (men_swapped men))
   pub last_pawn : IfSome four.children.last_pawn (λ kinds. HasPromotions tables kinds men)

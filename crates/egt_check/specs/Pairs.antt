@@ -12,7 +12,7 @@ use Rattle.egt_check.specs.declared.part.Part.{Part}
 -- have all codes of the class
 pub record ArePairs (c : ℕ) (men : ShelfMen) (pairs : Pairs) : Type 0 where
   pub wide : places c ≡ kind_digits men.last.kind
-  pub step : pairs.step ≡ kind_digits men.one.kind
+  pub step : pairs.step ≡ kind_digits men.first.kind
   pub half : has_target (material_of c) ≡ true → pairs.half ≡ 64 * pairs.kings * pairs.step
   pub codes : pairs.codes ≡ ends_of (material_of c) * places c * pairs.step
   pub all : 64 * pairs.kings * pairs.codes ≡ size_of c

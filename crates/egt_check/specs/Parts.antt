@@ -11,7 +11,7 @@ use Rattle.egt_entries.specs.NearTables.{near_entry, near_tables}
 use Rattle.egt_entries.specs.Tables.{Tables}
 use Rattle.egt_check.specs.Worth.{HasBytes}
 use Rattle.egt_check.specs.declared.move_scores.Children.{Children}
-use Rattle.egt_check.specs.declared.move_scores.FourMen.{FourMen}
+use Rattle.egt_check.specs.declared.move_scores.FourMenTables.{FourMenTables}
 use Rattle.egt_check.specs.declared.part.Part.{Part}
 use Rattle.egt_check.specs.declared.part.Part.TheVariants.{Values, Reach}
 use Rattle.egt_check.specs.declared.pawn_scores.Promotion.{Promotion}
@@ -77,7 +77,7 @@ children_in part children = record {
   last_pawn = some_promotions_in part children.last_pawn;
 }
 
-abbrev pub four_in : Part → FourMen → FourMen
+abbrev pub four_in : Part → FourMenTables → FourMenTables
 four_in part four = record { own = table_in part four.own; children = children_in part four.children }
 
 -- the table has the part's columns, and their bytes tell its entries

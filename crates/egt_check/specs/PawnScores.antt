@@ -102,12 +102,12 @@ pub record AreRaisedByPawns (column : Column) (own : TableValue) (first last : O
 
 -- the two are the men beside the kings, the second named before the first where `before`
 pub record AreNamed (before : Bool) (men : ShelfMen) (one last : Man) : Type 0 where
-  pub one_is : men.one ≡ (if before then last else one)
+  pub one_is : men.first ≡ (if before then last else one)
   pub last_is : men.last ≡ (if before then one else last)
 
 -- the tables at hand are those of these classes
 pub record HasPromotion (tables : Tables) (promotion : Promotion) (men : ShelfMen) : Type 0 where
-  pub both : IsTableAfter tables promotion.both.now promotion.before promotion.both_flips men.one (arriving men.last (Some promotion.kind))
+  pub both : IsTableAfter tables promotion.both.now promotion.before promotion.both_flips men.first (arriving men.last (Some promotion.kind))
   pub alone : IsTableOf tables promotion.alone.now promotion.alone_flips (officer_of men.last.side promotion.kind)
 
 -- one for each kind that a pawn is promoted to

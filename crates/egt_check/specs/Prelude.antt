@@ -19,7 +19,7 @@ pub use Rattle.egt_board.specs.DecidedSetup.{decided_admissible}
 pub use Rattle.egt_board.specs.Images.{AreImages, side_number}
 pub use Rattle.egt_board.specs.Man.{other_side}
 pub use Rattle.egt_board.specs.Pawn.{MayStand, ahead, last_rank, pawn_of}
-pub use Rattle.egt_board.specs.Placement.{IsHeld, Stands, one_man}
+pub use Rattle.egt_board.specs.Placement.{IsOccupiedBy, Stands, one_man}
 pub use Rattle.egt_board.specs.Settled.{IsSettled, SettlesTo}
 pub use Rattle.egt_board.specs.Setup.{IsAdmissible, Setup}
 pub use Rattle.egt_board.specs.Square.{rank_of}
@@ -37,8 +37,8 @@ pub use Rattle.egt_check.specs.Blank.{AreBlank, IsBlank}
 pub use Rattle.egt_check.specs.Found.{AreFound, AreTold, IsNearScore, IsPutIn, IsToldAt, IsToldEntry, IsToldFrom}
 pub use Rattle.egt_check.specs.Found.{IsValueScore, TellColumn, TellsEntry, near_told, table_told, told, value_told}
 pub use Rattle.egt_check.specs.Given.{AreAlike, AreGiven, HasScores, IsGiven, IsKnown, IsZeroingScore}
-pub use Rattle.egt_check.specs.MoveScores.{AreAllScores, AreChildren, AreExits, AreFourMen, AreMoveScores}
-pub use Rattle.egt_check.specs.MoveScores.{ArePassedScores, ArePassingCaptures, AreTablesOf, AreZeroingMoves}
+pub use Rattle.egt_check.specs.MoveScores.{AreAllScores, AreChildren, AreExits, AreFourMenTables, AreMoveScores}
+pub use Rattle.egt_check.specs.MoveScores.{ArePassingScores, ArePassingCaptures, AreTablesOf, AreZeroingMoves}
 pub use Rattle.egt_check.specs.MoveScores.{HoldsExits, HoldsPassing}
 pub use Rattle.egt_check.specs.Own.{entries_seen}
 pub use Rattle.egt_check.specs.PairOrder.{nth_pair}
@@ -51,7 +51,7 @@ pub use Rattle.egt_check.specs.PawnScores.{HasPromotions, IsBestPromotion, IsPro
 pub use Rattle.egt_check.specs.PawnScores.{IsRaisedByPawn}
 pub use Rattle.egt_check.specs.Place.{HasReachAt, IsPlaceOf}
 pub use Rattle.egt_check.specs.Put.{IsPut}
-pub use Rattle.egt_check.specs.ReachScores.{AreAllReachScores, AreAllScoresOf, ArePassedReachScores, AreReachScores}
+pub use Rattle.egt_check.specs.ReachScores.{AreAllReachScores, AreAllScoresOf, ArePassingReachScores, AreReachScores}
 pub use Rattle.egt_check.specs.Reading.{in_range, read, read_shown, shown_once, shown_range}
 pub use Rattle.egt_check.specs.RightBlock.{AreJudged, IsRightLane, KeepsPart}
 pub use Rattle.egt_check.specs.RightRow.{IsRightAt, IsRightAtOf, IsRightEnd, IsRightEndOf, IsRightReachEnd, due_in}
@@ -64,7 +64,7 @@ pub use Rattle.egt_check.specs.Worth.{HasBytes, IsBestOf, IsBestWith, IsScoreWit
 pub use Rattle.egt_check.specs.declared.found.Found.TheInside.{Inside}
 pub use Rattle.egt_check.specs.declared.lone_judging.ThreeMen.{ThreeMen}
 pub use Rattle.egt_check.specs.declared.move_scores.Children.{Children}
-pub use Rattle.egt_check.specs.declared.move_scores.FourMen.{FourMen}
+pub use Rattle.egt_check.specs.declared.move_scores.FourMenTables.{FourMenTables}
 pub use Rattle.egt_check.specs.declared.pairs.Pairs.{Pairs}
 pub use Rattle.egt_check.specs.declared.part.Part.{Part}
 pub use Rattle.egt_check.specs.declared.part.Part.TheVariants.{Reach, Values}
@@ -81,8 +81,8 @@ pub use Rattle.egt_entries.proofs.Carry.{PlaysLike, ShownAlike, carry}
 pub use Rattle.egt_entries.proofs.Due.{ComesOf, IsOne, IsShownOf, at_end_due, both_due, mate_said, stale_unless_mated}
 pub use Rattle.egt_entries.proofs.Due.{zeroing_is_said}
 pub use Rattle.egt_entries.proofs.Judged.{first_bad_more, keeps_both, keeps_more, keeps_reach_more}
-pub use Rattle.egt_entries.proofs.Raising.{Tried, best_found, listed_there, none_found, raised_is, tried_all}
-pub use Rattle.egt_entries.proofs.Raising.{tried_before, tried_listed, tried_more, tried_none, untried}
+pub use Rattle.egt_entries.proofs.BestGrows.{Tried, best_found, listed_there, none_found, raised_is, tried_all}
+pub use Rattle.egt_entries.proofs.BestGrows.{tried_before, tried_listed, tried_more, tried_none, untried}
 pub use Rattle.egt_entries.proofs.ReachRule.{reach_judged}
 pub use Rattle.egt_entries.specs.Entry.{Shows, entry_of, longest}
 pub use Rattle.egt_entries.specs.FirstBad.{IsFirstBad, IsFirstBadReach, earlier}
@@ -112,7 +112,7 @@ pub use Rattle.egt_entries.specs.declared.outcome.Outcome.{Outcome}
 pub use Rattle.egt_entries.specs.declared.reject.Reject.{Reject}
 pub use Rattle.egt_entries.specs.declared.reject.Reject.TheVariants.{AlreadyThere, Missing, NoReach, Rejected}
 pub use Rattle.egt_entries.specs.declared.rule.Rule.{Rule}
-pub use Rattle.egt_index.proofs.Halves.{code_high, code_low, code_plain, half_twice, of_targets}
+pub use Rattle.egt_index.proofs.NumbersOfCodes.{code_high, code_low, code_plain, half_twice, of_targets}
 pub use Rattle.egt_index.specs.Code.{Spells}
 pub use Rattle.egt_index.specs.Index.{IsIndex, IsVoid, SettleAlike}
 pub use Rattle.egt_index.specs.LoneCodes.{IsLoneMan, IsLoneRow, lone_stand}
@@ -130,7 +130,7 @@ pub use Rattle.egt_index.specs.Went.{AreOnBoard}
 pub use Rattle.egt_index.specs.declared.places.Places.{Places}
 pub use Rattle.egt_index.specs.declared.shelf_codes.ShelfMen.{ShelfMen}
 pub use Rattle.egt_index.specs.declared.stand.Stand.{Stand}
-pub use Rattle.egt_lanes.proofs.Raising.{raised_as}
+pub use Rattle.egt_lanes.proofs.RaisedTwice.{raised_as}
 pub use Rattle.egt_lanes.proofs.Rows.{other, select}
 pub use Rattle.egt_lanes.proofs.Tests.{agreed}
 pub use Rattle.egt_lanes.specs.Alike.{AreDecided, AreVoidOrAlike}
@@ -155,7 +155,7 @@ pub use Rattle.egt_steps.proofs.Leaping.{settled_index}
 pub use Rattle.egt_steps.proofs.LeftTargets.{unpromoted}
 pub use Rattle.egt_steps.proofs.PawnCaptures.{promoted}
 pub use Rattle.egt_steps.proofs.Still.{pawn_is}
-pub use Rattle.egt_steps.proofs.TwoNonKings.{AreTwo, are_in, who}
+pub use Rattle.egt_steps.proofs.MenListed.{AreTwo, are_in, who}
 pub use Rattle.egt_steps.specs.Facts.{Facts}
 pub use Rattle.egt_steps.specs.InPassing.{AreLeapCodes, ArePassingCodes, AreStepCodes, IsOfFourKinds, IsPassingCapture}
 pub use Rattle.egt_steps.specs.InPassing.{IsPassingFrom, LeavesTarget}

@@ -1,4 +1,4 @@
--- What an entry shows, as a function.
+-- The value that an entry shows, as a function.
 use Rattle.std.proofs.Common.{◌≡◌, ◌≢◌, ℕ, ◌/◌, ◌%◌, ◌-◌, ◌≤◌, inl, inr, arith}
 use Rattle.egt_moves.specs.Prelude.{cases_eq, cases_lt, Decided, Value, Win, Loss, Draw}
 use Rattle.egt_entries.specs.Prelude.{IsShort}

@@ -1,4 +1,4 @@
--- What a table says of a class's men on their squares, as scores in bytes.
+-- Scores of a class's men on their squares by its table, in bytes.
 use Rattle.std.specs.Prelude.{◌≡◌, ℕ, ◌%◌, ◌<◌, ◌≤◌, ◌⊎◌, Bool, false, slice_index}
 use Rattle.egt_index.specs.Prelude.{Setup, IsIndex, IsVoid, size_of, HasStand}
 use Rattle.egt_lanes.specs.Prelude.{byte_score, reach_score}
@@ -32,19 +32,19 @@ pub record HasBytes (t : TableValue) : Type 0 where
   pub alike : (i : ℕ) → i < size_of t.class → ¬ IsVoid t.class i → AreAlike (entry_at t Mate i) (entry_at t Zeroing i)
 
 -- the score of the entry of a position with some of these men, and a target where one was passed
-pub record IsScoreWith (passed : Bool) (t : TableValue) (metric : Metric) (In : Stand → Type 0) (flips : Bool) (side : Side) (w : ℕ) : Type 0 where
+pub record IsScoreWith (targeted : Bool) (t : TableValue) (metric : Metric) (In : Stand → Type 0) (flips : Bool) (side : Side) (w : ℕ) : Type 0 where
   pub stand : Stand
   pub in_stands : In stand
   pub position : Setup
-  pub has : HasStand t.class flips stand side passed position
+  pub has : HasStand t.class flips stand side targeted position
   pub index : ℕ
   pub is_index : IsIndex t.class position index
   pub is : w ≡ score_at t metric index
 
 -- the greatest score of the entries of all such positions, or 0 where there is none
-pub record IsBestWith (passed : Bool) (t : TableValue) (metric : Metric) (In : Stand → Type 0) (flips : Bool) (side : Side) (w : ℕ) : Type 0 where
-  pub above : (stand : Stand) (q : Setup) → In stand → HasStand t.class flips stand side passed q → (i : ℕ) × IsIndex t.class q i × (score_at t metric i ≤ w)
-  pub reached : (w ≡ 0) ⊎ IsScoreWith passed t metric In flips side w
+pub record IsBestWith (targeted : Bool) (t : TableValue) (metric : Metric) (In : Stand → Type 0) (flips : Bool) (side : Side) (w : ℕ) : Type 0 where
+  pub above : (stand : Stand) (q : Setup) → In stand → HasStand t.class flips stand side targeted q → (i : ℕ) × IsIndex t.class q i × (score_at t metric i ≤ w)
+  pub reached : (w ≡ 0) ⊎ IsScoreWith targeted t metric In flips side w
 
 -- of those without a target
 abbrev pub IsBestOf : TableValue → Metric → (Stand → Type 0) → Bool → Side → ℕ → Type 0

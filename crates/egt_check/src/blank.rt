@@ -21,7 +21,7 @@ fn shelves_are_blank(
     men: &ShelfMen,
     first: u32,
     side: Side,
-    passed: bool,
+    targeted: bool,
 ) -> bool
     requires there { HasColumn column table.now }
     requires men { AreMenOf table.now.class men.now }
@@ -29,14 +29,14 @@ fn shelves_are_blank(
     ensures { result ≡ true → AreBlank table.now column men.now first side }
 {
     numbers_stand_for_codes();
-    if !begin_with(table.class(), men, passed, first) {
+    if !begin_with(table.class(), men, targeted, first) {
         return false;
     }
-    let from = first_square(men.one);
-    for digit in 0..digits_of(men.one) {
+    let from = first_square(men.first);
+    for digit in 0..digits_of(men.first) {
         let there = men_on(men, Square::at(from + digit));
         let shelf = first + u32::from(digit);
-        if marks_of(table, column, &there, shelf, side, passed) != 0 {
+        if marks_of(table, column, &there, shelf, side, targeted) != 0 {
             return false;
         }
     }

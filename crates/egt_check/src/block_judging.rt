@@ -1,15 +1,15 @@
 //! The judgement of all entries with the kings on two squares, in classes with two men beside the kings.
 ghost use Rattle.std.specs.Prelude.{◌≡◌, ◌+◌, ◌<◌, ℕ, true, false};
 ghost use Rattle.egt_check.specs.Prelude.{other_side, code_of, kind_digits, kind_less, AreMenOf, number_in, at};
-ghost use Rattle.egt_check.specs.Prelude.{HasColumn, men_on, AreKept, AreFourMen, AreTablesOf, HoldsExits};
+ghost use Rattle.egt_check.specs.Prelude.{HasColumn, men_on, AreKept, AreFourMenTables, AreTablesOf, HoldsExits};
 ghost use Rattle.egt_check.specs.Prelude.{HoldsPassing, column_of, four_in, tables_in, AreAllScoresOf, AreJudged};
 ghost use Rattle.egt_check.specs.Prelude.{IsRightLane, Tables, column_score};
 
 use crate::blank::side_is_blank;
-use crate::move_scores::{Moves, exits, move_scores, passing_captures, raise_passed};
+use crate::move_scores::{Moves, exits, move_scores, passing_captures, raise_passing};
 use crate::part::{Part, column_of};
 use crate::part_laws::entries_due_to_all_moves_are_right;
-use crate::reach_scores::{raise_passed_reach, reach_scores};
+use crate::reach_scores::{raise_passing_reach, reach_scores};
 use crate::row_judging::row_is_right;
 use crate::shelf::Shelf;
 use egt_blocks::blocks::{begin_with, nothing};
@@ -18,7 +18,7 @@ use egt_blocks::kept_blocks::BlockKey;
 use egt_blocks::men::men_on;
 use egt_board::Square;
 use egt_index::laws::{a_code_is_an_index_or_void, numbers_stand_for_codes};
-use egt_index::nearer::is_void_after;
+use egt_index::void_by_kings::is_void_after;
 use egt_lanes::Block;
 use egt_table::Table;
 
@@ -32,7 +32,7 @@ pub fn part_scores(
     scores: &mut Block,
     zeroing: &mut Block,
 ) -> bool
-    requires men { AreFourMen (column_of moves.now.part) moves.now.four.now moves.now.men.now }
+    requires men { AreFourMenTables (column_of moves.now.part) moves.now.four.now moves.now.men.now }
     requires leaving { HoldsExits (column_of moves.now.part) moves.now.four.now.children moves.now.men.now
         moves.now.side leaving.now }
     requires kept { AreKept moves.now.four.now.own.class (column_score moves.now.four.now.own) moves.now.men.now
@@ -53,7 +53,7 @@ pub fn part_scores(
 
 /// Raises those to the scores of captures in passing, which are these: then they are of all moves where there is a
 /// target.
-pub fn raise_part_passed(moves: &Moves, passing: &Block, scores: &mut Block, zeroing: &mut Block)
+pub fn raise_part_passing(moves: &Moves, passing: &Block, scores: &mut Block, zeroing: &mut Block)
     requires { HoldsPassing (column_of moves.now.part) moves.now.four.now.children moves.now.men.now moves.now.side
         passing.now }
     ensures { (a b : ℕ) → a < 64 → b < 64 →
@@ -64,8 +64,8 @@ pub fn raise_part_passed(moves: &Moves, passing: &Block, scores: &mut Block, zer
 {
     let (four, men, side) = (moves.four, moves.men, moves.side);
     match moves.part {
-        Part::Values => raise_passed(four, men, side, passing, scores, zeroing),
-        Part::Reach => raise_passed_reach(four, men, side, passing, scores),
+        Part::Values => raise_passing(four, men, side, passing, scores, zeroing),
+        Part::Reach => raise_passing_reach(four, men, side, passing, scores),
     }
 }
 
@@ -81,20 +81,25 @@ fn shelves_are_right(
     requires there { HasColumn (column_of part) table.now }
     requires men { AreMenOf table.now.class shelves.now.men }
     requires room { shelves.now.number + 64 < 4294967296 }
-    ensures { result ≡ true → (x y : ℕ) → x < kind_digits shelves.now.men.one.kind →
+    ensures { result ≡ true → (x y : ℕ) → x < kind_digits shelves.now.men.first.kind →
         y < kind_digits shelves.now.men.last.kind →
-        IsRightLane part shelves.now.passed table.now shelves.now.men shelves.now.side
-        (x + kind_less shelves.now.men.one.kind) (y + kind_less shelves.now.men.last.kind)
+        IsRightLane part shelves.now.targeted table.now shelves.now.men shelves.now.side
+        (x + kind_less shelves.now.men.first.kind) (y + kind_less shelves.now.men.last.kind)
         (code_of table.now.class (number_in table.now.class (shelves.now.number + x) shelves.now.side y))
-        (at scores.now (x + kind_less shelves.now.men.one.kind) (y + kind_less shelves.now.men.last.kind))
-        (at zeroing.now (x + kind_less shelves.now.men.one.kind) (y + kind_less shelves.now.men.last.kind)) }
+        (at scores.now (x + kind_less shelves.now.men.first.kind) (y + kind_less shelves.now.men.last.kind))
+        (at zeroing.now (x + kind_less shelves.now.men.first.kind) (y + kind_less shelves.now.men.last.kind)) }
 {
     numbers_stand_for_codes();
-    if !begin_with(table.class(), &shelves.men, shelves.passed, shelves.number) {
+    if !begin_with(
+        table.class(),
+        &shelves.men,
+        shelves.targeted,
+        shelves.number,
+    ) {
         return false;
     }
-    let from = first_square(shelves.men.one);
-    for digit in 0..digits_of(shelves.men.one) {
+    let from = first_square(shelves.men.first);
+    for digit in 0..digits_of(shelves.men.first) {
         let square = from + digit;
         let row = square as usize;
         let shelf = Shelf {
@@ -121,7 +126,7 @@ pub(crate) fn block_is_right(
     scores: &mut Block,
     zeroing: &mut Block,
 ) -> bool
-    requires men { AreFourMen (column_of moves.now.part) moves.now.four.now moves.now.men.now }
+    requires men { AreFourMenTables (column_of moves.now.part) moves.now.four.now moves.now.men.now }
     requires room { first + half + 64 < 4294967296 }
     requires kept { AreKept moves.now.four.now.own.class (column_score moves.now.four.now.own) moves.now.men.now
         (other_side moves.now.side) keys.old blocks.old }
@@ -156,7 +161,7 @@ pub(crate) fn block_is_right(
         number: first,
         men: *men,
         side,
-        passed: false,
+        targeted: false,
     };
     if !shelves_are_right(table, moves.part, &plain, scores, zeroing) {
         return false;
@@ -168,11 +173,11 @@ pub(crate) fn block_is_right(
     if !passing_captures(&four.children, column, men, side, &mut passing) {
         return false;
     }
-    raise_part_passed(moves, &passing, scores, zeroing);
-    let passed = Shelf {
+    raise_part_passing(moves, &passing, scores, zeroing);
+    let targeted = Shelf {
         number: first + half,
-        passed: true,
+        targeted: true,
         ..plain
     };
-    shelves_are_right(table, moves.part, &passed, scores, zeroing)
+    shelves_are_right(table, moves.part, &targeted, scores, zeroing)
 }

@@ -23,7 +23,7 @@ fn value_lanes(row: Row) -> SquareSet
 fn near_lanes(row: Row) -> SquareSet
     ensures { (s : ℕ) → s < 64 → Has result s → IsNearScore (slice_index row s) }
 {
-    lanes_of(without_score(zeroed(row), 0)).common(lanes_of(without_score(row, 129)))
+    lanes_of(without_score(zeroed(row), 0)).intersection(lanes_of(without_score(row, 129)))
 }
 
 /// Whether the scores may be put in the place of these at the squares; the second are of the zeroing column alone.
@@ -43,10 +43,12 @@ pub(crate) fn are_told(
     let indexes = lanes_of(own);
     match part {
         Part::Values => {
-            let told = value_lanes(scores).common(value_lanes(clocks));
-            lanes.without(indexes.common(told)).is_empty()
+            let told = value_lanes(scores).intersection(value_lanes(clocks));
+            lanes.difference(indexes.intersection(told)).is_empty()
                 && !differ(zeroed(scores), zeroed(clocks), mask)
         }
-        Part::Reach => lanes.without(indexes.common(near_lanes(scores))).is_empty(),
+        Part::Reach => lanes
+            .difference(indexes.intersection(near_lanes(scores)))
+            .is_empty(),
     }
 }

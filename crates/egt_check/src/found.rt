@@ -178,12 +178,12 @@ impl Found {
     /// The scores of the shelf's codes with that side to move, by the last man's square, and with a target where one
     /// was passed.
     #[inline(always)]
-    pub fn row(&self, column: Column, men: &ShelfMen, shelf: u32, side: Side, passed: bool) -> Row
+    pub fn row(&self, column: Column, men: &ShelfMen, shelf: u32, side: Side, targeted: bool) -> Row
         requires there { HasColumn column self.now }
-        requires shelf { IsShelfOf passed self.now.class shelf men.now }
+        requires shelf { IsShelfOf targeted self.now.class shelf men.now }
         requires within { IsWithin self.now.class shelf }
         ensures { (s : ℕ) → s < 64 → IsRaised 0
-            (λ code. TellsMen passed self.now.class code (stand_with men.now s) side) (column_score self.now column)
+            (λ code. TellsMen targeted self.now.class code (stand_with men.now s) side) (column_score self.now column)
             (slice_index result s) }
     {
         codes_tell_turned_men();
@@ -192,11 +192,11 @@ impl Found {
             Some(clocks) => match column {
                 Column::Mate => self.scores.row(men, shelf, side),
                 Column::Zeroing => clocks.row(men, shelf, side),
-                Column::Reach => row_of(&self.table, column, men, shelf, side, passed),
+                Column::Reach => row_of(&self.table, column, men, shelf, side, targeted),
             },
             None => match column {
-                Column::Mate => row_of(&self.table, column, men, shelf, side, passed),
-                Column::Zeroing => row_of(&self.table, column, men, shelf, side, passed),
+                Column::Mate => row_of(&self.table, column, men, shelf, side, targeted),
+                Column::Zeroing => row_of(&self.table, column, men, shelf, side, targeted),
                 Column::Reach => self.scores.row(men, shelf, side),
             },
         }

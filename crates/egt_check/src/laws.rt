@@ -1,12 +1,12 @@
-//! What holds of tables and their rules. These functions do nothing: a caller calls one to know what it ensures.
+//! Laws of tables and their rules. These functions do nothing: a caller calls one to know what it ensures.
 ghost use Rattle.std.specs.Prelude.{◌≡◌, ◌≢◌, ◌↔◌, ◌<◌, max, ℕ, Bool, false, None, Some, IsSome};
 ghost use Rattle.egt_check.specs.Prelude.{is_some, IsOf, Spells, IsIndex, IsVoid, Setup, IsAdmissible, TableValue};
 ghost use Rattle.egt_check.specs.Prelude.{IsTable, StepAlike, Zeroes, chess, Side, Metric, K, HasStand, ShelfMen};
 ghost use Rattle.egt_check.specs.Prelude.{stand_on, AreQuietCodes, IsPlainCapture, AreAlike, AreGiven, IsJudged};
 ghost use Rattle.egt_check.specs.Prelude.{KeepsBelow, KeepsReachBelow, KeepsRules, IsAtEnd, byte_score, due_score};
-ghost use Rattle.egt_check.specs.Prelude.{zeroing_score, IsTableOf, AreLeftCodes, men_swapped, AreAllScores};
+ghost use Rattle.egt_check.specs.Prelude.{zeroing_score, IsTableOf, AreLeftCodes, men_swapped, AreAllScores, Tables};
 ghost use Rattle.egt_check.specs.Prelude.{AreTablesOf, four_in, tables_in, AreAllScoresOf, IsRightLane, KeepsPart};
-ghost use Rattle.egt_check.specs.Prelude.{FourMen, Part, Mate, Zeroing, HasBytes, score_at, IsRaised, NoMove, Tables};
+ghost use Rattle.egt_check.specs.Prelude.{FourMenTables, Part, Mate, Zeroing, HasBytes, score_at, IsRaised, NoMove};
 ghost use Rattle.egt_check.specs.Prelude.{entry_at, ReachesDown, HasTrueChildren, HasTrueReachesBelow, HasTrueValues};
 ghost use Rattle.egt_check.specs.Prelude.{HasTrueValuesBelow, IsTrueReach, IsTrueTable, size_of};
 
@@ -110,9 +110,9 @@ pub fn due_bytes_are_right()
 
 /// The greatest scores of the codes of quiet steps are those of the moves that do not zero.
 pub fn quiet_codes_give_the_quiet_moves()
-    ensures { (tables : Tables) (t : TableValue) (men : ShelfMen) (side : Side) (passed : Bool) (a b : ℕ) (p : Setup)
-        (mate zeroing : ℕ) → IsTable t → tables t.class ≡ Some t → HasBytes t →
-        HasStand t.class false (stand_on men a b) side passed p →
+    ensures { (tables : Tables) (t : TableValue) (men : ShelfMen) (side : Side) (targeted : Bool) (a b : ℕ)
+        (p : Setup) (mate zeroing : ℕ) → IsTable t → tables t.class ≡ Some t → HasBytes t →
+        HasStand t.class false (stand_on men a b) side targeted p →
         IsRaised 0 (AreQuietCodes t.class men side a b) (score_at t Mate) mate →
         IsRaised 0 (AreQuietCodes t.class men side a b) (score_at t Zeroing) zeroing →
         AreGiven tables p (λ m. ¬ Zeroes p m) mate zeroing }
@@ -132,10 +132,10 @@ pub fn moves_of_either_kind_give_all()
 /// The greatest scores of the codes after captures, in the classes of the man who is left, are those of the captures
 /// that promote no pawn and are not in passing.
 pub fn codes_after_captures_give_the_captures()
-    ensures { (tables : Tables) (c : ℕ) (men : ShelfMen) (side : Side) (passed : Bool) (a b : ℕ) (p : Setup)
+    ensures { (tables : Tables) (c : ℕ) (men : ShelfMen) (side : Side) (targeted : Bool) (a b : ℕ) (p : Setup)
         (first last : TableValue) (first_flips last_flips : Bool) (u v : ℕ) → c < 36 →
-        men.one.kind ≢ K → men.last.kind ≢ K → HasStand c false (stand_on men a b) side passed p →
-        IsTableOf tables first first_flips men.one → IsTableOf tables last last_flips men.last →
+        men.first.kind ≢ K → men.last.kind ≢ K → HasStand c false (stand_on men a b) side targeted p →
+        IsTableOf tables first first_flips men.first → IsTableOf tables last last_flips men.last →
         IsRaised 0 (AreLeftCodes first.class first_flips men side a b) (score_at first Mate) u →
         IsRaised 0 (AreLeftCodes last.class last_flips (men_swapped men) side b a) (score_at last Mate) v →
         AreGiven tables p (IsPlainCapture p) (max u v) (zeroing_score (max u v)) }
@@ -148,10 +148,10 @@ pub fn codes_after_captures_give_the_captures()
 
 /// The greatest scores of the codes after all moves are those of the moves, in both columns.
 pub fn all_scores_give_all_moves()
-    ensures { (tables : Tables) (four : FourMen) (men : ShelfMen) (side : Side) (passed : Bool) (a b : ℕ) (p : Setup)
-        (mate zeroing : ℕ) → AreTablesOf tables four men → men.one.kind ≢ K → men.last.kind ≢ K →
-        HasStand four.own.class false (stand_on men a b) side passed p →
-        AreAllScores passed four men side a b mate zeroing → AreGiven tables p (λ m. Unit {0}) mate zeroing }
+    ensures { (tables : Tables) (four : FourMenTables) (men : ShelfMen) (side : Side) (targeted : Bool) (a b : ℕ)
+        (p : Setup) (mate zeroing : ℕ) → AreTablesOf tables four men → men.first.kind ≢ K → men.last.kind ≢ K →
+        HasStand four.own.class false (stand_on men a b) side targeted p →
+        AreAllScores targeted four men side a b mate zeroing → AreGiven tables p (λ m. Unit {0}) mate zeroing }
 {
     quiet_codes_give_the_quiet_moves();
     codes_after_captures_give_the_captures();

@@ -78,7 +78,7 @@ fn quiet_lanes(men: &ShelfMen, side: Side) -> SquareSet
     ensures { (s : ℕ) → s < 64 → Has result s → NoneZeroes men.now side s }
 {
     if !is_of(men.last, side) {
-        return SquareSet::ALL.without(beside_king(men, side));
+        return SquareSet::ALL.difference(beside_king(men, side));
     }
     if is_pawn(men.last) {
         SquareSet::EMPTY
@@ -130,7 +130,7 @@ pub fn due_lanes(
     let other = unlike(own, due_in(three.part, scores), Row::splat(1));
     (
         lanes_of(own),
-        lanes_of(scores).without(lanes_of(other)),
+        lanes_of(scores).difference(lanes_of(other)),
         scores,
     )
 }
@@ -164,7 +164,7 @@ pub fn lone_row_is_right(three: &ThreeMen, first: u32, side: Side) -> bool
     entries_due_to_quiet_steps_are_right();
     let _size = size(three.table.class());
     let (some, due, _scores) = due_lanes(three, column_of(three.part), first, side);
-    let quiet = quiet_lanes(&three.men, side).common(clock_lanes(three, first, side));
-    let rest = some.without(due.common(quiet));
+    let quiet = quiet_lanes(&three.men, side).intersection(clock_lanes(three, first, side));
+    let rest = some.difference(due.intersection(quiet));
     keep_alone(three, first_code(first, side), rest)
 }

@@ -1,4 +1,4 @@
-//! What holds of entries of classes of three men. This function does nothing: a caller calls it to know what it
+//! Laws of entries of classes of three men. This function does nothing: a caller calls it to know what it
 //! ensures.
 ghost use Rattle.std.specs.Prelude.{◌≡◌, ◌<◌, ℕ, false};
 ghost use Rattle.egt_check.specs.Prelude.{Side, column_of, size_of, TellsMen, NoneZeroes, stand_alone, column_score};

@@ -1,8 +1,7 @@
 //! The judgement of a whole table of a class with one man beside the kings, by the squares of the kings.
 ghost use Rattle.std.specs.Prelude.{◌≡◌, ◌≢◌, ◌*◌, ◌<◌, ℕ, false, true, IfSome, get_or};
-ghost use Rattle.egt_check.specs.Prelude.{K, kind_digits, column_of, size_of, table_in, HasColumn, HasBytes};
-ghost use Rattle.egt_check.specs.Prelude.{AreThreeMen};
-ghost use Rattle.egt_check.specs.Prelude.{AreRuns, IsJudgedRow, MayJudge, TellsVoid, TellsVoids, beside, table_at};
+ghost use Rattle.egt_check.specs.Prelude.{K, kind_digits, column_of, HasColumn, AreThreeMen, IsJudgedRow, TellsVoids};
+ghost use Rattle.egt_check.specs.Prelude.{size_of, table_in, HasBytes, AreRuns, MayJudge, TellsVoid, beside, table_at};
 ghost use Rattle.egt_check.specs.declared.part.Part.TheVariants as parts;
 
 use crate::bytes::{are_alike, tells_reach_bytes};
@@ -120,7 +119,7 @@ pub(crate) fn runs_by_rows(table: &Table, library: &Library, part: Part) -> Opti
     let men = ShelfMen {
         white: first,
         black: first,
-        one: man,
+        first: man,
         on: first,
         last: man,
     };

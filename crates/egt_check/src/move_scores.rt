@@ -1,9 +1,9 @@
 //! The greatest scores of the moves of a side with two men beside the kings, who stand on two squares.
 ghost use Rattle.std.specs.Prelude.{◌≡◌, ◌<◌, max, ℕ, false, true};
 ghost use Rattle.egt_check.specs.Prelude.{P, other_side, AreMenOf, at, IsRaised, zeroing_score, HasColumn, AreKept};
-ghost use Rattle.egt_check.specs.Prelude.{ScoresNoVoids, AreChildren, AreFourMen, AreMoveScores, ArePassedScores};
+ghost use Rattle.egt_check.specs.Prelude.{ScoresNoVoids, AreChildren, AreFourMenTables, AreMoveScores};
 ghost use Rattle.egt_check.specs.Prelude.{HoldsExits, HoldsPassing, AreOwnPawnMoves, IsBestPromotion, AreLeftCodes};
-ghost use Rattle.egt_check.specs.Prelude.{men_swapped, column_score};
+ghost use Rattle.egt_check.specs.Prelude.{men_swapped, column_score, ArePassingScores};
 ghost use Rattle.egt_table.specs.declared.column.Column.TheVariants as columns;
 
 use crate::found::Found;
@@ -21,7 +21,7 @@ use egt_blocks::taken_blocks::taken_block;
 use egt_board::Side;
 use egt_index::ShelfMen;
 use egt_lanes::Block;
-use egt_lanes::block::{raise, raise_transposed};
+use egt_lanes::block::{raise_to_max, raise_transposed};
 use egt_lanes::row::greater;
 use egt_lanes::score::zeroed;
 use egt_table::{Column, Table};
@@ -44,7 +44,7 @@ pub struct Children<'t> {
 
 /// The table of a class of two men beside the kings, and those of the classes that moves lead to which leave it.
 #[derive(Drop)]
-pub struct FourMen<'o, 't> {
+pub struct FourMenTables<'o, 't> {
     pub own: Own<'o>,
     pub children: Children<'t>,
 }
@@ -52,29 +52,29 @@ pub struct FourMen<'o, 't> {
 /// The moves of a side with these men, and of which part their scores are asked.
 #[derive(Clone, Copy)]
 pub struct Moves<'m, 'o, 't> {
-    pub four: &'m FourMen<'o, 't>,
+    pub four: &'m FourMenTables<'o, 't>,
     pub men: &'m ShelfMen,
     pub side: Side,
     pub part: Part,
 }
 
 /// The table of the class beside those of its children.
-pub fn beside_own<'o, 't>(own: &'o Table, children: &Children<'t>) -> FourMen<'o, 't>
+pub fn beside_own<'o, 't>(own: &'o Table, children: &Children<'t>) -> FourMenTables<'o, 't>
     ensures own { result.own ≡ own.now }
     ensures children { result.children ≡ children.now }
 {
-    FourMen {
+    FourMenTables {
         own: Own::of_table(own),
         children: *children,
     }
 }
 
 /// The entries that are being found beside the tables of the children.
-pub fn beside_found<'o, 't>(own: &'o Found, children: &Children<'t>) -> FourMen<'o, 't>
+pub fn beside_found<'o, 't>(own: &'o Found, children: &Children<'t>) -> FourMenTables<'o, 't>
     ensures own { result.own ≡ own.now }
     ensures children { result.children ≡ children.now }
 {
-    FourMen {
+    FourMenTables {
         own: Own::of_found(own),
         children: *children,
     }
@@ -103,7 +103,7 @@ fn raise_first_taken(
         IsRaised 0 (AreLeftCodes children.now.last.now.class children.now.last_flips (men_swapped men.now) side b a)
         (column_score children.now.last.now column) taken × (at out.new a b ≡ max (at out.old a b) taken) }
 {
-    if !is_of(men.one, side.other()) {
+    if !is_of(men.first, side.other()) {
         return true;
     }
     let mut across = nothing();
@@ -126,9 +126,9 @@ fn raise_first_taken(
 /// Whether that side has a pawn.
 pub(crate) fn has_pawn(men: &ShelfMen, side: Side) -> bool
     ensures last { result ≡ false → ¬ ((men.now.last.kind ≡ P) × (men.now.last.side ≡ side)) }
-    ensures one { result ≡ false → ¬ ((men.now.one.kind ≡ P) × (men.now.one.side ≡ side)) }
+    ensures one { result ≡ false → ¬ ((men.now.first.kind ≡ P) × (men.now.first.side ≡ side)) }
 {
-    is_pawn_of(men.one, side) || is_pawn_of(men.last, side)
+    is_pawn_of(men.first, side) || is_pawn_of(men.last, side)
 }
 
 /// Raises the scores to those of promotions of both men, where that side has a pawn. False where a table does not tell.
@@ -152,7 +152,7 @@ fn raise_pawns_promoted(
     if !promotions_block(&children.last_pawn, column, men, side, &mut promoted) {
         return false;
     }
-    raise(out, &promoted);
+    raise_to_max(out, &promoted);
     // What equal men are promoted to is told once.
     if are_equal(men) {
         raise_transposed(out, &promoted);
@@ -276,7 +276,7 @@ pub fn move_scores(
     mates: &mut Block,
     zeroing: &mut Block,
 ) -> bool
-    requires men { AreFourMen columns.Mate moves.now.four.now moves.now.men.now }
+    requires men { AreFourMenTables columns.Mate moves.now.four.now moves.now.men.now }
     requires leaving { HoldsExits columns.Mate moves.now.four.now.children moves.now.men.now moves.now.side
         leaving.now }
     requires kept { AreKept moves.now.four.now.own.class (column_score moves.now.four.now.own) moves.now.men.now
@@ -293,7 +293,7 @@ pub fn move_scores(
     if !quiet_block(&four.own, Column::Zeroing, men, side, keys, blocks, zeroing) {
         return false;
     }
-    raise(mates, leaving);
+    raise_to_max(mates, leaving);
     raise_zeroed(zeroing, leaving);
     if !has_pawn(men, side) {
         return true;
@@ -302,15 +302,15 @@ pub fn move_scores(
     if !advances(&four.own, Column::Mate, men, side, keys, blocks, &mut pawns) {
         return false;
     }
-    raise(mates, &pawns);
+    raise_to_max(mates, &pawns);
     raise_zeroed(zeroing, &pawns);
     true
 }
 
 /// Raises those to the scores of captures in passing, which are these: then they are of all moves where there is a
 /// target. The contract alone reads the tables and the men.
-pub fn raise_passed(
-    four: &FourMen,
+pub fn raise_passing(
+    four: &FourMenTables,
     men: &ShelfMen,
     side: Side,
     passing: &Block,
@@ -320,8 +320,8 @@ pub fn raise_passed(
     requires { HoldsPassing columns.Mate four.now.children men.now side passing.now }
     ensures { (a b : ℕ) → a < 64 → b < 64 →
         AreMoveScores four.now men.now side a b (at mates.old a b) (at zeroing.old a b) →
-        ArePassedScores four.now men.now side a b (at mates.new a b) (at zeroing.new a b) }
+        ArePassingScores four.now men.now side a b (at mates.new a b) (at zeroing.new a b) }
 {
-    raise(mates, passing);
+    raise_to_max(mates, passing);
     raise_zeroed(zeroing, passing);
 }

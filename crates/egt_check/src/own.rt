@@ -78,17 +78,17 @@ impl<'o> Own<'o> {
     /// The scores of the codes that tell these men, who are those of the shelf, by the last man's square, and a target
     /// where one was passed.
     #[inline(always)]
-    pub fn row(&self, column: Column, men: &ShelfMen, shelf: u32, side: Side, passed: bool) -> Row
+    pub fn row(&self, column: Column, men: &ShelfMen, shelf: u32, side: Side, targeted: bool) -> Row
         requires there { HasColumn column self.now }
-        requires shelf { IsShelfOf passed self.now.class shelf men.now }
+        requires shelf { IsShelfOf targeted self.now.class shelf men.now }
         requires within { IsWithin self.now.class shelf }
         ensures { (s : ℕ) → s < 64 → IsRaised 0
-            (λ code. TellsMen passed self.now.class code (stand_with men.now s) side) (column_score self.now column)
+            (λ code. TellsMen targeted self.now.class code (stand_with men.now s) side) (column_score self.now column)
             (slice_index result s) }
     {
         match self.entries {
-            Entries::OfTable(table) => row_of(table, column, men, shelf, side, passed),
-            Entries::OfFound(found) => found.row(column, men, shelf, side, passed),
+            Entries::OfTable(table) => row_of(table, column, men, shelf, side, targeted),
+            Entries::OfFound(found) => found.row(column, men, shelf, side, targeted),
         }
     }
 }
@@ -111,8 +111,8 @@ impl ShelfScores for Own<'_> {
         men: &ShelfMen,
         shelf: u32,
         side: Side,
-        passed: bool,
+        targeted: bool,
     ) -> Row {
-        self.row(column, men, shelf, side, passed)
+        self.row(column, men, shelf, side, targeted)
     }
 }

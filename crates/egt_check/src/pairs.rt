@@ -28,7 +28,7 @@ pub const MOST_PAIRS: usize = 2048;
 pub fn pairs_of(class: Class, men: &ShelfMen) -> Option<Pairs>
     ensures { IfSome result (ArePairs class men.now) }
 {
-    let step = u32::from(digits_of(men.one));
+    let step = u32::from(digits_of(men.first));
     let wide = last_digits(class);
     if wide != u32::from(digits_of(men.last)) {
         return None;

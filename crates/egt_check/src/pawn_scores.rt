@@ -14,7 +14,7 @@ use egt_board::{Kind, Man, Side};
 use egt_index::ShelfMen;
 use egt_index::men::has_equal_sides;
 use egt_lanes::Block;
-use egt_lanes::block::{raise, raise_transposed};
+use egt_lanes::block::{raise_to_max, raise_transposed};
 use egt_table::{Column, Table};
 
 /// The tables of the classes that a pawn's promotion to one kind leads to, each with whether colours are exchanged
@@ -73,7 +73,7 @@ fn raise_promotion(
     ) {
         return false;
     }
-    raise(out, &scores);
+    raise_to_max(out, &scores);
     if !promoting_block(
         &TableScores {
             table: promotion.alone,
@@ -86,7 +86,7 @@ fn raise_promotion(
     ) {
         return false;
     }
-    raise(out, &scores);
+    raise_to_max(out, &scores);
     true
 }
 
@@ -162,7 +162,7 @@ fn advances_block(
     if !leap_block(own, column, first, men, side, &mut leaps) {
         return false;
     }
-    raise(out, &leaps);
+    raise_to_max(out, &leaps);
     true
 }
 
@@ -187,7 +187,7 @@ pub fn own_pawn_moves(
     if !advances_block(own, column, false, men, side, still, out) {
         return false;
     }
-    if !is_pawn_of(men.one, side) {
+    if !is_pawn_of(men.first, side) {
         return true;
     }
     // Equal men advance alike: in either order of the two the codes are the same.

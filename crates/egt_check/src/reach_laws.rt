@@ -1,10 +1,10 @@
-//! What holds of the column of the nearest mates beside the moves. These functions do nothing: a caller calls one to
+//! Laws of the column of the nearest mates beside the moves. These functions do nothing: a caller calls one to
 //! know what it ensures.
 ghost use Rattle.std.specs.Prelude.{◌≡◌, ◌≢◌, ◌<◌, ℕ, Bool, false, None};
 ghost use Rattle.egt_check.specs.Prelude.{Setup, K, Side, Spells, IsVoid, HasStand, ShelfMen, reach_due_score};
-ghost use Rattle.egt_check.specs.Prelude.{reach_score, NoMove, chess, TableValue, FourMen, Reach, stand_on, AreGiven};
+ghost use Rattle.egt_check.specs.Prelude.{reach_score, NoMove, chess, TableValue, FourMenTables, Reach, stand_on};
 ghost use Rattle.egt_check.specs.Prelude.{AreTablesOf, near_entry, near_tables, four_in, AreAllReachScores, IsJudgedBy};
-ghost use Rattle.egt_check.specs.Prelude.{KeepsReach, IsAtEnd, Tables, reach_at};
+ghost use Rattle.egt_check.specs.Prelude.{KeepsReach, IsAtEnd, Tables, reach_at, AreGiven};
 
 use crate::laws::{all_scores_give_all_moves, due_bytes_are_right};
 use egt_index::laws::{
@@ -31,10 +31,10 @@ pub fn due_reaches_are_right()
 /// The greatest scores in that column of the codes after all moves are those of the moves, in tables where it is read
 /// as a mate column.
 pub fn all_reach_scores_give_all_moves()
-    ensures { (tables : Tables) (four : FourMen) (men : ShelfMen) (side : Side) (passed : Bool) (a b : ℕ) (p : Setup)
-        (reach : ℕ) → AreTablesOf (near_tables tables) (four_in Reach four) men → men.one.kind ≢ K → men.last.kind ≢ K →
-        HasStand four.own.class false (stand_on men a b) side passed p →
-        AreAllReachScores passed four men side a b reach →
+    ensures { (tables : Tables) (four : FourMenTables) (men : ShelfMen) (side : Side) (targeted : Bool) (a b : ℕ)
+        (p : Setup) (reach : ℕ) → AreTablesOf (near_tables tables) (four_in Reach four) men →
+        men.first.kind ≢ K → men.last.kind ≢ K → HasStand four.own.class false (stand_on men a b) side targeted p →
+        AreAllReachScores targeted four men side a b reach →
         (zeroing : ℕ) × AreGiven (near_tables tables) p (λ m. Unit {0}) reach zeroing }
 {
     a_code_is_an_index_or_void();

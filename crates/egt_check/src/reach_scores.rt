@@ -2,11 +2,11 @@
 //! stand on two squares. That of a move is the less the more plies it is from there to a checkmate, and least where
 //! there is none.
 ghost use Rattle.std.specs.Prelude.{◌≡◌, ◌<◌, ℕ, true};
-ghost use Rattle.egt_check.specs.Prelude.{other_side, at, AreKept, AreFourMen, HoldsExits, HoldsPassing};
-ghost use Rattle.egt_check.specs.Prelude.{ArePassedReachScores, AreReachScores, column_score};
+ghost use Rattle.egt_check.specs.Prelude.{other_side, at, AreKept, AreFourMenTables, HoldsExits, HoldsPassing};
+ghost use Rattle.egt_check.specs.Prelude.{ArePassingReachScores, AreReachScores, column_score};
 ghost use Rattle.egt_table.specs.declared.column.Column.TheVariants as columns;
 
-use crate::move_scores::{FourMen, advances, has_pawn};
+use crate::move_scores::{FourMenTables, advances, has_pawn};
 use crate::table_scores::TableScores;
 use egt_blocks::blocks::nothing;
 use egt_blocks::kept_blocks::BlockKey;
@@ -14,13 +14,13 @@ use egt_blocks::quiet_blocks::quiet_block;
 use egt_board::Side;
 use egt_index::ShelfMen;
 use egt_lanes::Block;
-use egt_lanes::block::raise;
+use egt_lanes::block::raise_to_max;
 use egt_table::Column;
 
 /// The greatest scores of all moves of that side but captures in passing, by those of its exits. False where a table
 /// does not tell.
 pub fn reach_scores(
-    four: &FourMen,
+    four: &FourMenTables,
     men: &ShelfMen,
     side: Side,
     leaving: &Block,
@@ -28,7 +28,7 @@ pub fn reach_scores(
     blocks: &mut [Block],
     out: &mut Block,
 ) -> bool
-    requires men { AreFourMen columns.Reach four.now men.now }
+    requires men { AreFourMenTables columns.Reach four.now men.now }
     requires leaving { HoldsExits columns.Reach four.now.children men.now side leaving.now }
     requires kept { AreKept four.now.own.class (column_score four.now.own) men.now
         (other_side side) keys.old blocks.old }
@@ -40,7 +40,7 @@ pub fn reach_scores(
     if !quiet_block(&four.own, Column::Reach, men, side, keys, blocks, out) {
         return false;
     }
-    raise(out, leaving);
+    raise_to_max(out, leaving);
     if !has_pawn(men, side) {
         return true;
     }
@@ -56,14 +56,14 @@ pub fn reach_scores(
     ) {
         return false;
     }
-    raise(out, &pawns);
+    raise_to_max(out, &pawns);
     true
 }
 
 /// Raises those to the scores of captures in passing, which are these: then they are of all moves where there is a
 /// target. The contract alone reads the tables and the men.
-pub fn raise_passed_reach(
-    four: &FourMen,
+pub fn raise_passing_reach(
+    four: &FourMenTables,
     men: &ShelfMen,
     side: Side,
     passing: &Block,
@@ -71,7 +71,7 @@ pub fn raise_passed_reach(
 )
     requires { HoldsPassing columns.Reach four.now.children men.now side passing.now }
     ensures { (a b : ℕ) → a < 64 → b < 64 → AreReachScores four.now men.now side a b (at out.old a b) →
-        ArePassedReachScores four.now men.now side a b (at out.new a b) }
+        ArePassingReachScores four.now men.now side a b (at out.new a b) }
 {
-    raise(out, passing);
+    raise_to_max(out, passing);
 }

@@ -107,7 +107,7 @@ pub fn due_in(part: Part, row: Row) -> Row
 /// on the squares where `within` is not 0.
 #[inline(always)]
 fn clock_is_due(table: &Table, part: Part, shelf: &Shelf, zeroing: Row, within: Row) -> bool
-    requires shelf { IsShelfOf shelf.now.passed table.now.class shelf.now.number shelf.now.men }
+    requires shelf { IsShelfOf shelf.now.targeted table.now.class shelf.now.number shelf.now.men }
     requires within { IsWithin table.now.class shelf.now.number }
     ensures { result ≡ true → part ≡ parts.Values → (digit : ℕ) → digit < kind_digits shelf.now.men.last.kind →
         slice_index within (digit + kind_less shelf.now.men.last.kind) ≢ 0 →
@@ -124,7 +124,7 @@ fn clock_is_due(table: &Table, part: Part, shelf: &Shelf, zeroing: Row, within: 
                 &shelf.men,
                 shelf.number,
                 shelf.side,
-                shelf.passed,
+                shelf.targeted,
             );
             !differ(clock, due(zeroing), within)
         }
@@ -133,7 +133,7 @@ fn clock_is_due(table: &Table, part: Part, shelf: &Shelf, zeroing: Row, within: 
 }
 
 /// Whether the part's entries of a shelf's codes with that side to move are due to the greatest scores of the moves, by
-/// the last man's square, or tell checkmate and stalemate; `passed` tells whether the positions have a target.
+/// the last man's square, or tell checkmate and stalemate; `targeted` tells whether the positions have a target.
 pub(crate) fn row_is_right(
     table: &Table,
     part: Part,
@@ -142,7 +142,7 @@ pub(crate) fn row_is_right(
     zeroing: Row,
 ) -> bool
     requires there { HasColumn (column_of part) table.now }
-    requires shelf { IsShelfOf shelf.now.passed table.now.class shelf.now.number shelf.now.men }
+    requires shelf { IsShelfOf shelf.now.targeted table.now.class shelf.now.number shelf.now.men }
     requires within { IsWithin table.now.class shelf.now.number }
     ensures { result ≡ true → (digit : ℕ) → digit < kind_digits shelf.now.men.last.kind →
         column_score table.now (column_of part)
@@ -159,7 +159,7 @@ pub(crate) fn row_is_right(
         &shelf.men,
         shelf.number,
         shelf.side,
-        shelf.passed,
+        shelf.targeted,
     );
     // A row's scores are 0 where there is no move.
     let within = unlike(scores, Row::splat(0), own);

@@ -65,17 +65,17 @@ fn target_row(
     men: &ShelfMen,
     shelf: u32,
     side: Side,
-    passed: bool,
+    targeted: bool,
 ) -> Row
     requires there { HasColumn column table.now }
-    requires shelf { IsShelfOf passed table.now.class shelf men.now }
+    requires shelf { IsShelfOf targeted table.now.class shelf men.now }
     requires within { IsWithin table.now.class shelf }
     requires targets { has_target (material_of table.now.class) ≡ true }
     ensures { IsShelfRow table.now.class (column_score table.now column) men.now shelf side result }
 {
     let first = first_of_targets(table.class(), shelf) as usize;
     let entries = &table.entries(column)[first..first + 192];
-    column_scores(column, load_target(entries, side, passed))
+    column_scores(column, load_target(entries, side, targeted))
 }
 
 /// The scores of the codes that tell these men, who are those of the shelf, by the last man's square, and a target
@@ -87,17 +87,17 @@ pub fn row_of(
     men: &ShelfMen,
     shelf: u32,
     side: Side,
-    passed: bool,
+    targeted: bool,
 ) -> Row
     requires there { HasColumn column table.now }
-    requires shelf { IsShelfOf passed table.now.class shelf men.now }
+    requires shelf { IsShelfOf targeted table.now.class shelf men.now }
     requires within { IsWithin table.now.class shelf }
-    ensures { (s : ℕ) → s < 64 → IsRaised 0 (λ code. TellsMen passed table.now.class code (stand_with men.now s) side)
+    ensures { (s : ℕ) → s < 64 → IsRaised 0 (λ code. TellsMen targeted table.now.class code (stand_with men.now s) side)
         (column_score table.now column) (slice_index result s) }
 {
     codes_tell_turned_men();
     if has_target(table.class()) {
-        target_row(table, column, men, shelf, side, passed)
+        target_row(table, column, men, shelf, side, targeted)
     } else {
         plain_row(table, column, men, shelf, side)
     }

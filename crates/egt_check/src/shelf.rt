@@ -9,5 +9,5 @@ pub struct Shelf {
     pub number: u32,
     pub men: ShelfMen,
     pub side: Side,
-    pub passed: bool,
+    pub targeted: bool,
 }

@@ -86,7 +86,7 @@ fn place_by_men(men: &Men) -> Place
     requires { (q : Setup) × IsAdmissible q × AreMenOf q men.now × (q.target ≡ None) }
     ensures { (q : Setup) → IsAdmissible q → AreMenOf q men.now → q.target ≡ None → IsPlaceOf result q }
 {
-    let (class, index) = indexed_by_men(men.white, men.black, men.one, men.other, men.side);
+    let (class, index) = indexed_by_men(men.white, men.black, men.first, men.other, men.side);
     let _number = class.number();
     Place { class, index }
 }

@@ -1,19 +1,18 @@
 //! The judgement of a whole table of a class with two men beside the kings, block by block.
 ghost use Rattle.std.specs.Prelude.{◌≡◌, ◌≢◌, ◌+◌, ◌*◌, ◌<◌, ◌≤◌, ℕ, false, true, Some, None, IfSome, get_or};
-ghost use Rattle.egt_check.specs.Prelude.{other_side, turned_man, Setup, Side, IsOf, AreNonKings, IsLoneMan};
-ghost use Rattle.egt_check.specs.Prelude.{AreMenOf, ShelfMen, IsOfficer, HasColumn, TableValue};
-ghost use Rattle.egt_check.specs.Prelude.{with_kings, AreKept, AreChildren, AreFourMen, AreTablesOf, IsOwnTable};
-ghost use Rattle.egt_check.specs.Prelude.{column_of, four_in, promotion_in, promotions_in, table_in, tables_in};
-ghost use Rattle.egt_check.specs.Prelude.{AreNamed, ArePromotionsOf, HasPromotion, HasPromotions, AreRuns};
-ghost use Rattle.egt_check.specs.Prelude.{IsJudgedPair};
-ghost use Rattle.egt_check.specs.Prelude.{IsPromotionOf, AreJudged, FourMen, men_swapped};
-ghost use Rattle.egt_check.specs.Prelude.{Tables, HasChildren, beside, table_at, HasBytes, column_score, Values};
+ghost use Rattle.egt_check.specs.Prelude.{other_side, AreChildren, AreTablesOf, men_swapped, HasChildren, column_score};
+ghost use Rattle.egt_check.specs.Prelude.{turned_man, IsLoneMan, IsOfficer, TableValue, with_kings, IsOwnTable, Tables};
+ghost use Rattle.egt_check.specs.Prelude.{Setup, IsOf};
+ghost use Rattle.egt_check.specs.Prelude.{Side, promotion_in, HasPromotion, IsJudgedPair, IsPromotionOf, FourMenTables};
+ghost use Rattle.egt_check.specs.Prelude.{AreNonKings, AreFourMenTables, promotions_in, ArePromotionsOf, HasPromotions};
+ghost use Rattle.egt_check.specs.Prelude.{AreMenOf, ShelfMen, HasColumn, column_of, table_in, tables_in, AreJudged};
+ghost use Rattle.egt_check.specs.Prelude.{AreKept, four_in, AreNamed, AreRuns, beside, table_at, HasBytes, Values};
 
 use crate::block_judging::block_is_right;
 use crate::bytes::tells_bytes;
 use crate::library::Library;
 use crate::lone_runs::{is_king, runs_by_rows};
-use crate::move_scores::{Children, FourMen, Moves, beside_own};
+use crate::move_scores::{Children, FourMenTables, Moves, beside_own};
 use crate::pair_order::nth_pair;
 use crate::pairs::{MOST_PAIRS, Pairs, judged_pairs_hold_all_codes, pairs_of};
 use crate::part::{Part, column_of};
@@ -37,7 +36,7 @@ pub fn with_kings(men: &ShelfMen, white: Square, black: Square) -> ShelfMen
     ShelfMen {
         white,
         black,
-        one: men.one,
+        first: men.first,
         on: men.on,
         last: men.last,
     }
@@ -55,7 +54,7 @@ fn pair_is_right(
     scores: &mut Block,
     zeroing: &mut Block,
 ) -> bool
-    requires men { AreFourMen (column_of moves.now.part) moves.now.four.now moves.now.men.now }
+    requires men { AreFourMenTables (column_of moves.now.part) moves.now.four.now moves.now.men.now }
     requires room { first + half + 64 < 4294967296 }
     requires kept { AreKept moves.now.four.now.own.class (column_score moves.now.four.now.own) moves.now.men.now
         (other_side moves.now.side) keys.old blocks.old }
@@ -79,13 +78,13 @@ fn pair_is_right(
 
 /// The pairs of kings' squares of which all entries of the part with that side to move were found to keep the rules.
 fn right_pairs(
-    four: &FourMen,
+    four: &FourMenTables,
     men: &ShelfMen,
     part: Part,
     pairs: &Pairs,
     side: Side,
 ) -> [bool; MOST_PAIRS]
-    requires men { AreFourMen (column_of part) four.now men.now }
+    requires men { AreFourMenTables (column_of part) four.now men.now }
     requires few { pairs.now.kings ≤ 32 }
     requires room { 64 * pairs.now.kings * pairs.now.step + pairs.now.half + 64 < 4294967296 }
     ensures { (tables : Tables) → AreTablesOf (tables_in part tables) (four_in part four.now) men.now → (pair : ℕ) →
@@ -125,8 +124,8 @@ fn right_pairs(
 
 /// The codes of the class by pairs of kings' squares, and which of these were found right. `None` where its shelves do
 /// not go by them.
-pub(crate) fn right_runs(four: &FourMen, men: &ShelfMen, part: Part) -> Option<Runs>
-    requires men { AreFourMen (column_of part) four.now men.now }
+pub(crate) fn right_runs(four: &FourMenTables, men: &ShelfMen, part: Part) -> Option<Runs>
+    requires men { AreFourMenTables (column_of part) four.now men.now }
     ensures { (tables : Tables) → AreTablesOf (tables_in part tables) (four_in part four.now) men.now →
         IfSome result (AreRuns part tables four.now.own) }
 {
@@ -159,10 +158,10 @@ fn named_before(class: Class, one: Man, last: Man) -> Option<bool>
     ensures { IfSome result (λ before. (men : ShelfMen) × AreMenOf class men × AreNamed before men one last) }
 {
     let men = shelf_men(class, 0)?;
-    if men.one == one && men.last == last {
+    if men.first == one && men.last == last {
         return Some(false);
     }
-    if men.one == last && men.last == one {
+    if men.first == last && men.last == one {
         return Some(true);
     }
     None
@@ -188,11 +187,11 @@ fn promotion<'t>(
         side: men.last.side,
         kind,
     };
-    let (both_class, both_flips) = of_men(Some(men.one), Some(officer));
+    let (both_class, both_flips) = of_men(Some(men.first), Some(officer));
     let both = library.telling(both_class, part)?;
     let before = named_before(
         both_class,
-        turned_man(men.one, both_flips),
+        turned_man(men.first, both_flips),
         turned_man(officer, both_flips),
     )?;
     if both_class.number() == class.number() {
@@ -255,7 +254,7 @@ fn first_promotions<'t>(
     ensures has { IfSome result (λ kinds. (t : TableValue) → t.class ≡ class →
         HasPromotions (tables_in part (beside (table_at library.now) t)) (promotions_in part kinds)
         (men_swapped men.now)) }
-    ensures same { men.now.one ≡ men.now.last → result ≡ last.now }
+    ensures same { men.now.first ≡ men.now.last → result ≡ last.now }
 {
     if are_equal(men) {
         *last
@@ -266,9 +265,10 @@ fn first_promotions<'t>(
 
 /// Whether all positions of these men are of the class, in its own colours.
 fn is_own_class(class: Class, men: &ShelfMen) -> bool
-    ensures { result ≡ true → (p : Setup) → AreNonKings p (Some men.now.one) (Some men.now.last) → IsOf class false p }
+    ensures { result ≡ true →
+        (p : Setup) → AreNonKings p (Some men.now.first) (Some men.now.last) → IsOf class false p }
 {
-    let (own, flips) = of_men(Some(men.one), Some(men.last));
+    let (own, flips) = of_men(Some(men.first), Some(men.last));
     own.number() == class.number() && !flips
 }
 
@@ -282,19 +282,21 @@ pub fn children_of<'t>(
     part: Part,
 ) -> Option<Children<'t>>
     ensures of { IfSome result (λ children. AreChildren (column_of part) children men.now) }
-    ensures four { IfSome result (λ children. (four : FourMen) → four.children ≡ children →
+    ensures four { IfSome result (λ children. (four : FourMenTables) → four.children ≡ children →
         IsOwnTable part class men.now four.own →
-        AreFourMen (column_of part) four men.now ×
+        AreFourMenTables (column_of part) four men.now ×
         AreTablesOf (tables_in part (beside (table_at library.now) four.own)) (four_in part four) men.now) }
 {
-    if is_king(men.one) || is_king(men.last) || !is_own_class(class, men) {
+    if is_king(men.first) || is_king(men.last) || !is_own_class(class, men) {
         return None;
     }
-    let (first_class, first_flips) = of_men(Some(men.one), None);
+    let (first_class, first_flips) = of_men(Some(men.first), None);
     let (last_class, last_flips) = of_men(Some(men.last), None);
     let first = library.telling(first_class, part)?;
     let last = library.telling(last_class, part)?;
-    if !is_left(class, first, first_flips, men.one) || !is_left(class, last, last_flips, men.last) {
+    if !is_left(class, first, first_flips, men.first)
+        || !is_left(class, last, last_flips, men.last)
+    {
         return None;
     }
     let last_pawn = promotions(library, class, men, part);
@@ -315,12 +317,12 @@ pub(crate) fn four_men<'t>(
     library: &'t Library,
     men: &ShelfMen,
     part: Part,
-) -> Option<FourMen<'t, 't>>
+) -> Option<FourMenTables<'t, 't>>
     requires there { HasColumn (column_of part) table.now }
     requires bytes { HasBytes (table_in part table.now) }
     requires men { AreMenOf table.now.class men.now }
     ensures own { IfSome result (λ four. four.own ≡ table.now) }
-    ensures of { IfSome result (λ four. AreFourMen (column_of part) four men.now) }
+    ensures of { IfSome result (λ four. AreFourMenTables (column_of part) four men.now) }
     ensures tables { IfSome result (λ four. AreTablesOf (tables_in part (beside (table_at library.now) table.now))
         (four_in part four) men.now) }
 {

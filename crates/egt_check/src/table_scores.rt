@@ -1,4 +1,4 @@
-//! What the codes of a table's class are worth by its entries.
+//! Scores of the codes of a table's class by its entries.
 ghost use Rattle.std.specs.Prelude.{◌≡◌, ◌<◌, ℕ, false, slice_index};
 ghost use Rattle.egt_check.specs.Prelude.{IsLoneRow, lone_stand, TellsMen, IsRaised, HasColumn, column_score};
 
@@ -66,9 +66,9 @@ impl ShelfScores for TableScores<'_> {
         men: &ShelfMen,
         shelf: u32,
         side: Side,
-        passed: bool,
+        targeted: bool,
     ) -> Row {
-        row_of(self.table, column, men, shelf, side, passed)
+        row_of(self.table, column, men, shelf, side, targeted)
     }
 }
 

@@ -13,9 +13,9 @@ use egt_lanes::sets::lanes_of;
 use egt_table::{Column, Table};
 
 /// Whether the positions of the shelf, which has these men, have a target.
-pub(crate) fn is_passed(class: Class, men: &ShelfMen, shelf: u32) -> Option<bool>
+pub(crate) fn is_targeted(class: Class, men: &ShelfMen, shelf: u32) -> Option<bool>
     requires { AreMenOf class men.now }
-    ensures { IfSome result (λ passed. IsShelfOf passed class shelf men.now) }
+    ensures { IfSome result (λ targeted. IsShelfOf targeted class shelf men.now) }
 {
     match shelf_of(class, men, false) {
         Some(number) if number == shelf => return Some(false),
@@ -34,17 +34,17 @@ pub(crate) fn marks_of(
     men: &ShelfMen,
     shelf: u32,
     side: Side,
-    passed: bool,
+    targeted: bool,
 ) -> u64
     requires there { HasColumn column table.now }
-    requires shelf { IsShelfOf passed table.now.class shelf men.now }
+    requires shelf { IsShelfOf targeted table.now.class shelf men.now }
     requires within { IsWithin table.now.class shelf }
     ensures { (k : ℕ) → k < kind_digits men.now.last.kind →
         bit_at result k ≡ (if column_score table.now column
         (code_of table.now.class (number_in table.now.class shelf side k)) == 0 then 0 else 1) }
 {
     codes_tell_turned_men();
-    let row = table.row(column, men, shelf, side, passed);
+    let row = table.row(column, men, shelf, side, targeted);
     lanes_of(row).bits >> first_square(men.last)
 }
 
@@ -59,13 +59,13 @@ fn tells_shelf(table: &Table, shelf: u32) -> bool
     let Some(men) = shelf_men(class, shelf) else {
         return false;
     };
-    let Some(passed) = is_passed(class, &men, shelf) else {
+    let Some(targeted) = is_targeted(class, &men, shelf) else {
         return false;
     };
     let indexes = indexes_of(class, shelf);
     let own = Own::of_table(table);
-    let white = marks_of(&own, Column::Mate, &men, shelf, Side::White, passed);
-    let black = marks_of(&own, Column::Mate, &men, shelf, Side::Black, passed);
+    let white = marks_of(&own, Column::Mate, &men, shelf, Side::White, targeted);
+    let black = marks_of(&own, Column::Mate, &men, shelf, Side::Black, targeted);
     white == indexes.white && black == indexes.black
 }
 

@@ -7,7 +7,7 @@ use Rattle.egt_class.specs.Prelude.{materials, material_of, men_in, has_equal_si
 use Rattle.egt_class.specs.Prelude.{Change, is_possible, follows, men_of, men_beside, agree_at, takings, promotions}
 use Rattle.egt_class.specs.Prelude.{children_of, listed, STARTS}
 use Rattle.egt_class.proofs.Tables.{same_list, same_list-same, all_less}
-use Rattle.egt_class.proofs.Agreeing.{same_agree}
+use Rattle.egt_class.proofs.CountsAgree.{same_agree}
 use Rattle.egt_class.proofs.ChildTable.{children_are_right}
 
 -- no two classes have one name

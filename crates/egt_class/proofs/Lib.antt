@@ -1,7 +1,7 @@
 pub mod Tables
 pub mod NameTable
 pub mod ChildTable
-pub mod Agreeing
+pub mod CountsAgree
 pub mod PairTable
 pub mod NonKings
 pub mod TwoNonKings

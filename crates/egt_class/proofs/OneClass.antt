@@ -1,6 +1,5 @@
 -- Positions of a class: one class, the settled form, the images.
-use Rattle.std.proofs.Common.{◌≡◌, ℕ, ◌<◌, ◌⊎◌, ◌↔◌, Bool, true, not, if◌then◌else◌, sym, ap, ◌∙◌, inl, inr}
-use Rattle.std.proofs.Common.{arith}
+use Rattle.std.proofs.Common.{◌≡◌, ℕ, ◌<◌, ◌⊎◌, ◌↔◌, Bool, true, not, if◌then◌else◌, sym, ap, ◌∙◌, inl, inr, arith}
 use Rattle.egt_class.specs.Prelude.{Side, Kind, Man, other_side, Setup, SettlesTo, count_of}
 use Rattle.egt_class.specs.Prelude.{SameMen, ExchangedMen, men_in, has_equal_sides, IsOf}
 use Rattle.egt_class.proofs.ClassTests.{one_class, equal_sides}

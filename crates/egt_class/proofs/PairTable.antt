@@ -1,12 +1,11 @@
 -- The table of classes by two men is right at each pair.
 use Rattle.std.proofs.Common.{◌≡◌, ◌≢◌, ℕ, ◌+◌, ◌*◌, ◌<◌, ◌≤◌, ◌&&◌, Bool, true, false, not, cond, eqb, ltb, Option}
 use Rattle.std.proofs.Common.{Some, IfSome, if◌then◌else◌, refl, sym, ap₂, ◌∙◌, arith}
-use Rattle.egt_class.specs.Prelude.{and_parts, ltb-true, eqb-true, eq-eqb, eqb_tells, Side, White, Black, Kind, Q, R, B}
-use Rattle.egt_class.specs.Prelude.{N, P, K, Man, other_side, kind_number, side_number, stands_here, count_of, Setup}
-use Rattle.egt_class.specs.Prelude.{all_below, passes_below, materials, material_of, men_in, has_equal_sides, IsOf}
-use Rattle.egt_class.specs.Prelude.{men_beside, agree_at, man_of, slot_of, kind_slot, first_slot, class_at, flip_at}
-use Rattle.egt_class.specs.Prelude.{AreNonKings}
-use Rattle.egt_class.proofs.Agreeing.{all_agree}
+use Rattle.egt_class.specs.Prelude.{and_parts, eqb_tells, R, other_side, all_below, men_beside, first_slot, AreNonKings}
+use Rattle.egt_class.specs.Prelude.{ltb-true, eqb-true, Man, count_of, materials, agree_at, slot_of, kind_slot, class_at}
+use Rattle.egt_class.specs.Prelude.{eq-eqb, Side, White, Black, Kind, B, N, P, K, Setup, men_in, IsOf, man_of, flip_at}
+use Rattle.egt_class.specs.Prelude.{Q, kind_number, side_number, stands_here, passes_below, material_of, has_equal_sides}
+use Rattle.egt_class.proofs.CountsAgree.{all_agree}
 use Rattle.egt_class.proofs.NonKings.{kind_few}
 
 -- how many of this man the class has, in the one colours or the other

@@ -1,4 +1,4 @@
-//! What holds of classes and positions. These functions do nothing: a caller calls one to know what it ensures.
+//! Laws of classes and positions. These functions do nothing: a caller calls one to know what it ensures.
 ghost use Rattle.std.specs.Prelude.{◌≡◌, ◌<◌, ◌↔◌, ◌⊎◌, ℕ, Bool, not, Option, IsTrue};
 ghost use Rattle.egt_class.specs.Prelude.{Contains, option_map, IsStrictlyIncreasing, HasBeside, other_side, Man};
 ghost use Rattle.egt_class.specs.Prelude.{White, Black, Kind, Setup, IsAdmissible, SettlesTo, AreImages, men_in};

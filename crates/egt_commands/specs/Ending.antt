@@ -1,4 +1,4 @@
--- What ends a run where no text could be made of a FEN.
+-- The end of a run where no text could be made of a FEN.
 use Rattle.egt_commands.specs.declared.fault.MovesFault.{MovesFault}
 use Rattle.egt_commands.specs.declared.fault.MovesFault.TheVariants as texts
 use Rattle.egt_commands.specs.declared.run_fault.RunFault.{RunFault}

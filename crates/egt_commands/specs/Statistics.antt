@@ -1,4 +1,4 @@
--- What a table says in all: how many mate entries show what, the most plies of a win and of a loss, and how many positions are dead.
+-- Counts over all entries of a table: how many mate entries show what, the most plies of a win and of a loss, and how many positions are dead.
 use Rattle.std.specs.Prelude.{◌≡◌, ℕ, ◌-◌, ◌/◌, ◌%◌, ◌≤◌, ◌<◌, ◌==◌, ◌&&◌, nat_le, Bool, true, false, List, [], ◌∷◌, ◌++◌, length, slice_index, count_by, Option, Some, None, codes, decimal}
 use Rattle.egt_class.specs.Name.{name_of}
 use Rattle.egt_table.specs.Table.{TableValue}

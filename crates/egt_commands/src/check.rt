@@ -13,7 +13,7 @@ use egt_table::{Sink, Table};
 use std::rt::Files;
 
 /// Sees that the table is true beside the library.
-pub fn see_true(class: Class, table: &Table, library: &Library) -> Result<(), RunFault>
+pub fn require_true(class: Class, table: &Table, library: &Library) -> Result<(), RunFault>
     ensures { OnOk result (IsAccepted (table_at library.now) table.now) }
 {
     match check(table, library) {

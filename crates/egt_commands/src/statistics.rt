@@ -1,4 +1,4 @@
-//! What a table says in all.
+//! Counts over all entries of a table.
 use crate::tally::{Shown, count, dead, longest};
 use egt_index::size;
 use egt_table::{Column, Table};

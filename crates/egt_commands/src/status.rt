@@ -1,4 +1,4 @@
-//! What a run ends with.
+//! The status with which a run ends.
 
 /// The status of a run.
 #[derive(Clone, Copy, Debug, PartialEq, Eq)]

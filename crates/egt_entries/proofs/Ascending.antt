@@ -1,7 +1,6 @@
 -- The first of an ascending list to be something is the least.
 use Rattle.std.proofs.Common.{◌≡◌, ℕ, ◌<◌, ◌≤◌, inl, inr, List, get_or, length, ◌∙◌, arith}
-use Rattle.egt_entries.specs.Prelude.{Contains, IsStrictlyIncreasing, cases_lt, get_or_default}
-use Rattle.egt_entries.specs.Prelude.{AllPairs-from_increasing}
+use Rattle.egt_entries.specs.Prelude.{Contains, IsStrictlyIncreasing, cases_lt, get_or_default, AllPairs-from_increasing}
 
 pub first_is_least : (xs : List ℕ) (P : ℕ → Type 0) (n d : ℕ) → IsStrictlyIncreasing xs → n < length xs → d ≡ get_or xs n d → ((k e : ℕ) → k < n → get_or xs k e ≡ e → ¬ P e)
     → (e : ℕ) → Contains xs e → P e → d ≤ e

@@ -1,4 +1,4 @@
--- What fits beside the successors of one position fits beside those of another that plays like it.
+-- Values that fit beside the successors of one position fit beside those of another that plays like it.
 use Rattle.std.specs.Prelude.{ℕ, zero, suc, ◌≤◌, ◌↔◌}
 use Rattle.egt_entries.specs.Prelude.{⊎_map, Setup, Value, Win, Loss, Draw, SomeMove, IsStalemate, chess, Metric, Mate}
 use Rattle.egt_entries.specs.Prelude.{Zeroing, Shown, Counts, FitsBeside}

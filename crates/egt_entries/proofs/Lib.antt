@@ -1,7 +1,7 @@
 pub mod Carry
 pub mod Due
 pub mod Judged
-pub mod Raising
+pub mod BestGrows
 pub mod ReachRule
 pub mod Ascending
 pub mod Scoring

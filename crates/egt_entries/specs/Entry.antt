@@ -1,4 +1,4 @@
--- What an entry shows: 1 a draw, 2 + 2n a win in n plies, n from 1 to 32,000, and 3 + 2n a loss in n plies, n from 0 to 32,000;
+-- An entry shows: 1 a draw, 2 + 2n a win in n plies, n from 1 to 32,000, and 3 + 2n a loss in n plies, n from 0 to 32,000;
 -- any other nothing.
 use Rattle.std.specs.Prelude.{◌≡◌, ℕ, ◌+◌, ◌*◌, ◌<◌, ◌≤◌}
 use Rattle.egt_moves.specs.WinLossDraw.{Value, Win, Loss, Draw}

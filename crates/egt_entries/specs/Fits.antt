@@ -1,4 +1,4 @@
--- What a value must be beside what the successors show. One look forward, no search.
+-- The value that fits beside those that the successors show. One look forward, no search.
 use Rattle.std.specs.Prelude.{◌≡◌, ℕ, zero, suc, ◌⊎◌}
 use Rattle.egt_moves.specs.Prelude.{Setup, Value, Win, Loss, Draw, SomeMove, EachMove, IsStalemate, chess}
 use Rattle.egt_moves.specs.Entries.{IsLeast, IsGreatest}

@@ -1,4 +1,4 @@
--- What comparing an entry with the one that is due finds.
+-- The verdict of comparing an entry with the one that is due.
 use Rattle.std.specs.Prelude.{◌≡◌, ◌≢◌, ℕ, Option, Some, None}
 use Rattle.egt_entries.specs.Prelude.{Value, Metric, Mate, Zeroing, Outcome, Rule, value_of}
 use Rattle.egt_moves.specs.Prelude.{SameKind}

@@ -1,4 +1,4 @@
--- What an entry of the column of the nearest mates shows: 2 + n a checkmate n plies away, n from 0 to 32,000, by moves of both sides; 1 that
+-- An entry of the column of the nearest mates shows: 2 + n a checkmate n plies away, n from 0 to 32,000, by moves of both sides; 1 that
 -- there is none (FIDE Laws of Chess 2023, article 5.2.2); any other nothing. And what it must be beside the entries of the successors: one look
 -- forward, no search.
 use Rattle.std.specs.Prelude.{◌≡◌, ℕ, zero, suc, ◌+◌, ◌<◌, ◌≤◌, ◌↔◌, Bool, Option, Some, None}

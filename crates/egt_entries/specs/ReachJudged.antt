@@ -1,4 +1,4 @@
--- What comparing an entry of the column of the nearest mates with the one that is due finds.
+-- The verdict of comparing an entry of the column of the nearest mates with the one that is due.
 use Rattle.std.specs.Prelude.{◌≡◌, ◌≢◌, ℕ, ◌<◌, ◌≤◌, Option, Some, None}
 use Rattle.egt_entries.specs.declared.rule.Rule.{Rule}
 use Rattle.egt_entries.specs.declared.rule.Rule.TheVariants as rules

@@ -1,4 +1,4 @@
-//! What entries show, and the scores of steps by what they say.
+//! Outcomes that entries show, and the scores of steps that lead to them.
 ghost use Rattle.std.specs.Prelude.{◌≡◌, ◌<◌, ◌≤◌, true, Option, IfSome};
 ghost use Rattle.egt_entries.specs.Prelude.{IsShownBy, IsCounted, is_decisive, zeroing_said, score_of, entry_before};
 ghost use Rattle.egt_entries.specs.Prelude.{Outcome};

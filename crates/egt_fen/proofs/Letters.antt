@@ -1,4 +1,4 @@
--- What a man's letter is not, and what a byte adds to a placement that is read from its front.
+-- Letters of men, told apart, and the squares that a byte adds to a placement that is read from its front.
 use Rattle.std.proofs.Common.{◌≡◌, ℕ, ◌+◌, ◌-◌, ◌*◌, ◌<◌, Bool, true, false, cond, ◌&&◌, leb, ltb, List, [], ◌∷◌, ◌++◌}
 use Rattle.std.proofs.Common.{Option, Some, None, arith, refl, sym, ap, ◌∙◌}
 use Rattle.egt_fen.specs.Prelude.{option_map, is_some, agree_below_at, le-leb, append_assoc, Man, man_of}

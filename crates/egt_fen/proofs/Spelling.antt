@@ -1,4 +1,4 @@
--- What a text spells and what its parts say are the same.
+-- A text spells what its parts say.
 use Rattle.std.proofs.Common.{◌≡◌, ℕ, List, Option, Some, None, Result, Ok, Err, refl, sym, ap, ◌∙◌, subst, arith}
 use Rattle.egt_fen.specs.Prelude.{IsOk, IsErr, Side, Man, setup_of, FitsBoard, Setup, IsAdmissible, FenFault, Fen}
 use Rattle.egt_fen.specs.Prelude.{Fields, fields_of, placement_of, side_of, castling_of, target_of, clocks_of, Parts}

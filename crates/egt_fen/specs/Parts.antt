@@ -1,4 +1,4 @@
--- What the fields of a text say, and the first of them that says nothing.
+-- The words of the fields of a text, and the first of them that says nothing.
 use Rattle.std.specs.Prelude.{ℕ, List, Option, Some, None, Result, Ok, Err}
 use Rattle.egt_board.specs.declared.man.Side.{Side}
 use Rattle.egt_board.specs.declared.man.Man.{Man}

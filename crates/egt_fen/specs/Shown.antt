@@ -1,4 +1,4 @@
--- What the code keeps of a text, seen as the lists that its definitions speak of.
+-- A text as the code keeps it, seen as the lists that its definitions speak of.
 use Rattle.std.specs.Prelude.{Result, Ok, Err}
 use Rattle.std.specs.Option.{option_map}
 use Rattle.egt_fen.specs.declared.fault.FenFault.{FenFault}

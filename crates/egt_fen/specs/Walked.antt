@@ -1,4 +1,4 @@
--- What a walk and the bytes that are left give.
+-- The result of a walk and the bytes that are left.
 use Rattle.std.specs.Prelude.{ℕ, List, ◌++◌, Option}
 use Rattle.std.specs.Option.{option_map}
 use Rattle.egt_board.specs.declared.man.Man.{Man}

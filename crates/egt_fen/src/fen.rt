@@ -1,4 +1,4 @@
-//! What a FEN text says.
+//! The fields of a FEN text.
 ghost use Rattle.std.specs.Prelude.{◌<◌};
 
 use egt_board::Position;

@@ -1,4 +1,4 @@
-//! What the fields of a text say, before it is known whether the men make a position.
+//! The words of the fields of a text, before it is known whether the men make a position.
 ghost use Rattle.std.specs.Prelude.{◌<◌};
 
 use arrayvec::ArrayVec;

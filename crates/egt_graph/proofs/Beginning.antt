@@ -1,14 +1,13 @@
--- What a run begins with.
+-- The columns as a run begins.
 use Rattle.std.proofs.Common.{◌≡◌, ℕ, ◌+◌, ◌<◌, ◌≤◌, ◌^◌, Bool, true, false, cond, not, ◌&&◌, eqb, ltb, List, [], ◌∷◌}
 use Rattle.std.proofs.Common.{◌++◌, length, slice_index, slice_index_or, get_or, take, refl, sym, ap, ap₂, ◌∙◌, inl}
 use Rattle.std.proofs.Common.{inr, arith, count_by, replicate}
-use Rattle.egt_graph.specs.Prelude.{list_any, cases_Bool, cases_eq, cases_lt, eq-eqb, ne_eqb, and_left, and_right}
-use Rattle.egt_graph.specs.Prelude.{le-ltb, or_from, get_or_append_left, get_or_push, get_or_past, length_push}
-use Rattle.egt_graph.specs.Prelude.{length-replicate, sum_by_more, Graph, is_empty, is_lost_before, is_won_before}
-use Rattle.egt_graph.specs.Prelude.{mated_within, Adds, IsFilled, IsBegun, outs, leaves, has_moves, count_of, decided}
-use Rattle.egt_graph.specs.Prelude.{entry_at, later_at, is_loss, is_win_of, is_loss_of, waits_at, is_winning}
-use Rattle.egt_graph.specs.Prelude.{is_win_from, done_of, Amid, Await, Exit, is_node, blocks_of, IsRun, IsSchedule}
-use Rattle.egt_graph.specs.Prelude.{Running}
+use Rattle.egt_graph.specs.Prelude.{list_any, cases_eq, cases_lt, and_left, is_empty, IsFilled, outs, count_of, entry_at}
+use Rattle.egt_graph.specs.Prelude.{cases_Bool, or_from, get_or_push, get_or_past, length_push, sum_by_more, is_win_from}
+use Rattle.egt_graph.specs.Prelude.{eq-eqb, IsBegun, decided, later_at, is_loss, waits_at, done_of, is_node, Running}
+use Rattle.egt_graph.specs.Prelude.{ne_eqb, le-ltb, Graph, leaves, Amid, Await, Exit, IsRun}
+use Rattle.egt_graph.specs.Prelude.{and_right, Adds, has_moves, is_win_of, is_loss_of, is_winning, blocks_of, IsSchedule}
+use Rattle.egt_graph.specs.Prelude.{get_or_append_left, length-replicate, is_lost_before, is_won_before, mated_within}
 use Rattle.egt_graph.proofs.Lists.{all_count, count_by-cons}
 use Rattle.egt_graph.proofs.Holding.{decided_none}
 use Rattle.egt_graph.proofs.Nodes.{outs_none, leaves_none}

@@ -21,8 +21,8 @@ use Rattle.egt_graph.proofs.Holding.{decided_open, decided_shut, win_is_no_draw,
 use Rattle.egt_graph.proofs.Nodes.{node_from_test, or_false, test_from_node, outs_are_nodes, with_node}
 use Rattle.egt_graph.proofs.Closing.{entry_none}
 use Rattle.egt_graph.proofs.Ranking.{spelled, Spells}
-use Rattle.egt_graph.proofs.Ending.{draw_of_no_round, void_of_no_round, of_round_win, of_round_loss}
-use Rattle.egt_graph.proofs.Fronts.{filter_range_same}
+use Rattle.egt_graph.proofs.RunOver.{draw_of_no_round, void_of_no_round, of_round_win, of_round_loss}
+use Rattle.egt_graph.proofs.BlockNodes.{filter_range_same}
 use Rattle.egt_graph.proofs.Steps.{counted_at, counted_past, counted_le, counted_more}
 
 -- ---- the entries of a round

@@ -1,5 +1,5 @@
 pub mod Ranges
-pub mod Fronts
+pub mod BlockNodes
 pub mod Lists
 pub mod Values
 pub mod Holding
@@ -7,11 +7,11 @@ pub mod Nodes
 pub mod Exits
 pub mod Closing
 pub mod Ranking
-pub mod Ending
+pub mod RunOver
 pub mod Steps
-pub mod Growing
+pub mod ListsAdded
 pub mod Blocks
-pub mod Taking
+pub mod BatchTaken
 pub mod Running
 pub mod Beginning
 pub mod Histories

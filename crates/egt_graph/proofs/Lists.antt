@@ -1,7 +1,6 @@
 -- Counts and tests over lists.
-use Rattle.std.proofs.Common.{◌≡◌, ℕ, zero, suc, ◌+◌, ◌<◌, ◌≤◌, Bool, true, false, cond, not, ◌&&◌, ◌||◌, eqb, ltb}
-use Rattle.std.proofs.Common.{List, [], ◌∷◌, length, get_or, refl, sym, ap, ap₂, ◌∙◌, inl, inr, arith, count_by, All}
-use Rattle.std.proofs.Common.{Contains}
+use Rattle.std.proofs.Common.{◌≡◌, ℕ, suc, ◌+◌, ◌<◌, ◌≤◌, not, eqb, ltb, [], ◌∷◌, refl, sym, ap, ap₂, ◌∙◌, inl, inr, All}
+use Rattle.std.proofs.Common.{zero, Bool, true, false, cond, ◌&&◌, ◌||◌, List, length, get_or, arith, count_by, Contains}
 use Rattle.egt_graph.specs.Prelude.{list_any, list_all, IsStrictlyIncreasing, count_of, is_empty, or_left, or_right}
 use Rattle.egt_graph.specs.Prelude.{false≢true, cases_Bool, lt-ltb, eqb-true, eq-eqb, ne_eqb, AllPass-from_list_all}
 use Rattle.egt_graph.specs.Prelude.{list_all-from_AllPass, sum_by-cons, All-contains, All-contains_itself, All-head}

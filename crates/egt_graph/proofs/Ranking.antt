@@ -1,4 +1,4 @@
--- What entries say of ranks, and when no further rank can come.
+-- Ranks told by entries, and when no further rank can come.
 use Rattle.std.proofs.Common.{◌≡◌, ℕ, zero, suc, ◌+◌, ◌*◌, ◌<◌, ◌≤◌, Bool, true, false, cond, eqb, List, length}
 use Rattle.std.proofs.Common.{slice_index, refl, sym, ap, ap₂, ◌∙◌, inl, inr, ⊎_elim, arith, IsFalse}
 use Rattle.egt_graph.specs.Prelude.{cases_Bool, eq-eqb, both_ways, or_cases, or_left, or_right, false_from_ne_true}

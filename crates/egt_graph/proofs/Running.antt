@@ -1,4 +1,4 @@
--- What a run keeps, as it goes on.
+-- Invariants that a run keeps as it goes on.
 use Rattle.std.proofs.Common.{◌≡◌, ◌≢◌, ℕ, ◌+◌, ◌/◌, ◌<◌, ◌≤◌, Bool, true, false, List, [], ◌++◌, length, slice_index}
 use Rattle.std.proofs.Common.{slice_index_or, get_or, set, take, drop, sym, ap, subst, ◌∙◌, inl, inr, arith, All}
 use Rattle.std.proofs.Common.{IsFalse, IsTrue, count_by, replicate}
@@ -12,7 +12,7 @@ use Rattle.egt_graph.proofs.Nodes.{node_from_test, leaves_none}
 use Rattle.egt_graph.proofs.Exits.{lost_exits_mark, won_exits_take, won_exits_waited, later_next}
 use Rattle.egt_graph.proofs.Closing.{next_round, closed_entries}
 use Rattle.egt_graph.proofs.Ranking.{final_ranks}
-use Rattle.egt_graph.proofs.Ending.{IsClosed, some_above, none_open}
+use Rattle.egt_graph.proofs.RunOver.{IsClosed, some_above, none_open}
 use Rattle.egt_graph.proofs.Blocks.{front_by_entries}
 
 -- a slice of a whole `Vec`, written through

@@ -1,4 +1,4 @@
--- What the columns hold as they are filled, node by node.
+-- The columns as they are filled, node by node.
 use Rattle.std.specs.Prelude.{◌≡◌, ℕ, ◌+◌, ◌<◌, ◌≤◌, ◌==◌, Bool, false, List, [], length, slice_index, slice_index_or, count_by, if◌then◌else◌}
 use Rattle.std.specs.List.{list_any}
 use Rattle.egt_graph.specs.Graph.{Graph}

@@ -1,4 +1,4 @@
--- What the columns of a run hold: functions of the game, the round and the nodes whose moves were taken back, whatever
+-- The columns of a run hold: functions of the game, the round and the nodes whose moves were taken back, whatever
 -- the order in which that was done.
 use Rattle.std.specs.Prelude.{◌≡◌, ℕ, zero, suc, ◌+◌, ◌*◌, ◌/◌, Bool, true, false, not, ◌&&◌, ◌||◌, List, [], slice_index, slice_index_or, count_by, take, ◌==◌, nat_lt, nat_le, if◌then◌else◌}
 use Rattle.std.specs.List.{list_any}

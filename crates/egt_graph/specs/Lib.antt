@@ -9,7 +9,7 @@ pub mod Run
 pub mod Begin
 pub mod Fault
 pub mod Laws
-pub mod Passing
+pub mod Filtered
 pub mod Near
 pub mod Due
 pub mod Prelude

@@ -1,4 +1,4 @@
--- What a run keeps between its calls.
+-- The state of a run between its calls.
 use Rattle.std.specs.Prelude.{◌≡◌, ℕ, ◌<◌, ◌≤◌, ◌^◌, Bool, List, [], length, slice_index_or, count_by}
 use Rattle.egt_graph.specs.Graph.{Graph}
 use Rattle.egt_graph.specs.Value.{AreRanks}

@@ -1,4 +1,4 @@
-//! What the calls of a run by rounds answer.
+//! Answers of the calls of a run by rounds.
 
 /// Where a run by rounds stands.
 #[derive(Clone, Copy, PartialEq, Eq, Debug)]

@@ -1,4 +1,4 @@
-//! What a run begins with.
+//! The columns as a run begins.
 ghost use Rattle.std.specs.Prelude.{◌≡◌, ℕ, ◌+◌, ◌<◌, ◌≤◌, ◌^◌, length, count_by, [], ◌∷◌, OnOk, IfOk};
 ghost use Rattle.egt_graph.specs.Prelude.{list_any, outs, leaves, entry_at, is_loss, is_win_from, is_win_of};
 ghost use Rattle.egt_graph.specs.Prelude.{is_loss_of, Adds, IsBegun};

@@ -1,7 +1,6 @@
 //! Laws over the definitions alone. Each is the contract of a function that does nothing.
-ghost use Rattle.egt_graph.specs.Due.{DueEntriesAreAsDeep, DueEntriesAreAsFar, DueEntriesAreNears};
-ghost use Rattle.egt_graph.specs.Due.{DueEntriesAreNumbers, DueEntriesAreRanks, DueEntriesAreValues, DueNumbersStay};
-ghost use Rattle.egt_graph.specs.Due.{DueValuesStay};
+ghost use Rattle.egt_graph.specs.Due.{DueEntriesAreAsDeep, DueEntriesAreNumbers, DueEntriesAreValues, DueNumbersStay};
+ghost use Rattle.egt_graph.specs.Due.{DueEntriesAreAsFar, DueEntriesAreNears, DueEntriesAreRanks, DueValuesStay};
 ghost use Rattle.egt_graph.specs.Events.{EventsLeave, EachRoundIsOfItsRank, FinishedRunsAgree};
 ghost use Rattle.egt_graph.specs.Laws.{MorePliesDoNoHarm, EachNodeHasOneValue};
 

@@ -79,7 +79,7 @@ fn is_of_round(entry: u16, round: u16) -> bool
 }
 
 /// The places of the round's entries within a block.
-#[tactic(auto, using(crate::proofs::Fronts::block_places_front, crate::proofs::Fronts::block_places_within))]
+#[tactic(auto, using(crate::proofs::BlockNodes::block_places_front, crate::proofs::BlockNodes::block_places_within))]
 fn block_places(entries: &[u16], block: u32, round: u16) -> ArrayVec<u16, 4096>
     requires short { round ≤ 32000 }
     requires within { 4096 * block ≤ length entries.now }

@@ -1,4 +1,4 @@
-//! What a post and a close do to the columns.
+//! Steps of the columns at a post and a close.
 ghost use Rattle.std.specs.Prelude.{◌≡◌, ℕ, ◌+◌, ◌<◌, ◌≤◌, true, false, List, length, slice_index, slice_index_or};
 ghost use Rattle.std.specs.Prelude.{slice_set, replicate, All, IsTrue, IsFalse, MatchBool};
 ghost use Rattle.egt_graph.specs.Prelude.{IsAlike, front, Amid, Marks, TakesBack, count_of, done_of, is_open_at};

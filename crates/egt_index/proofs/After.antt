@@ -1,15 +1,14 @@
 -- The men of a class where a turn takes them, and the code of their squares.
 use Rattle.std.proofs.Common.{◌≡◌, ◌≢◌, ℕ, ◌/◌, ◌%◌, ◌<◌, ◌≤◌, ◌&&◌, Bool, true, false, cond, ltb, eqb, List, [], ◌∷◌}
 use Rattle.std.proofs.Common.{◌++◌, map, Option, Some, arith, refl, sym, ap, ◌∙◌, inl, inr, subst, slice_index}
-use Rattle.egt_index.specs.Prelude.{option_map, option_to_list, cases_eq, and_parts, eqb-true, ltb-true, White, Black}
-use Rattle.egt_index.specs.Prelude.{Man, Colours, king_of, side_number, men_of, Placement, Stands, get-remove_same}
-use Rattle.egt_index.specs.Prelude.{get-remove_other, IsSettled, Setup, IsAdmissible, IsKingOn, IsSetBy, turned_square}
-use Rattle.egt_index.specs.Prelude.{turned_man, turned_side, all_below, passes_below, Material, material_of, IsOf}
-use Rattle.egt_index.specs.Prelude.{king_square, placed, target_digits, target_digit, number_from, AreDigits, Facts}
-use Rattle.egt_index.specs.Prelude.{AreCounted, Picks, Goes, king_base, base_of, men_beside, has_pawns, has_target}
-use Rattle.egt_index.specs.Prelude.{IsListed, Tells, Entry, men_among, rest_of, list_of, IsOff, AllApart, AllStand}
-use Rattle.egt_index.specs.Prelude.{Stood, entry_after, IsInOrder, IsOrdered, IsStandAfter, HasDigit, turned_with}
-use Rattle.egt_index.specs.Prelude.{IsTurn, TurnCode, Stand}
+use Rattle.egt_index.specs.Prelude.{option_map, Colours, material_of, king_square, number_from, entry_after, turned_with}
+use Rattle.egt_index.specs.Prelude.{option_to_list, Man, get-remove_same, get-remove_other, turned_square, target_digits}
+use Rattle.egt_index.specs.Prelude.{cases_eq, eqb-true, ltb-true, IsKingOn, Material, IsOf, IsListed, AllApart, AllStand}
+use Rattle.egt_index.specs.Prelude.{and_parts, Placement, IsSettled, turned_man, AreCounted, men_beside, has_target}
+use Rattle.egt_index.specs.Prelude.{White, Black, Setup, Facts, Picks, Tells, Entry, IsOff, Stood, IsTurn, Stand}
+use Rattle.egt_index.specs.Prelude.{king_of, all_below, AreDigits, king_base, has_pawns, men_among, IsInOrder, IsOrdered}
+use Rattle.egt_index.specs.Prelude.{side_number, IsAdmissible, turned_side, passes_below, target_digit, IsStandAfter}
+use Rattle.egt_index.specs.Prelude.{men_of, Stands, IsSetBy, placed, Goes, base_of, rest_of, list_of, HasDigit, TurnCode}
 use Rattle.std.specs.FinMap as placement
 use Rattle.egt_board.specs.Symmetry.{square_if, square_of, KeepsPlay}
 use Rattle.egt_index.specs.Code as code_words
@@ -17,8 +16,8 @@ use Rattle.egt_index.proofs.Classes.{image_in_colours}
 use Rattle.egt_index.proofs.Counted.{counted_rest, none_left}
 use Rattle.egt_index.proofs.Found.{code_made}
 use Rattle.egt_index.proofs.Listing.{AreApart, first_back, remove_first, get_here, listed}
-use Rattle.egt_index.proofs.Standing.{turned_back}
-use Rattle.egt_index.proofs.Turned.{counted_of}
+use Rattle.egt_index.proofs.MenPlaced.{turned_back}
+use Rattle.egt_index.proofs.ImageCodes.{counted_of}
 use Rattle.egt_board.proofs.Parts.{tails}
 
 -- the symmetry that undoes another
@@ -92,11 +91,11 @@ turned_men n flips (e ∷ list) = ap (λ l. e.0 ∷ l) (turned_men n flips list)
 -- the men of the class after the turn
 pub stood_after : (c n : ℕ) (flips : Bool) (p q : Setup) (before after : Stand) → n < 8 → IsSetBy n flips p q → Stood c flips p.men (list_of before) → IsStandAfter n flips before after → Stood c false q.men (list_of after)
 stood_after c n flips p q before after n_in set stood is = record {
-  are = ap (λ l. king_of White ∷ king_of Black ∷ l) (ordered_men _ _ after.next after.last is.both ∙ ap men_among (sym (both_to_list n flips before.next before.last)) ∙ turned_men n flips (option_to_list before.next ++ option_to_list before.last)) ∙ stood.are;
-  all = ordered false q.men after.white after.black (entry_after n flips before.next) (entry_after n flips before.last) after.next after.last is.both
-      (subst (λ l. AllStand false q.men ((king_of White, after.white) ∷ (king_of Black, after.black) ∷ l)) (both_to_list n flips before.next before.last)
-      (subst (λ w. AllStand false q.men ((king_of White, w) ∷ (king_of Black, after.black) ∷ map (turn_one n flips) (option_to_list before.next ++ option_to_list before.last))) (sym is.white)
-      (subst (λ b. AllStand false q.men ((king_of White, turned_square n flips before.white) ∷ (king_of Black, b) ∷ map (turn_one n flips) (option_to_list before.next ++ option_to_list before.last))) (sym is.black)
+  are = ap (λ l. king_of White ∷ king_of Black ∷ l) (ordered_men _ _ after.first after.last is.both ∙ ap men_among (sym (both_to_list n flips before.first before.last)) ∙ turned_men n flips (option_to_list before.first ++ option_to_list before.last)) ∙ stood.are;
+  all = ordered false q.men after.white after.black (entry_after n flips before.first) (entry_after n flips before.last) after.first after.last is.both
+      (subst (λ l. AllStand false q.men ((king_of White, after.white) ∷ (king_of Black, after.black) ∷ l)) (both_to_list n flips before.first before.last)
+      (subst (λ w. AllStand false q.men ((king_of White, w) ∷ (king_of Black, after.black) ∷ map (turn_one n flips) (option_to_list before.first ++ option_to_list before.last))) (sym is.white)
+      (subst (λ b. AllStand false q.men ((king_of White, turned_square n flips before.white) ∷ (king_of Black, b) ∷ map (turn_one n flips) (option_to_list before.first ++ option_to_list before.last))) (sym is.black)
       (all_after n flips p q (list_of before) n_in set stood.all))));
 }
 
@@ -108,7 +107,7 @@ stood_by c n flips p q stand n_in set stood = record {
 }
   where
     list_is : map (turn_one n flips) (list_of stand) ≡ list_of (turned_with n flips stand)
-    list_is = ap (λ l. (king_of White, turned_square n flips stand.white) ∷ (king_of Black, turned_square n flips stand.black) ∷ l) (both_to_list n flips stand.next stand.last)
+    list_is = ap (λ l. (king_of White, turned_square n flips stand.white) ∷ (king_of Black, turned_square n flips stand.black) ∷ l) (both_to_list n flips stand.first stand.last)
 
 still : (f : Bool) (men : Placement) (s : ℕ) (list : List (Man × ℕ)) → IsOff list s → AllStand f men list → AllStand f (placement.remove men s) list
 still f men s [] off all = tt
@@ -158,7 +157,7 @@ listed_there men [] man s all h = absurd h
 listed_there men (e ∷ list) man s all (inl h) = subst (λ m. Stands men s m) h.0 (subst (λ q. Stands men q e.0) h.1 all.1)
 listed_there men (e ∷ list) man s all (inr h) = listed_there men list man s all.3 h
 
-pub sorted_rest : (p : Setup) (stand : Stand) → IsAdmissible p → AllStand false p.men (list_of stand) → IsInOrder stand.next stand.last → AreSorted (rest_of stand)
+pub sorted_rest : (p : Setup) (stand : Stand) → IsAdmissible p → AllStand false p.men (list_of stand) → IsInOrder stand.first stand.last → AreSorted (rest_of stand)
 sorted_rest p stand ok all order = grind (arith, listed_there, sorted_two)
 
 -- what the turn makes of a position, with the men of the class where it takes them
@@ -169,7 +168,7 @@ pub record ImageStood (c : ℕ) (p : Setup) (t : ℕ) (after : Stand) : Type 0 w
   pub settled : IsSettled image
   pub is_of : IsOf c false image
   pub stood : Stood c false image.men (list_of after)
-  pub in_order : IsInOrder after.next after.last
+  pub in_order : IsInOrder after.first after.last
   pub side : image.side ≡ turned_side (eqb (t / 8) 1) p.side
   pub target : image.target ≡ option_map (turned_square (t % 8) (eqb (t / 8) 1)) p.target
 
@@ -197,8 +196,8 @@ digit_of p w e ok white stands apart = grind arith
 digits_of : (p : Setup) (w : ℕ) (x y : Entry) → IsAdmissible p → Stands p.men w (king_of White) → AllStand false p.men (option_to_list x ++ option_to_list y) → IsOff (option_to_list x ++ option_to_list y) w → HasDigit x × HasDigit y
 digits_of p w x y ok white all off = grind (arith, digit_of)
 
-pub digits_after : (c : ℕ) (p : Setup) (t : ℕ) (after : Stand) → ImageStood c p t after → HasDigit after.next × HasDigit after.last
-digits_after c p t after i = digits_of i.image after.white after.next after.last i.admissible i.stood.all.1 i.stood.all.3.3 i.stood.all.2.1
+pub digits_after : (c : ℕ) (p : Setup) (t : ℕ) (after : Stand) → ImageStood c p t after → HasDigit after.first × HasDigit after.last
+digits_after c p t after i = digits_of i.image after.white after.first after.last i.admissible i.stood.all.1 i.stood.all.3.3 i.stood.all.2.1
 
 goes_from : (pawns : Bool) (high number : ℕ) (men : List Man) (list : List (Man × ℕ)) → AreApart list → AreSorted list → Tells pawns number men high list → Goes pawns high (men_of list) men number
 goes_from pawns high number men list apart sorted tells = grind (arith, men_of, picks_sorted)

@@ -1,9 +1,9 @@
--- What the digits of a code say.
+-- The digits of a code, read one by one.
 use Rattle.std.proofs.Common.{◌≡◌, ℕ, ◌<◌, Bool, List, true, false, Option, Some, None, IfSome, refl, sym, subst, inl}
 use Rattle.std.proofs.Common.{inr}
 use Rattle.egt_index.specs.Prelude.{Side, White, Black, Man, pawn_of, ahead, Setup, Material, Spells, Facts, IsIndex}
 use Rattle.egt_index.specs.Prelude.{IsVoid, HasPawns, IsListed, IsTold, SpellsMen, list_of, Stand}
-use Rattle.egt_index.proofs.Telling.{index_or_void}
+use Rattle.egt_index.proofs.IndexOrVoid.{index_or_void}
 
 -- some position is spelled by a code that is not void, and has it as its index
 pub indexed_by : Facts → (c code : ℕ) → c < 36 → ¬ IsVoid c code → (p : Setup) × Spells c code p × IsIndex c p code
@@ -17,7 +17,7 @@ pub taken : (m : Material) (number : ℕ) (o : Option Stand) (stand : Stand) →
 taken m number o stand some is = subst (λ (o : Option Stand). IfSome o (λ s. SpellsMen m number (list_of s))) is some
 
 -- where there are pawns, the square behind one of them is a target
-pub target_exists : (passed : Bool) (side : Side) (list : List (Man × ℕ)) → (passed ≡ true → HasPawns list) → (target : Option ℕ) × IsTold passed side list target
+pub target_exists : (targeted : Bool) (side : Side) (list : List (Man × ℕ)) → (targeted ≡ true → HasPawns list) → (target : Option ℕ) × IsTold targeted side list target
 target_exists false side list pawns = (None, refl)
 target_exists true side list pawns = of_side side
   where

@@ -17,7 +17,7 @@ use Rattle.egt_index.proofs.LeastTurn.{keeps_play, none_away, none_exchanged}
 use Rattle.egt_index.proofs.Listing.{AreApart, apart_of, get_here, listed_stands}
 use Rattle.egt_index.proofs.MixedDigits.{number_from-lt}
 use Rattle.egt_index.proofs.Picking.{lesser_digit, same_digit}
-use Rattle.egt_index.proofs.Standing.{turned_back}
+use Rattle.egt_index.proofs.MenPlaced.{turned_back}
 
 -- the digits behind those of the kings
 abbrev rest_bases : Material → List ℕ
@@ -196,9 +196,9 @@ no_index facts c code p ok settled (t, t_in, beats) index =
     let lt = beats.less in omega arith
 
 -- a position of a class whose sides have the same men, seen with colours exchanged
-pub has_exchanged : Facts → (c : ℕ) (flipped : Bool) (stand other : Stand) (side : Side) (passed : Bool) (p : Setup) → c < 36 → has_equal_sides c ≡ true → other.white ≡ stand.black → other.black ≡ stand.white
-    → other.next ≡ on_square_of stand.next stand.last → other.last ≡ on_square_of stand.last stand.next → HasStand c flipped stand side passed p → HasStand c (not flipped) other side passed p
-has_exchanged facts c flipped stand other side passed p c_in equal white black next last has = record {
+pub has_exchanged : Facts → (c : ℕ) (flipped : Bool) (stand other : Stand) (side : Side) (targeted : Bool) (p : Setup) → c < 36 → has_equal_sides c ≡ true → other.white ≡ stand.black → other.black ≡ stand.white
+    → other.first ≡ on_square_of stand.first stand.last → other.last ≡ on_square_of stand.last stand.first → HasStand c flipped stand side targeted p → HasStand c (not flipped) other side targeted p
+has_exchanged facts c flipped stand other side targeted p c_in equal white black next last has = record {
   admissible = has.admissible;
   settled = has.settled;
   is_of = facts.both_flips p c flipped (not flipped) c_in equal has.is_of;
@@ -212,20 +212,20 @@ pub same_by_kings : (F : ℕ → ℕ → ℕ) (n white black : ℕ) (stand : Sta
 same_by_kings F n white black stand on is = is ∙ sym (ap (λ (w : ℕ). F w stand.black) on.0 ∙ ap (λ (b : ℕ). F white b) on.1)
 
 -- what a turn tells that exchanges colours so and brings the king home
-module _ (c : ℕ) (flips : Bool) (stand : Stand) (t : ℕ) (p : Setup) (side : Side) (passed : Bool) (code : ℕ) where
-  in_colours : IsTurnWith (has_pawns (material_of c)) flips t → HasStand c flips stand side passed p → HasStand c (eqb (t / 8) 1) stand side passed p
-  in_colours turn has = subst (λ f. HasStand c f stand side passed p) (sym turn.flips_is) has
+module _ (c : ℕ) (flips : Bool) (stand : Stand) (t : ℕ) (p : Setup) (side : Side) (targeted : Bool) (code : ℕ) where
+  in_colours : IsTurnWith (has_pawns (material_of c)) flips t → HasStand c flips stand side targeted p → HasStand c (eqb (t / 8) 1) stand side targeted p
+  in_colours turn has = subst (λ f. HasStand c f stand side targeted p) (sym turn.flips_is) has
 
-  plays : IsTurnWith (has_pawns (material_of c)) flips t → HasStand c flips stand side passed p → KeepsPlay (t % 8) p.men
+  plays : IsTurnWith (has_pawns (material_of c)) flips t → HasStand c flips stand side targeted p → KeepsPlay (t % 8) p.men
   plays turn has = keeps_play c flips p (t % 8) has.admissible has.is_of turn.keeps
 
   pub turn_beaten : IsTurnWith (has_pawns (material_of c)) flips t → BringsHome (has_pawns (material_of c)) flips stand.white t → TurnBeats c stand t
-      → HasStand c flips stand side passed p → Spells c code p → IsBeaten c p code
+      → HasStand c flips stand side targeted p → Spells c code p → IsBeaten c p code
   turn_beaten turn brings beats has s = (
     t,
     turn.below,
-    beats p side passed code (in_colours turn has) (plays turn has) (subst (λ f. BringsHome (has_pawns (material_of c)) f stand.white t) (sym turn.flips_is) brings) s,
+    beats p side targeted code (in_colours turn has) (plays turn has) (subst (λ f. BringsHome (has_pawns (material_of c)) f stand.white t) (sym turn.flips_is) brings) s,
   )
 
-  pub turn_kept : IsTurnWith (has_pawns (material_of c)) flips t → TurnKeeps c stand t → HasStand c flips stand side passed p → Spells c code p → Keeps c p t code
-  turn_kept turn keeps has s = keeps p side passed code (in_colours turn has) (plays turn has) s
+  pub turn_kept : IsTurnWith (has_pawns (material_of c)) flips t → TurnKeeps c stand t → HasStand c flips stand side targeted p → Spells c code p → Keeps c p t code
+  turn_kept turn keeps has s = keeps p side targeted code (in_colours turn has) (plays turn has) s

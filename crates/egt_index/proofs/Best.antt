@@ -11,7 +11,7 @@ use Rattle.std.specs.FinMap as placement
 use Rattle.egt_index.proofs.Listing.{get_here}
 use Rattle.egt_index.proofs.Counted.{counted_rest}
 use Rattle.egt_index.proofs.Coded.{digits_more, digits_exist, picks_code, stands_before}
-use Rattle.egt_index.proofs.Turned.{differ, turned_class, counted_of, target_has_digit, no_pawns}
+use Rattle.egt_index.proofs.ImageCodes.{differ, turned_class, counted_of, target_has_digit, no_pawns}
 use Rattle.egt_index.proofs.Kings.{king_turn}
 
 -- the board without the white king

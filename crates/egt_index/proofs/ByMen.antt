@@ -1,9 +1,9 @@
--- What the men of a position without a target tell of it.
+-- A position without a target is told by its men.
 use Rattle.std.proofs.Common.{arith, ◌≡◌, ℕ, None, Option, IfSome, false, Bool, refl, sym, inl, subst}
 use Rattle.egt_index.specs.Prelude.{option_map, is_some, Man, Side, ahead, HasPawnBeside, other_side, IsSettled}
 use Rattle.egt_index.specs.Prelude.{SettlesTo, Setup, IsAdmissible, IsOf, AreNonKings, Facts, Entry, HasStand, Stood}
 use Rattle.egt_index.specs.Prelude.{list_of, Stand}
-use Rattle.egt_index.proofs.Turned.{settled_stand}
+use Rattle.egt_index.proofs.ImageCodes.{settled_stand}
 
 -- without a target nothing is to be settled
 pub no_target : (p : Setup) → p.target ≡ None → IsSettled p

@@ -1,16 +1,15 @@
--- What a code spells is of its class, in its colours.
+-- The position that a code spells is of its class, in its colours.
 use Rattle.std.proofs.Common.{eqb, ◌/◌, ◌%◌, ◌≡◌, ℕ, ◌<◌, ◌||◌, not, Bool, true, false, cond, ltb, Some, List, [], ◌∷◌}
 use Rattle.std.proofs.Common.{map, arith, refl, sym, ap, ◌∙◌, inl, inr, subst}
-use Rattle.egt_index.specs.Prelude.{cases_eq, cases_lt, false≢true, ltb-true, Side, White, Black, P, Man, count_of}
-use Rattle.egt_index.specs.Prelude.{men_of, other_side, pawn_of, HasNoPawn, Stands, Setup, IsAdmissible, all_below}
-use Rattle.egt_index.specs.Prelude.{passes_below, Material, material_of, materials, men_in, IsOf, AreDigits, base_of}
-use Rattle.egt_index.specs.Prelude.{men_in_order, has_pawns, Spells, square_of, placed, men_at, AreCounted, Facts}
-use Rattle.egt_index.specs.Prelude.{IsTurn, IsInColours}
+use Rattle.egt_index.specs.Prelude.{cases_eq, cases_lt, ltb-true, Black, count_of, pawn_of, Material, base_of, square_of}
+use Rattle.egt_index.specs.Prelude.{false≢true, Side, IsAdmissible, passes_below, material_of, men_in_order, IsInColours}
+use Rattle.egt_index.specs.Prelude.{White, other_side, HasNoPawn, all_below, materials, AreDigits, has_pawns, AreCounted}
+use Rattle.egt_index.specs.Prelude.{P, Man, men_of, Stands, Setup, men_in, IsOf, Spells, placed, men_at, Facts, IsTurn}
 use Rattle.std.specs.FinMap as placement
 use Rattle.egt_index.proofs.Listing.{AreApart, apart_of, get_here, get_later, get_none, remove_first}
 use Rattle.egt_index.proofs.Counted.{removed, counted_none, count_cons, least_below}
 use Rattle.egt_index.proofs.Tallied.{in_class}
-use Rattle.egt_index.proofs.Turned.{differ, turned_class}
+use Rattle.egt_index.proofs.ImageCodes.{differ, turned_class}
 use Rattle.egt_index.proofs.Tested.{implied, one_of}
 use Rattle.egt_index.proofs.Past.{past}
 

@@ -1,8 +1,7 @@
 -- A code spells one position, and is below the class's size.
 use Rattle.std.proofs.Common.{◌≡◌, ℕ, ◌<◌, Bool, cond, List, [], ◌∷◌, ◌++◌, Option, arith, refl, sym, ap, ◌∙◌, subst}
-use Rattle.egt_index.specs.Prelude.{Side, side_number, men_of, Setup, Material, material_of, AreDigits, product}
-use Rattle.egt_index.specs.Prelude.{size_of, bases, men_bases, has_target, Spells, SpellsBy, men_at, target_digit}
-use Rattle.egt_index.specs.Prelude.{target_digits}
+use Rattle.egt_index.specs.Prelude.{Side, Setup, Material, product, size_of, bases, men_bases, Spells, SpellsBy, men_at}
+use Rattle.egt_index.specs.Prelude.{side_number, men_of, material_of, AreDigits, has_target, target_digit, target_digits}
 use Rattle.egt_index.proofs.MixedDigits.{number_of-below, number_from-same}
 use Rattle.egt_board.proofs.Parts.{heads, tails}
 

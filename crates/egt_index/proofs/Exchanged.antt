@@ -6,7 +6,7 @@ use Rattle.egt_index.specs.Prelude.{man_number, man_by, Placement, turned_man, a
 use Rattle.egt_index.specs.Prelude.{materials, has_equal_sides, men_beside, men_in_order, Entry, men_among, list_of}
 use Rattle.egt_index.specs.Prelude.{AllStand, IsFilled, Stood, on_square_of, Stand}
 use Rattle.egt_index.proofs.Counted.{man_told}
-use Rattle.egt_index.proofs.Standing.{turned_back}
+use Rattle.egt_index.proofs.MenPlaced.{turned_back}
 use Rattle.egt_index.proofs.Tested.{implied}
 use Rattle.egt_board.proofs.Parts.{heads, tails}
 
@@ -65,26 +65,26 @@ men_exchanged : (x y : Entry) → men_among (option_to_list (on_square_of x y) +
 men_exchanged x y = grind arith
 
 -- the men beside the kings of those
-pair_stood : (c : ℕ) (flips : Bool) (men : Placement) (stand : Stand) → c < 36 → has_equal_sides c ≡ true → Stood c flips men (list_of stand) → is_pair (men_among (option_to_list stand.next ++ option_to_list stand.last)) ≡ true
+pair_stood : (c : ℕ) (flips : Bool) (men : Placement) (stand : Stand) → c < 36 → has_equal_sides c ≡ true → Stood c flips men (list_of stand) → is_pair (men_among (option_to_list stand.first ++ option_to_list stand.last)) ≡ true
 pair_stood c flips men stand c_in equal stood = ap is_pair (tails (tails stood.are)) ∙ pair_there c c_in equal
 
 pub stood_exchanged : (c : ℕ) (flips : Bool) (men : Placement) (stand other : Stand) → c < 36 → has_equal_sides c ≡ true → other.white ≡ stand.black → other.black ≡ stand.white
-    → other.next ≡ on_square_of stand.next stand.last → other.last ≡ on_square_of stand.last stand.next → Stood c flips men (list_of stand) → Stood c (not flips) men (list_of other)
+    → other.first ≡ on_square_of stand.first stand.last → other.last ≡ on_square_of stand.last stand.first → Stood c flips men (list_of stand) → Stood c (not flips) men (list_of other)
 stood_exchanged c flips men stand other c_in equal white black next last stood = record {
-  are = ap (λ l. king_of White ∷ king_of Black ∷ l) (ap (λ (x : Entry). men_among (option_to_list x ++ option_to_list other.last)) next ∙ ap (λ (x : Entry). men_among (option_to_list (on_square_of stand.next stand.last) ++ option_to_list x)) last ∙ men_exchanged stand.next stand.last) ∙ stood.are;
+  are = ap (λ l. king_of White ∷ king_of Black ∷ l) (ap (λ (x : Entry). men_among (option_to_list x ++ option_to_list other.last)) next ∙ ap (λ (x : Entry). men_among (option_to_list (on_square_of stand.first stand.last) ++ option_to_list x)) last ∙ men_exchanged stand.first stand.last) ∙ stood.are;
   all =
-      subst (λ w. AllStand (not flips) men ((king_of White, w) ∷ (king_of Black, other.black) ∷ (option_to_list other.next ++ option_to_list other.last))) (sym white)
-      (subst (λ b. AllStand (not flips) men ((king_of White, stand.black) ∷ (king_of Black, b) ∷ (option_to_list other.next ++ option_to_list other.last))) (sym black)
+      subst (λ w. AllStand (not flips) men ((king_of White, w) ∷ (king_of Black, other.black) ∷ (option_to_list other.first ++ option_to_list other.last))) (sym white)
+      (subst (λ b. AllStand (not flips) men ((king_of White, stand.black) ∷ (king_of Black, b) ∷ (option_to_list other.first ++ option_to_list other.last))) (sym black)
       (subst (λ (x : Entry). AllStand (not flips) men ((king_of White, stand.black) ∷ (king_of Black, stand.white) ∷ (option_to_list x ++ option_to_list other.last))) (sym next)
-      (subst (λ (y : Entry). AllStand (not flips) men ((king_of White, stand.black) ∷ (king_of Black, stand.white) ∷ (option_to_list (on_square_of stand.next stand.last) ++ option_to_list y))) (sym last)
-      (all_exchanged flips men stand.white stand.black stand.next stand.last (pair_stood c flips men stand c_in equal stood) stood.all))));
+      (subst (λ (y : Entry). AllStand (not flips) men ((king_of White, stand.black) ∷ (king_of Black, stand.white) ∷ (option_to_list (on_square_of stand.first stand.last) ++ option_to_list y))) (sym last)
+      (all_exchanged flips men stand.white stand.black stand.first stand.last (pair_stood c flips men stand c_in equal stood) stood.all))));
 }
 
 filled_both : (x y : Entry) → (x ≡ None → y ≡ None) → on_square_of x y ≡ None → on_square_of y x ≡ None
 filled_both x y filled none = grind arith
 
-pub filled_exchanged : (stand other : Stand) → other.next ≡ on_square_of stand.next stand.last → other.last ≡ on_square_of stand.last stand.next → IsFilled stand → IsFilled other
-filled_exchanged stand other next last filled = λ none. last ∙ filled_both stand.next stand.last filled (sym next ∙ none)
+pub filled_exchanged : (stand other : Stand) → other.first ≡ on_square_of stand.first stand.last → other.last ≡ on_square_of stand.last stand.first → IsFilled stand → IsFilled other
+filled_exchanged stand other next last filled = λ none. last ∙ filled_both stand.first stand.last filled (sym next ∙ none)
 
 -- there no two men beside the kings are equal
 pair_apart : (x y : Entry) → is_pair (men_among (option_to_list x ++ option_to_list y)) ≡ true → men_among (option_to_list (on_square_of x y)) ≡ men_among (option_to_list (on_square_of y x)) → on_square_of y x ≡ on_square_of x y
@@ -92,5 +92,5 @@ unfolding is_pair
 pair_apart x y pair same = grind (arith, man_told, eqb-true, heads)
 
 pub one_order : (c : ℕ) (stand : Stand) → c < 36 → has_equal_sides c ≡ true → men_among (list_of stand) ≡ men_in_order (material_of c)
-    → men_among (option_to_list (on_square_of stand.next stand.last)) ≡ men_among (option_to_list (on_square_of stand.last stand.next)) → on_square_of stand.last stand.next ≡ on_square_of stand.next stand.last
-one_order c stand c_in equal are same = pair_apart stand.next stand.last (ap is_pair (tails (tails are)) ∙ pair_there c c_in equal) same
+    → men_among (option_to_list (on_square_of stand.first stand.last)) ≡ men_among (option_to_list (on_square_of stand.last stand.first)) → on_square_of stand.last stand.first ≡ on_square_of stand.first stand.last
+one_order c stand c_in equal are same = pair_apart stand.first stand.last (ap is_pair (tails (tails are)) ∙ pair_there c c_in equal) same

@@ -9,7 +9,7 @@ use Rattle.egt_index.proofs.Best.{code_found, code_missing, after_turn, best_non
 use Rattle.egt_index.proofs.Classes.{pawns_there, spells_class}
 use Rattle.egt_index.proofs.Coding.{code_below}
 use Rattle.egt_index.proofs.OnePosition.{spells_once}
-use Rattle.egt_index.proofs.Turned.{no_pawns, settled_class}
+use Rattle.egt_index.proofs.ImageCodes.{no_pawns, settled_class}
 
 code_told : (c : ℕ) (p : Setup) → IsAdmissible p → IsSettled p → IsOf c false p → (o : Option ℕ) × CodeOf c p o
 code_told c p ok settled is_of = elim (some_or_none_below (λ d. square_of (has_pawns (material_of c)) (king_of White) d ≡ ok.kings.white) (λ d. decided_eq _ _) (base_of (has_pawns (material_of c)) (king_of White))) [

@@ -100,7 +100,7 @@ same_kings : (w b x y : ℕ) → 64 * w + b ≡ 64 * x + y → b < 64 → y < 64
 same_kings w b x y same b_in y_in = (omega (arith, same, b_in, y_in), omega (arith, same, b_in, y_in))
 
 -- the first man of two beside the kings, whom a turn leaves on their squares without exchanging colours
-module _ (facts : Facts) (c code t : ℕ) (stand : Stand) (p : Setup) (e : Man × ℕ) (of_two : IsFirstOfTwo c e.0) (next : stand.next ≡ Some e) (t_in : t < 8) (ok : IsAdmissible p)
+module _ (facts : Facts) (c code t : ℕ) (stand : Stand) (p : Setup) (e : Man × ℕ) (of_two : IsFirstOfTwo c e.0) (next : stand.first ≡ Some e) (t_in : t < 8) (ok : IsAdmissible p)
     (all : AllStand (eqb (t / 8) 1) p.men (list_of stand)) (s : Spells c code p) where
   abbrev after : ℕ → ℕ
   after square = turned_square (t % 8) (eqb (t / 8) 1) square
@@ -159,13 +159,13 @@ pub plain_if : (Holds : ℕ → ℕ → Type 0) (o : Entry) (t : ℕ) → IfMove
 plain_if Holds o t moved = grind (arith, ne_eqb)
 
 -- what the image tells by the first man, where he is known
-pub kept_by : Facts → (c code t : ℕ) (stand : Stand) (p : Setup) (o : Entry) → IfSome o (λ e. IsFirstOfTwo c e.0) → IfSome o (λ e. stand.next ≡ Some e) → IfMoved o t (λ before after. before < after) → IsAdmissible p
+pub kept_by : Facts → (c code t : ℕ) (stand : Stand) (p : Setup) (o : Entry) → IfSome o (λ e. IsFirstOfTwo c e.0) → IfSome o (λ e. stand.first ≡ Some e) → IfMoved o t (λ before after. before < after) → IsAdmissible p
     → AllStand (eqb (t / 8) 1) p.men (list_of stand) → Spells c code p → 64 * stand.white + stand.black ≡ 64 * turned_square (t % 8) (eqb (t / 8) 1) stand.white + turned_square (t % 8) (eqb (t / 8) 1) stand.black → Keeps c p t code
 kept_by facts c code t stand p None of_two next moved ok all s kings q other turn spells = absurd moved
 kept_by facts c code t stand p (Some e) of_two next moved ok all s kings q other turn spells =
     let less = kept_by_first facts c code t stand p e of_two next moved.0 ok all s q other turn spells kings moved.1 in omega arith
 
-pub beaten_by : Facts → (c code t : ℕ) (stand : Stand) (p : Setup) (o : Entry) → IfSome o (λ e. IsFirstOfTwo c e.0) → IfSome o (λ e. stand.next ≡ Some e) → IfMoved o t (λ before after. after < before) → IsAdmissible p
+pub beaten_by : Facts → (c code t : ℕ) (stand : Stand) (p : Setup) (o : Entry) → IfSome o (λ e. IsFirstOfTwo c e.0) → IfSome o (λ e. stand.first ≡ Some e) → IfMoved o t (λ before after. after < before) → IsAdmissible p
     → AllStand (eqb (t / 8) 1) p.men (list_of stand) → Spells c code p → 64 * stand.white + stand.black ≡ 64 * turned_square (t % 8) (eqb (t / 8) 1) stand.white + turned_square (t % 8) (eqb (t / 8) 1) stand.black → SpelledHome c t stand p → Beats c p t code
 beaten_by facts c code t stand p None of_two next moved ok all s kings made = absurd moved
 beaten_by facts c code t stand p (Some e) of_two next moved ok all s kings made = record {

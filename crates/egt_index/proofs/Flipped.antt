@@ -6,7 +6,7 @@ use Rattle.egt_index.specs.Prelude.{StandsBeside, Stands, Setup, IsAdmissible, a
 use Rattle.egt_index.specs.Prelude.{material_of, men_in, has_equal_sides, IsOf, Facts, tells_colours, men_beside, Entry}
 use Rattle.egt_index.specs.Prelude.{Holds, IsAmong, NON_KINGS}
 use Rattle.egt_index.proofs.Counted.{counted_some}
-use Rattle.egt_index.proofs.Standing.{kings_on, among_own}
+use Rattle.egt_index.proofs.MenPlaced.{kings_on, among_own}
 use Rattle.egt_index.proofs.Tested.{one_of}
 
 all_tell : all_below (λ c. tells_colours c (slice_index_or NON_KINGS c (None, None)).0) 36 ≡ true

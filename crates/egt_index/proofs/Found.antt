@@ -5,7 +5,7 @@ use Rattle.egt_index.specs.Prelude.{Material, material_of, IsOf, number_from, nu
 use Rattle.egt_index.specs.Prelude.{has_pawns, has_target, king_square, target_digits, Goes, IsLeastCode}
 use Rattle.std.specs.FinMap as placement
 use Rattle.egt_index.proofs.Coded.{digits_more, ends_by, last_by, number_append, picks_code}
-use Rattle.egt_index.proofs.Turned.{counted_of, target_has_digit}
+use Rattle.egt_index.proofs.ImageCodes.{counted_of, target_has_digit}
 use Rattle.egt_index.proofs.Best.{least_king}
 
 pub code_made : (c : ℕ) (p : Setup) (s high number code : ℕ) → IsAdmissible p → IsSettled p → IsOf c false p → IsKingOn p.men White s

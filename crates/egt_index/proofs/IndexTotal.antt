@@ -1,4 +1,4 @@
--- What all men add to an index is the index without its last digits.
+-- The sum of what men add to an index is the index without its last digits.
 use Rattle.std.specs.Prelude.{◌≡◌, ℕ, ◌<◌, Bool, true, ltb, refl}
 use Rattle.egt_index.specs.Prelude.{ltb-true, all_below, passes_below, material_of, materials, size_of}
 

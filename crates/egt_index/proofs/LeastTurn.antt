@@ -7,7 +7,7 @@ use Rattle.egt_index.specs.Prelude.{Facts, symmetries, AreHome, FlipCode, LeastW
 use Rattle.egt_index.specs.Prelude.{CodeAfter, Best, BestOf, lesser, IsInColours}
 use Rattle.egt_index.proofs.Best.{king_after, none_after}
 use Rattle.egt_index.proofs.Classes.{image_in_others, pawns_there}
-use Rattle.egt_index.proofs.Turned.{no_pawns}
+use Rattle.egt_index.proofs.ImageCodes.{no_pawns}
 
 pub least_at : Facts → (c : ℕ) (p : Setup) (u code t : ℕ) (q : Setup) (other : ℕ) → TurnCode c p u code → t ≡ u → IsTurn t p q → Spells c other q → code ≤ other
 least_at facts c p u code t q other after same turn spells =

@@ -11,7 +11,7 @@ use Rattle.egt_index.proofs.MixedDigits.{number_of-below}
 use Rattle.egt_index.proofs.Opposed.{may_stand}
 use Rattle.egt_index.proofs.Placing.{some_digits, twice_within, within}
 use Rattle.egt_index.proofs.MenNumber.{number_on, number_told}
-use Rattle.egt_index.proofs.Splitting.{spells_men}
+use Rattle.egt_index.proofs.DigitsTaken.{spells_men}
 use Rattle.egt_board.proofs.Parts.{tails}
 
 -- ---- one man beside the kings

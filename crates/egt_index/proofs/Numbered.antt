@@ -3,16 +3,16 @@ use Rattle.std.proofs.Common.{◌≡◌, ◌≢◌, ◌↔◌, ℕ, ◌+◌, ◌
 use Rattle.std.proofs.Common.{ap, ◌∙◌, subst, inl, inr}
 use Rattle.egt_index.specs.Prelude.{bit_at, cases_eq, bit_at-zero, king_of, side_number, pawn_of, IsSettled}
 use Rattle.egt_index.specs.Prelude.{IsAdmissible, Setup, Man, Side, White, Black, Material, material_of, AreBehind}
-use Rattle.egt_index.specs.Prelude.{SpellsAt, Spells, Facts, TellsLast, IsFront, IsVoidFront, IsIndex, IsVoid}
+use Rattle.egt_index.specs.Prelude.{SpellsAt, Spells, Facts, TellsLast, IsPrefix, IsVoidPrefix, IsIndex, IsVoid}
 use Rattle.egt_index.specs.Prelude.{IsNumbered, code_of, places, AreInOrder, AreMade, IsMade, TellsIndex, row_len}
 use Rattle.egt_index.specs.Prelude.{kind_digits, kind_less, last_of, AreIndexed, AreIndexes, IsShelfBehind, IsWithin}
 use Rattle.egt_index.specs.Prelude.{PassesNothing, has_target, men_beside, size_of, Ends, TellsMen, Entry, HasStand}
-use Rattle.egt_index.specs.Prelude.{IsInOrder, list_of, with_last, Front, Places, Stand}
+use Rattle.egt_index.specs.Prelude.{IsInOrder, list_of, with_last, Prefix, Places, Stand}
 use Rattle.egt_index.proofs.Beating.{no_index}
 use Rattle.egt_index.proofs.Decoded.{list_spelled}
 use Rattle.egt_index.proofs.Exists.{index_settled, index_spelled}
-use Rattle.egt_index.proofs.Halves.{ends_behind, places_of_last}
-use Rattle.egt_index.proofs.Passing.{last_pawn}
+use Rattle.egt_index.proofs.NumbersOfCodes.{ends_behind, places_of_last}
+use Rattle.egt_index.proofs.TargetsMade.{last_pawn}
 use Rattle.egt_index.proofs.Placing.{tells}
 use Rattle.egt_index.proofs.RowMen.{row_number}
 use Rattle.egt_index.proofs.ToldMen.{stands_told, told_stands}
@@ -30,7 +30,7 @@ in_order x man s not = grind arith
 both_first : (P : ℕ → ℕ → Type 0) (n white black : ℕ) → P (n + side_number White) white → P (n + side_number Black) black → P n white × P (n + 1) black
 both_first P n white black here there = grind arith
 
-module _ (passed : Bool) (c shelf high : ℕ) (man : Man) (c_in : c < 36) (last : last_of (men_beside (material_of c)) ≡ Some man) (other : man ≢ king_of White) (at : IsShelfBehind passed c shelf high) where
+module _ (targeted : Bool) (c shelf high : ℕ) (man : Man) (c_in : c < 36) (last : last_of (men_beside (material_of c)) ≡ Some man) (other : man ≢ king_of White) (at : IsShelfBehind targeted c shelf high) where
   abbrev m : Material
   m = material_of c
 
@@ -46,14 +46,14 @@ module _ (passed : Bool) (c shelf high : ℕ) (man : Man) (c_in : c < 36) (last 
   pub len : places c ≡ kind_digits man.kind
   len = places_of_last c man last
 
-  pub ends : (mover : Side) (k : ℕ) → k < kind_digits man.kind → Ends m (code_of c (first mover + 2 * k)) (number k) mover passed
+  pub ends : (mover : Side) (k : ℕ) → k < kind_digits man.kind → Ends m (code_of c (first mover + 2 * k)) (number k) mover targeted
   ends mover k below = grind (arith, code_of, len, ends_behind)
 
-  module _ (front : Front) (is : IsFront c high front) where
+  module _ (prefix : Prefix) (is : IsPrefix c high prefix) where
     abbrev stand : ℕ → Stand
-    stand k = with_last front.stand (entry k)
+    stand k = with_last prefix.stand (entry k)
 
-    told : (mover : Side) (k : ℕ) → k < kind_digits man.kind → TellsMen passed c (code_of c (first mover + 2 * k)) (stand k) mover
+    told : (mover : Side) (k : ℕ) → k < kind_digits man.kind → TellsMen targeted c (code_of c (first mover + 2 * k)) (stand k) mover
     told mover k below = record {
       number = number k;
       men = is.before.men (number k) (entry k) (tells c high man c_in last other k below);
@@ -61,15 +61,15 @@ module _ (passed : Bool) (c shelf high : ℕ) (man : Man) (c_in : c < 36) (last 
       ends = ends mover k below;
     }
 
-    made : (mover : Side) (k : ℕ) (p : Setup) → k < kind_digits man.kind → IsNumbered c (first mover + 2 * k) p → IsMade passed c front.stand man mover k
-    made mover k p below is = record { below = below; position = p; has = told_stands passed c (code_of c (first mover + 2 * k)) p (stand k) mover is.spells is.settled (told mover k below) }
+    made : (mover : Side) (k : ℕ) (p : Setup) → k < kind_digits man.kind → IsNumbered c (first mover + 2 * k) p → IsMade targeted c prefix.stand man mover k
+    made mover k p below is = record { below = below; position = p; has = told_stands targeted c (code_of c (first mover + 2 * k)) p (stand k) mover is.spells is.settled (told mover k below) }
 
-    spelled : (mover : Side) (k : ℕ) (made : IsMade passed c front.stand man mover k) → Spells c (code_of c (first mover + 2 * k)) made.position
-    spelled mover k made = stands_told passed c (code_of c (first mover + 2 * k)) made.position (stand k) mover made.has (told mover k made.below)
+    spelled : (mover : Side) (k : ℕ) (made : IsMade targeted c prefix.stand man mover k) → Spells c (code_of c (first mover + 2 * k)) made.position
+    spelled mover k made = stands_told targeted c (code_of c (first mover + 2 * k)) made.position (stand k) mover made.has (told mover k made.below)
 
     -- where each is the least of its images, if equal men are in order
-    module _ (facts : Facts) (alone : front.tied ≡ false) where
-      indexed : (mover : Side) (all word : ℕ) → ((k : ℕ) → (bit_at all k ≡ 1) ↔ IsMade passed c front.stand man mover k) → ((k : ℕ) → (bit_at word k ≡ 1) ↔ ((bit_at all k ≡ 1) × IsInOrder front.stand.next (entry k))) → AreIndexed c (first mover) word
+    module _ (facts : Facts) (alone : prefix.tied ≡ false) where
+      indexed : (mover : Side) (all word : ℕ) → ((k : ℕ) → (bit_at all k ≡ 1) ↔ IsMade targeted c prefix.stand man mover k) → ((k : ℕ) → (bit_at word k ≡ 1) ↔ ((bit_at all k ≡ 1) × IsInOrder prefix.stand.first (entry k))) → AreIndexed c (first mover) word
       unfolding told
       indexed mover all word are_made bits k = (there, back)
         where
@@ -77,16 +77,16 @@ module _ (passed : Bool) (c shelf high : ℕ) (man : Man) (c_in : c < 36) (last 
           code = code_of c (first mover + 2 * k)
 
           spelled_there : (p : Setup) → k < kind_digits man.kind → Spells c code p → SpellsAt c code (stand k) p
-          spelled_there p below spells = record { spells = spells; list_is = list_spelled c code (number k) mover passed (list_of (stand k)) p (ends mover k below) (told mover k below).men spells }
+          spelled_there p below spells = record { spells = spells; list_is = list_spelled c code (number k) mover targeted (list_of (stand k)) p (ends mover k below) (told mover k below).men spells }
 
           there : bit_at word k ≡ 1 → (k < places c) × ¬ IsVoid c code
           there one = (subst (λ d. k < d) (sym len) here.below, λ void. void here.position here.has.admissible index)
             where
-              here : IsMade passed c front.stand man mover k
+              here : IsMade targeted c prefix.stand man mover k
               here = (are_made k).0 ((bits k).0 one).0
 
               index : IsIndex c here.position code
-              index = is.least alone (entry k) ((bits k).0 one).1 here.position mover passed code here.has (spelled_there here.position here.below (spelled mover k here))
+              index = is.least alone (entry k) ((bits k).0 one).1 here.position mover targeted code here.has (spelled_there here.position here.below (spelled mover k here))
 
           back : (k < places c) × ¬ IsVoid c code → bit_at word k ≡ 1
           back some = elim (cases_eq (bit_at word k) 1) [
@@ -98,32 +98,32 @@ module _ (passed : Bool) (c shelf high : ℕ) (man : Man) (c_in : c < 36) (last 
               below = subst (λ d. k < d) len some.0
 
               of_index : (p : Setup) → IsAdmissible p → IsIndex c p code → bit_at word k ≡ 1
-              of_index p ok index = (bits k).1 ((are_made k).1 (made mover k index.image below (record { spells = index.spells; settled = settled })), in_order front.stand.next man (k + kind_less man.kind) not_behind)
+              of_index p ok index = (bits k).1 ((are_made k).1 (made mover k index.image below (record { spells = index.spells; settled = settled })), in_order prefix.stand.first man (k + kind_less man.kind) not_behind)
                 where
                   settled : IsSettled index.image
                   settled = index_settled facts p index.image c code ok index index.spells
 
-                  has : HasStand c false (stand k) mover passed index.image
-                  has = told_stands passed c code index.image (stand k) mover index.spells settled (told mover k below)
+                  has : HasStand c false (stand k) mover targeted index.image
+                  has = told_stands targeted c code index.image (stand k) mover index.spells settled (told mover k below)
 
-                  not_behind : ¬ AreBehind front.stand.next (entry k)
+                  not_behind : ¬ AreBehind prefix.stand.first (entry k)
                   not_behind behind =
                       no_index facts c code index.image has.admissible settled (0, omega arith, beaten_behind c code (stand k) index.image has.admissible has.stood.all behind has.stood.are has.is_of (spelled_there index.image below index.spells))
                       (index_spelled facts p index.image c code ok index index.spells)
 
-      pub indexes_behind : (all found : Places) → AreMade passed c front.stand man all → AreInOrder front.stand.next man all found → AreIndexes c shelf found
+      pub indexes_behind : (all found : Places) → AreMade targeted c prefix.stand man all → AreInOrder prefix.stand.first man all found → AreIndexes c shelf found
       indexes_behind all found are in_order =
           let both = both_first (AreIndexed c) (shelf * (2 * places c)) found.white found.black (indexed White all.white found.white are.white in_order.white) (indexed Black all.black found.black are.black in_order.black) in
           record { white = both.0; black = both.1 }
 
-  -- where there is no front
+  -- where there is no prefix
   in_row : (mover : Side) (k : ℕ) → k < places c → code_of c (first mover + 2 * k) / row_len c ≡ number k
-  in_row mover k below = row_number m (code_of c (first mover + 2 * k)) (number k) mover passed (ends mover k (subst (λ d. k < d) len below))
+  in_row mover k below = row_number m (code_of c (first mover + 2 * k)) (number k) mover targeted (ends mover k (subst (λ d. k < d) len below))
 
   lasts : (k : ℕ) → k < places c → TellsLast c (number k) high (entry k)
   lasts k below = tells c high man c_in last other k (subst (λ d. k < d) len below)
 
-  pub none_indexed : IsVoidFront c high → (found : Places) → found.white ≡ 0 → found.black ≡ 0 → AreIndexes c shelf found
+  pub none_indexed : IsVoidPrefix c high → (found : Places) → found.white ≡ 0 → found.black ≡ 0 → AreIndexes c shelf found
   none_indexed void found white black =
       let both = both_first (AreIndexed c) (shelf * (2 * places c)) found.white found.black (of White found.white white) (of Black found.black black) in
       record { white = both.0; black = both.1 }

@@ -1,10 +1,9 @@
 -- The least code of a position: each man in turn on the least square that is left to it.
 use Rattle.std.proofs.Common.{◌≡◌, ℕ, ◌+◌, ◌*◌, ◌<◌, ◌⊎◌, Bool, true, false, ltb, List, [], ◌∷◌, map, arith, refl, sym}
 use Rattle.std.proofs.Common.{ap, ◌∙◌, inl, inr}
-use Rattle.egt_index.specs.Prelude.{cases_eq, cases_lt, ltb-true, Side, White, Kind, K, Man, Placement, Stands}
-use Rattle.egt_index.specs.Prelude.{get-remove_same, get-remove_other, men_of, all_below, passes_below, number_from}
-use Rattle.egt_index.specs.Prelude.{AreDigits, base_by, base_of, king_square, square_by_digit, square_of, placed}
-use Rattle.egt_index.specs.Prelude.{AreCounted, Picks}
+use Rattle.egt_index.specs.Prelude.{cases_eq, Placement, all_below, AreDigits, king_square, square_of, AreCounted, Picks}
+use Rattle.egt_index.specs.Prelude.{cases_lt, ltb-true, Side, Kind, K, Man, Stands, men_of, base_by, base_of, placed}
+use Rattle.egt_index.specs.Prelude.{White, get-remove_same, get-remove_other, passes_below, number_from, square_by_digit}
 use Rattle.std.specs.FinMap as placement
 use Rattle.egt_index.proofs.MixedDigits.{number_from-lt}
 use Rattle.egt_index.proofs.Listing.{AreApart, first_back, remove_first, get_here}

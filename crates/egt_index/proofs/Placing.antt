@@ -1,22 +1,20 @@
 -- Which codes of a shelf are positions' indexes, by where the last man may stand.
-use Rattle.std.proofs.Common.{◌≡◌, ◌≢◌, ◌↔◌, ℕ, ◌+◌, ◌-◌, ◌*◌, ◌/◌, ◌%◌, ◌^◌, ◌<◌, ◌≤◌, Bool, false, if◌then◌else◌}
-use Rattle.std.proofs.Common.{List, [], ◌∷◌, Option, Some, None, bit_and, min, arith, refl, sym, ap, ◌∙◌, subst, inl}
-use Rattle.std.proofs.Common.{inr}
-use Rattle.egt_index.specs.Prelude.{bit_at, option_to_list, cases_eq, cases_lt, bit_at-lt, bit_at_above, bit_at_and}
-use Rattle.egt_index.specs.Prelude.{bit_at_cat_high, bit_at_mask_below, bit_at_mask_inside, bit_at_ones}
-use Rattle.egt_index.specs.Prelude.{bit_at_ones_above, ones_shl, IsAttacked, IsInCheck, king_of, side_number, men_of}
-use Rattle.egt_index.specs.Prelude.{setup_of, other_side, Placement, Stands, IsFree, get-insert_other, IsKeptFrom}
-use Rattle.egt_index.specs.Prelude.{IsAdmissible, Kind, P, Man, Side, White, Black, Material, material_of}
-use Rattle.egt_index.specs.Prelude.{square_by_digit, number_from, TellsLast, IsFront, IsMade, IsPlaced, waiting}
-use Rattle.egt_index.specs.Prelude.{kind_digits, kind_less, last_of, base_by, has_target, man_of, men_beside, Splits}
-use Rattle.egt_index.specs.Prelude.{SpellsMen, Tells, AllApart, AreEqual, Entry, IsInOrder, IsOff, list_of, with_last}
-use Rattle.egt_index.specs.Prelude.{Front, Stand}
+use Rattle.std.proofs.Common.{◌≡◌, Bool, false, if◌then◌else◌, List, [], Option, Some, None, bit_and, arith, refl, subst}
+use Rattle.std.proofs.Common.{◌≢◌, ◌↔◌, ℕ, ◌+◌, ◌-◌, ◌*◌, ◌/◌, ◌%◌, ◌^◌, ◌<◌, ◌≤◌, ◌∷◌, min, sym, ap, ◌∙◌, inl, inr}
+use Rattle.egt_index.specs.Prelude.{bit_at, option_to_list, bit_at_above, bit_at_cat_high, IsAdmissible, square_by_digit}
+use Rattle.egt_index.specs.Prelude.{cases_eq, bit_at_mask_below, bit_at_mask_inside, bit_at_ones_above, get-insert_other}
+use Rattle.egt_index.specs.Prelude.{cases_lt, ones_shl, Placement, TellsLast, kind_less, SpellsMen, IsInOrder, with_last}
+use Rattle.egt_index.specs.Prelude.{bit_at-lt, IsAttacked, IsInCheck, other_side, IsKeptFrom, P, has_target, men_beside}
+use Rattle.egt_index.specs.Prelude.{bit_at_and, bit_at_ones, king_of, side_number, material_of, number_from, kind_digits}
+use Rattle.egt_index.specs.Prelude.{men_of, setup_of, Material, IsPrefix, IsPlaced, waiting, last_of, AllApart, AreEqual}
+use Rattle.egt_index.specs.Prelude.{Stands, IsFree, Kind, White, Black, IsMade, base_by, man_of, Splits, list_of, Prefix}
+use Rattle.egt_index.specs.Prelude.{Man, Side, Tells, Entry, IsOff, Stand}
 use Rattle.std.specs.FinMap as map
 use Rattle.egt_index.proofs.FrameMen.{men_are}
-use Rattle.egt_index.proofs.Fronts.{all_apart, board_with, few_with, free_before, list_before}
+use Rattle.egt_index.proofs.Prefixes.{all_apart, board_with, few_with, free_before, list_before}
 use Rattle.egt_index.proofs.After.{all_apart as stood_apart}
 use Rattle.egt_index.proofs.Setups.{AreKings, kings_spelled, off_of, pawns_spelled, setup_spelled, stand_spelled}
-use Rattle.egt_index.proofs.Splitting.{tells_one}
+use Rattle.egt_index.proofs.DigitsTaken.{tells_one}
 use Rattle.egt_board.proofs.Bits.{not_both}
 
 -- the digits of a man and his squares
@@ -98,15 +96,15 @@ bits_among all order k Tells small tells =
     ]
 
 -- where the last man may stand, by three sets
-pub placed_bits : (front : Front) (man : Man) (mover : Side) (king k word kept occupied without : ℕ) → king ≡ waiting mover front.stand
+pub placed_bits : (prefix : Prefix) (man : Man) (mover : Side) (king k word kept occupied without : ℕ) → king ≡ waiting mover prefix.stand
     → (bit_at word k ≡ 1) ↔ ((k < kind_digits man.kind) × (bit_at without (k + kind_less man.kind) ≡ 1))
     → ((t : ℕ) → bit_at without t ≡ min (bit_at kept t) (1 - bit_at occupied t))
-    → ((t : ℕ) → t < 64 → (bit_at kept t ≡ 1) ↔ IsKeptFrom front.board t man king mover)
-    → ((t : ℕ) → (bit_at occupied t ≡ 0) ↔ IsFree front.board t)
-    → (bit_at word k ≡ 1) ↔ IsPlaced front man mover k
-placed_bits front man mover king k word kept occupied without king_is digits is safe free = (there, back)
+    → ((t : ℕ) → t < 64 → (bit_at kept t ≡ 1) ↔ IsKeptFrom prefix.board t man king mover)
+    → ((t : ℕ) → (bit_at occupied t ≡ 0) ↔ IsFree prefix.board t)
+    → (bit_at word k ≡ 1) ↔ IsPlaced prefix man mover k
+placed_bits prefix man mover king k word kept occupied without king_is digits is safe free = (there, back)
   where
-    there : bit_at word k ≡ 1 → IsPlaced front man mover k
+    there : bit_at word k ≡ 1 → IsPlaced prefix man mover k
     there one =
         let h = digits.0 one in
         let bit = h.1 in
@@ -116,21 +114,21 @@ placed_bits front man mover king k word kept occupied without king_is digits is 
         record {
           below = h.0;
           free = (free (k + kind_less man.kind)).0 (omega arith);
-          kept = subst (λ s. IsKeptFrom front.board (k + kind_less man.kind) man s mover) king_is ((safe (k + kind_less man.kind) (omega (arith, within man.kind))).0 (omega arith));
+          kept = subst (λ s. IsKeptFrom prefix.board (k + kind_less man.kind) man s mover) king_is ((safe (k + kind_less man.kind) (omega (arith, within man.kind))).0 (omega arith));
         }
 
-    back : IsPlaced front man mover k → bit_at word k ≡ 1
+    back : IsPlaced prefix man mover k → bit_at word k ≡ 1
     back placed =
         let below = placed.below in
         let bits = is (k + kind_less man.kind) in
         let none = (free (k + kind_less man.kind)).1 placed.free in
-        let one = (safe (k + kind_less man.kind) (omega (arith, within man.kind))).1 (subst (λ s. IsKeptFrom front.board (k + kind_less man.kind) man s mover) (sym king_is) placed.kept) in
+        let one = (safe (k + kind_less man.kind) (omega (arith, within man.kind))).1 (subst (λ s. IsKeptFrom prefix.board (k + kind_less man.kind) man s mover) (sym king_is) placed.kept) in
         digits.1 (placed.below, omega arith)
 
 pub digit_on : (pawns : Bool) (side : Side) (kind : Kind) (d : ℕ) → man_of side kind ≢ king_of White → (base_by pawns side kind ≡ kind_digits kind) × (square_by_digit pawns side kind d ≡ d + kind_less kind)
 digit_on pawns side kind d not = grind arith
 
--- the last man behind a front
+-- the last man behind a prefix
 module _ (c high : ℕ) (man : Man) (c_in : c < 36) (last : last_of (men_beside (material_of c)) ≡ Some man) (other : man ≢ king_of White) where
   abbrev m : Material
   m = material_of c
@@ -156,53 +154,53 @@ module _ (c high : ℕ) (man : Man) (c_in : c < 36) (last : last_of (men_beside 
         number_is = λ pawns. ap (λ b. high * b + k) (sym (digit_on pawns man.side man.kind k other).0);
       }
 
-  module _ (front : Front) (is : IsFront c high front) (k : ℕ) (mover : Side) where
+  module _ (prefix : Prefix) (is : IsPrefix c high prefix) (k : ℕ) (mover : Side) where
     abbrev stand : Stand
-    stand = with_last front.stand (entry k)
+    stand = with_last prefix.stand (entry k)
 
     men : k < kind_digits man.kind → SpellsMen m (number k) (list_of stand)
     men below = is.before.men (number k) (entry k) (tells k below)
 
-    board : AllApart (list_of stand) → map.insert front.board (square k) man ≡ men_of (list_of stand)
-    board apart = ap (λ (men : Placement). map.insert men (square k) man) is.board ∙ board_with front.stand (entry k) is.before.no_last apart
+    board : AllApart (list_of stand) → map.insert prefix.board (square k) man ≡ men_of (list_of stand)
+    board apart = ap (λ (men : Placement). map.insert men (square k) man) is.board ∙ board_with prefix.stand (entry k) is.before.no_last apart
 
-    in_check : AllApart (list_of stand) → AreKings stand → (side : Side) → IsAttacked (map.insert front.board (square k) man) (waiting side front.stand) side → IsInCheck (men_of (list_of stand)) (other_side side)
+    in_check : AllApart (list_of stand) → AreKings stand → (side : Side) → IsAttacked (map.insert prefix.board (square k) man) (waiting side prefix.stand) side → IsInCheck (men_of (list_of stand)) (other_side side)
     in_check apart kings White attacked = record {
-      square = front.stand.black;
+      square = prefix.stand.black;
       stands = kings.black.stands;
-      attacked = subst (λ (men : Placement). IsAttacked men front.stand.black White) (board apart) attacked;
+      attacked = subst (λ (men : Placement). IsAttacked men prefix.stand.black White) (board apart) attacked;
     }
     in_check apart kings Black attacked = record {
-      square = front.stand.white;
+      square = prefix.stand.white;
       stands = kings.white.stands;
-      attacked = subst (λ (men : Placement). IsAttacked men front.stand.white Black) (board apart) attacked;
+      attacked = subst (λ (men : Placement). IsAttacked men prefix.stand.white Black) (board apart) attacked;
     }
 
-    attacked_in : AllApart (list_of stand) → AreKings stand → (side : Side) → IsInCheck (men_of (list_of stand)) (other_side side) → IsAttacked (map.insert front.board (square k) man) (waiting side front.stand) side
+    attacked_in : AllApart (list_of stand) → AreKings stand → (side : Side) → IsInCheck (men_of (list_of stand)) (other_side side) → IsAttacked (map.insert prefix.board (square k) man) (waiting side prefix.stand) side
     attacked_in apart kings h2 check = grind (arith, apart, kings, men, board, men_of, list_of)
 
     -- in a position without a target he stands where he may
-    placed_where : IsMade false c front.stand man mover k → IsPlaced front man mover k
+    placed_where : IsMade false c prefix.stand man mover k → IsPlaced prefix man mover k
     placed_where made =
         let men_is = men_are c stand mover false made.position made.has in
         let apart = stood_apart false made.position.men (list_of stand) made.has.stood.all in
         record {
           below = made.below;
-          free = subst (λ (men : Placement). IsFree men (square k)) (sym is.board) (free_before front.stand (entry k) is.before.no_last apart);
+          free = subst (λ (men : Placement). IsFree men (square k)) (sym is.board) (free_before prefix.stand (entry k) is.before.no_last apart);
           kept = λ attacked. made.has.admissible.quiet
               (subst (λ (side : Side). IsInCheck made.position.men (other_side side)) (sym made.has.side_is)
               (subst (λ (men : Placement). IsInCheck men (other_side mover)) (sym men_is) (in_check apart (kings_spelled c (number k) stand c_in (men made.below) apart) mover attacked)));
         }
 
     -- and where he may stand there is one
-    module _ (on_board : (s : ℕ) (m : Man) → Stands front.board s m → s < 64) (placed : IsPlaced front man mover k) where
+    module _ (on_board : (s : ℕ) (m : Man) → Stands prefix.board s m → s < 64) (placed : IsPlaced prefix man mover k) where
       apart : AllApart (list_of stand)
       apart =
-          all_apart front.stand (entry k) is.before.no_last is.apart
-          (subst (λ (list : List (Man × ℕ)). IsOff list (square k)) (list_before front.stand is.before.no_last)
-          (off_of (list_of front.stand) (square k) (subst (λ (men : Placement). IsFree men (square k)) is.board placed.free)))
+          all_apart prefix.stand (entry k) is.before.no_last is.apart
+          (subst (λ (list : List (Man × ℕ)). IsOff list (square k)) (list_before prefix.stand is.before.no_last)
+          (off_of (list_of prefix.stand) (square k) (subst (λ (men : Placement). IsFree men (square k)) is.board placed.free)))
 
-      all_on_board : (s : ℕ) (m : Man) → Stands (map.insert front.board (square k) man) s m → s < 64
+      all_on_board : (s : ℕ) (m : Man) → Stands (map.insert prefix.board (square k) man) s m → s < 64
       all_on_board s m stands = grind (arith, cases_eq, within, get-insert_other)
 
       spelled : SpellsMen m (number k) (list_of stand)
@@ -225,7 +223,7 @@ module _ (c high : ℕ) (man : Man) (c_in : c < 36) (last : last_of (men_beside 
       abbrev code : ℕ
       code = number_from (number k) (2 ∷ (if has_target m then 2 ∷ [] else [])) (side_number mover ∷ (if has_target m then 0 ∷ [] else []))
 
-      made : IsMade false c front.stand man mover k
+      made : IsMade false c prefix.stand man mover k
       made = record {
         below = placed.below;
         position = setup_of (list_of stand) mover None;
@@ -233,6 +231,6 @@ module _ (c high : ℕ) (man : Man) (c_in : c < 36) (last : last_of (men_beside 
             (setup_spelled c code (number k) mover false (list_of stand) None (setup_of (list_of stand) mover None) (record { number_is = refl; never = λ e. refl }) spelled refl apart refl admissible) tt;
       }
 
-  pub made_bits : (front : Front) → IsFront c high front → (mover : Side) (word : ℕ) → ((s : ℕ) (m : Man) → Stands front.board s m → s < 64) → ((k : ℕ) → (bit_at word k ≡ 1) ↔ IsPlaced front man mover k)
-      → (k : ℕ) → (bit_at word k ≡ 1) ↔ IsMade false c front.stand man mover k
-  made_bits front is mover word on_board placed k = (λ one. made front is k mover on_board ((placed k).0 one), λ there. (placed k).1 (placed_where front is k mover there))
+  pub made_bits : (prefix : Prefix) → IsPrefix c high prefix → (mover : Side) (word : ℕ) → ((s : ℕ) (m : Man) → Stands prefix.board s m → s < 64) → ((k : ℕ) → (bit_at word k ≡ 1) ↔ IsPlaced prefix man mover k)
+      → (k : ℕ) → (bit_at word k ≡ 1) ↔ IsMade false c prefix.stand man mover k
+  made_bits prefix is mover word on_board placed k = (λ one. made prefix is k mover on_board ((placed k).0 one), λ there. (placed k).1 (placed_where prefix is k mover there))

@@ -1,25 +1,24 @@
 -- The codes of a row spell the same men.
 use Rattle.std.proofs.Common.{◌≡◌, ℕ, ◌/◌, ◌%◌, ◌<◌, Bool, true, false, cond, [], ◌∷◌, arith, refl, sym, ap, ◌∙◌, inl}
 use Rattle.std.proofs.Common.{inr, subst}
-use Rattle.egt_index.specs.Prelude.{is_some, cases_eq, false≢true, Side, White, Black, side_number, men_of, FitsBoard}
-use Rattle.egt_index.specs.Prelude.{IsSettled, Setup, Material, material_of, SpellsAt, Spells, number_from, ends_of}
-use Rattle.egt_index.specs.Prelude.{row_len, has_target, Ends, SpellsMen, SpellsNoMen, AllApart, HasStand, list_of}
-use Rattle.egt_index.specs.Prelude.{Stand}
+use Rattle.egt_index.specs.Prelude.{is_some, FitsBoard, IsSettled, Material, SpellsAt, SpellsMen, AllApart, HasStand}
+use Rattle.egt_index.specs.Prelude.{cases_eq, false≢true, side_number, material_of, number_from, has_target, SpellsNoMen}
+use Rattle.egt_index.specs.Prelude.{Side, White, Black, men_of, Setup, Spells, ends_of, row_len, Ends, list_of, Stand}
 use Rattle.egt_index.proofs.Classes.{spells_class}
 use Rattle.egt_index.proofs.Decoded.{list_spelled, no_men}
 use Rattle.egt_index.proofs.Setups.{fits_apart, stood_spelled}
 
 -- the ends of a code, in a class with targets or without
-record EndsWith (targets : Bool) (code high : ℕ) (side : Side) (passed : Bool) : Type 0 where
-  is : code ≡ number_from high (2 ∷ cond targets (2 ∷ []) []) (side_number side ∷ cond targets (cond passed 1 0 ∷ []) [])
-  never : targets ≡ false → passed ≡ false
+record EndsWith (targets : Bool) (code high : ℕ) (side : Side) (targeted : Bool) : Type 0 where
+  is : code ≡ number_from high (2 ∷ cond targets (2 ∷ []) []) (side_number side ∷ cond targets (cond targeted 1 0 ∷ []) [])
+  never : targets ≡ false → targeted ≡ false
 
 -- what stands before the ends is the number of the row
-number_with : (targets : Bool) (code high : ℕ) (side : Side) (passed : Bool) → EndsWith targets code high side passed → code / cond {A = ℕ} targets 4 2 ≡ high
-number_with targets code high side passed ends = grind arith
+number_with : (targets : Bool) (code high : ℕ) (side : Side) (targeted : Bool) → EndsWith targets code high side targeted → code / cond {A = ℕ} targets 4 2 ≡ high
+number_with targets code high side targeted ends = grind arith
 
-pub row_number : (m : Material) (code high : ℕ) (side : Side) (passed : Bool) → Ends m code high side passed → code / ends_of m ≡ high
-row_number m code high side passed ends = number_with (has_target m) code high side passed (record { is = ends.number_is; never = ends.never })
+pub row_number : (m : Material) (code high : ℕ) (side : Side) (targeted : Bool) → Ends m code high side targeted → code / ends_of m ≡ high
+row_number m code high side targeted ends = number_with (has_target m) code high side targeted (record { is = ends.number_is; never = ends.never })
 
 side_of : (k : ℕ) → k < 2 → (side : Side) × (side_number side ≡ k)
 side_of k lt = elim (cases_eq k 0) [
@@ -27,14 +26,14 @@ side_of k lt = elim (cases_eq k 0) [
   | inr not ↦ (Black, omega arith)
 ]
 
-flag_of : (k : ℕ) → k < 2 → (passed : Bool) × (cond {A = ℕ} passed 1 0 ≡ k)
+flag_of : (k : ℕ) → k < 2 → (targeted : Bool) × (cond {A = ℕ} targeted 1 0 ≡ k)
 flag_of k lt = elim (cases_eq k 0) [
   | inl e ↦ (false, sym e)
   | inr not ↦ (true, omega arith)
 ]
 
 -- each code has its ends
-ends_with : (targets : Bool) (code : ℕ) → (side : Side) × (passed : Bool) × EndsWith targets code (code / cond {A = ℕ} targets 4 2) side passed
+ends_with : (targets : Bool) (code : ℕ) → (side : Side) × (targeted : Bool) × EndsWith targets code (code / cond {A = ℕ} targets 4 2) side targeted
 ends_with true code =
     let side = side_of (code / 2 % 2) (omega arith) in
     let flag = flag_of (code % 2) (omega arith) in
@@ -44,7 +43,7 @@ ends_with false code =
     let side = side_of (code % 2) (omega arith) in
     let s = side.1 in (side.0, false, record { is = omega arith; never = λ e. refl })
 
-pub ends_there : (m : Material) (code : ℕ) → (side : Side) × (passed : Bool) × Ends m code (code / ends_of m) side passed
+pub ends_there : (m : Material) (code : ℕ) → (side : Side) × (targeted : Bool) × Ends m code (code / ends_of m) side targeted
 ends_there m code = let ends = ends_with (has_target m) code in (ends.0, ends.1, record { number_is = ends.2.is; never = ends.2.never })
 
 -- where the row's number spells no men, no code of the row spells a position

@@ -1,13 +1,12 @@
 -- The men that a number spells, as a board and as a setup.
 use Rattle.std.proofs.Common.{◌≡◌, ◌≢◌, ℕ, ◌<◌, ◌&&◌, not, Bool, true, false, eqb, List, [], ◌∷◌, ◌++◌, length, map}
 use Rattle.std.proofs.Common.{Option, arith, refl, sym, ap, ◌∙◌, inl, inr, subst}
-use Rattle.egt_index.specs.Prelude.{option_to_list, is_some, and_parts, eq-eqb, Side, White, Black, Kind, Man, king_of}
-use Rattle.egt_index.specs.Prelude.{kind_number, side_number, men_of, setup_of, FitsBoard, MayStand, PawnsFit}
-use Rattle.egt_index.specs.Prelude.{Placement, Stands, IsFree, IsSettled, Setup, IsAdmissible, IsKingOn, all_below}
-use Rattle.egt_index.specs.Prelude.{passes_below, material_of, materials, Spells, square_by_digit, placed, AreDigits}
-use Rattle.egt_index.specs.Prelude.{base_by, base_of, men_beside, men_in_order, has_pawns, SpellsMen, Ends, IsListed}
-use Rattle.egt_index.specs.Prelude.{IsTold, men_among, rest_of, list_of, IsOff, AllApart, AllStand, Stood, HasStand}
-use Rattle.egt_index.specs.Prelude.{Stand}
+use Rattle.egt_index.specs.Prelude.{option_to_list, and_parts, IsAdmissible, passes_below, square_by_digit, men_in_order}
+use Rattle.egt_index.specs.Prelude.{is_some, eq-eqb, king_of, PawnsFit, IsKingOn, IsListed, AllApart, AllStand, HasStand}
+use Rattle.egt_index.specs.Prelude.{Side, White, Black, Kind, Man, Setup, Ends, IsOff, Stood, Stand}
+use Rattle.egt_index.specs.Prelude.{kind_number, side_number, FitsBoard, Placement, IsSettled, material_of, men_beside}
+use Rattle.egt_index.specs.Prelude.{men_of, Stands, IsFree, Spells, placed, base_by, base_of, IsTold, rest_of, list_of}
+use Rattle.egt_index.specs.Prelude.{setup_of, MayStand, all_below, materials, AreDigits, has_pawns, SpellsMen, men_among}
 use Rattle.egt_index.proofs.Classes.{spells_class}
 use Rattle.egt_index.proofs.Coded.{few_men, placed_few}
 use Rattle.egt_index.proofs.Decoded.{decoded_spells}
@@ -113,7 +112,7 @@ kings_spelled c high stand c_in men apart = record {
 }
   where
     others : List (Man × ℕ)
-    others = option_to_list stand.next ++ option_to_list stand.last
+    others = option_to_list stand.first ++ option_to_list stand.last
 
     none : are_no_kings (men_among others) ≡ true
     none = ap are_no_kings (tails (tails (men_spelled c high (list_of stand) men))) ∙ passes_below (λ c. are_no_kings (men_beside (material_of c))) 36 c all_no_kings c_in
@@ -140,8 +139,8 @@ all_stand (e ∷ list) apart on_board = (
     not_here : (s : ℕ) (man : Man) → Stands (men_of list) s man → s ≢ e.1
     not_here s man stands same = let h = sym (free_of list e.1 apart.0) ∙ subst (λ q. Stands (men_of list) q man) same stands in cc
 
-target_there : (passed : Bool) (side : Side) (list : List (Man × ℕ)) (target : Option ℕ) → IsTold passed side list target → is_some target ≡ passed
-target_there passed side list target told = grind (arith, is_some)
+target_there : (targeted : Bool) (side : Side) (list : List (Man × ℕ)) (target : Option ℕ) → IsTold targeted side list target → is_some target ≡ targeted
+target_there targeted side list target told = grind (arith, is_some)
 
 -- a position with these men has them in their places
 pub stood_spelled : (c high : ℕ) (stand : Stand) (p : Setup) → SpellsMen (material_of c) high (list_of stand) → AllApart (list_of stand) → IsAdmissible p → p.men ≡ men_of (list_of stand) → Stood c false p.men (list_of stand)
@@ -151,22 +150,22 @@ stood_spelled c high stand p men apart ok is = record {
 }
 
 -- the setup has the stand
-pub stand_spelled : (c code high : ℕ) (stand : Stand) (side : Side) (passed : Bool) (target : Option ℕ) → SpellsMen (material_of c) high (list_of stand) → AllApart (list_of stand) → IsTold passed side (list_of stand) target
-    → Spells c code (setup_of (list_of stand) side target) → IsSettled (setup_of (list_of stand) side target) → HasStand c false stand side passed (setup_of (list_of stand) side target)
-stand_spelled c code high stand side passed target men apart told spells settled = record {
+pub stand_spelled : (c code high : ℕ) (stand : Stand) (side : Side) (targeted : Bool) (target : Option ℕ) → SpellsMen (material_of c) high (list_of stand) → AllApart (list_of stand) → IsTold targeted side (list_of stand) target
+    → Spells c code (setup_of (list_of stand) side target) → IsSettled (setup_of (list_of stand) side target) → HasStand c false stand side targeted (setup_of (list_of stand) side target)
+stand_spelled c code high stand side targeted target men apart told spells settled = record {
   admissible = spells.admissible;
   settled = settled;
   is_of = spells_class c code (setup_of (list_of stand) side target) spells;
   stood = stood_spelled c high stand (setup_of (list_of stand) side target) men apart spells.admissible refl;
   side_is = refl;
-  target_is = target_there passed side (list_of stand) target told;
+  target_is = target_there targeted side (list_of stand) target told;
 }
 
 -- a position with the board is the setup
 pub on_board_of : (list : List (Man × ℕ)) (side : Side) (target : Option ℕ) (men : Placement) (p : Setup) → men ≡ men_of list → p ≡ record { men = men; side = side; target = target } → p ≡ setup_of list side target
 on_board_of list side target men p men_is is = grind arith
 
-pub setup_spelled : (c code high : ℕ) (side : Side) (passed : Bool) (list : List (Man × ℕ)) (target : Option ℕ) (p : Setup) → Ends (material_of c) code high side passed → SpellsMen (material_of c) high list → IsTold passed side list target
+pub setup_spelled : (c code high : ℕ) (side : Side) (targeted : Bool) (list : List (Man × ℕ)) (target : Option ℕ) (p : Setup) → Ends (material_of c) code high side targeted → SpellsMen (material_of c) high list → IsTold targeted side list target
     → AllApart list → p ≡ setup_of list side target → IsAdmissible p → Spells c code p
-setup_spelled c code high side passed list target p ends men told apart is ok =
-    subst (Spells c code) (sym is) (decoded_spells (material_of c) code high side passed list target ends men told (apart_fits c high list men apart) (subst IsAdmissible is ok))
+setup_spelled c code high side targeted list target p ends men told apart is ok =
+    subst (Spells c code) (sym is) (decoded_spells (material_of c) code high side targeted list target ends men told (apart_fits c high list men apart) (subst IsAdmissible is ok))

@@ -6,23 +6,23 @@ use Rattle.egt_index.specs.Prelude.{king_square, IsBefore, kind_digits, kind_les
 use Rattle.egt_index.specs.Prelude.{AreMenOf, IsShelf, IsShelfBehind, IsShelfOf, number_in, stand_with, has_pawns}
 use Rattle.egt_index.specs.Prelude.{has_target, king_base, men_beside, men_in_order, SpellsMen, Tells, TellsMen}
 use Rattle.egt_index.specs.Prelude.{list_of, rest_of, with_last, ShelfMen, Stand}
-use Rattle.egt_index.proofs.Halves.{code_high, code_low, places_of_last}
+use Rattle.egt_index.proofs.NumbersOfCodes.{code_high, code_low, places_of_last}
 use Rattle.egt_index.proofs.Numbered.{ends}
 use Rattle.egt_index.proofs.Opposed.{may_stand}
 use Rattle.egt_index.proofs.Placing.{some_digits, tells, twice_within, within}
 use Rattle.egt_index.proofs.MenNumber.{number_on, number_told}
 use Rattle.egt_index.proofs.Setups.{men_spelled}
-use Rattle.egt_index.proofs.Splitting.{spells_men}
+use Rattle.egt_index.proofs.DigitsTaken.{spells_men}
 use Rattle.egt_board.proofs.Parts.{heads, tails}
 
-module _ (passed : Bool) (c shelf high : ℕ) (men : ShelfMen) (c_in : c < 36) (last : last_of (men_beside (material_of c)) ≡ Some men.last) (other : men.last ≢ king_of White) (at : IsShelfBehind passed c shelf high) where
+module _ (targeted : Bool) (c shelf high : ℕ) (men : ShelfMen) (c_in : c < 36) (last : last_of (men_beside (material_of c)) ≡ Some men.last) (other : men.last ≢ king_of White) (at : IsShelfBehind targeted c shelf high) where
   -- a number's code tells the men where the digits of the men do
   told_code : (side : Side) (digit : ℕ) → digit < kind_digits men.last.kind → SpellsMen (material_of c) (high * kind_digits men.last.kind + digit) (list_of (stand_with men (digit + kind_less men.last.kind)))
-      → TellsMen passed c (code_of c (number_in c shelf side digit)) (stand_with men (digit + kind_less men.last.kind)) side
+      → TellsMen targeted c (code_of c (number_in c shelf side digit)) (stand_with men (digit + kind_less men.last.kind)) side
   told_code side digit below spells = grind (arith, ends)
 
   -- the men who are found before the last one
-  module _ (one_other : men.one ∷ men.last ∷ [] ≡ men_beside (material_of c) → men.one ≢ king_of White) (stand : Stand) (before : IsBefore c high stand) (white : stand.white ≡ men.white) (black : stand.black ≡ men.black) (next : stand.next ≡ Some (men.one, men.on)) where
+  module _ (one_other : men.first ∷ men.last ∷ [] ≡ men_beside (material_of c) → men.first ≢ king_of White) (stand : Stand) (before : IsBefore c high stand) (white : stand.white ≡ men.white) (black : stand.black ≡ men.black) (next : stand.first ≡ Some (men.first, men.on)) where
     spelled : (digit : ℕ) → digit < kind_digits men.last.kind → SpellsMen (material_of c) (high * kind_digits men.last.kind + digit) (list_of (stand_with men (digit + kind_less men.last.kind)))
     spelled digit below =
         subst (λ (s : Stand). SpellsMen (material_of c) (high * kind_digits men.last.kind + digit) (list_of s)) same
@@ -31,7 +31,7 @@ module _ (passed : Bool) (c shelf high : ℕ) (men : ShelfMen) (c_in : c < 36) (
         same : with_last stand (Some (men.last, digit + kind_less men.last.kind)) ≡ stand_with men (digit + kind_less men.last.kind)
         same = grind (arith, stand, kind_less)
 
-    all_men : king_of White ∷ king_of Black ∷ men.one ∷ men.last ∷ [] ≡ men_in_order (material_of c)
+    all_men : king_of White ∷ king_of Black ∷ men.first ∷ men.last ∷ [] ≡ men_in_order (material_of c)
     all_men = men_spelled c (high * kind_digits men.last.kind + 0) (list_of (stand_with men (0 + kind_less men.last.kind))) (spelled 0 (some_digits men.last.kind))
 
     pub shelf_before : IsShelf c shelf men
@@ -42,13 +42,13 @@ module _ (passed : Bool) (c shelf high : ℕ) (men : ShelfMen) (c_in : c < 36) (
         last_beside = other;
       };
       len = places_of_last c men.last last;
-      passed = passed;
+      targeted = targeted;
       tells = λ side digit below. told_code side digit below (spelled digit below);
     }
 
   -- those of these squares
   module _ (is_of : AreMenOf c men) (king digit : ℕ) (king_in : king < king_base (has_pawns (material_of c))) (king_is : king_square (has_pawns (material_of c)) king ≡ men.white) (black_in : men.black < 64) (on_in : men.on < 64)
-      (may : MayStand men.one men.on) (digit_is : digit ≡ men.on - kind_less men.one.kind) (high_is : high ≡ (king * 64 + men.black) * kind_digits men.one.kind + digit) where
+      (may : MayStand men.first men.on) (digit_is : digit ≡ men.on - kind_less men.first.kind) (high_is : high ≡ (king * 64 + men.black) * kind_digits men.first.kind + digit) where
     pub spelled_on : (d : ℕ) → d < kind_digits men.last.kind → SpellsMen (material_of c) (high * kind_digits men.last.kind + d) (list_of (stand_with men (d + kind_less men.last.kind)))
     spelled_on d below =
         subst (λ n. SpellsMen (material_of c) n (list_of stand)) number
@@ -65,12 +65,12 @@ module _ (passed : Bool) (c shelf high : ℕ) (men : ShelfMen) (c_in : c < 36) (
         number : number_on king stand ≡ high * kind_digits men.last.kind + d
         number = grind arith
 
-    pub shelf_on : IsShelfOf passed c shelf men
+    pub shelf_on : IsShelfOf targeted c shelf men
     shelf_on = (
       record {
         men_of = is_of;
         len = places_of_last c men.last last;
-        passed = passed;
+        targeted = targeted;
         tells = λ side d below. told_code side d below (spelled_on d below);
       },
       refl,
@@ -85,23 +85,23 @@ pub first_beside : (x y : Option Man) (one last : Man) (men : List Man) → opti
 first_beside x y one last men are not none is = grind (arith, heads)
 
 -- the positions of the upper shelves have a target, and no others
-pub halves : (c shelf : ℕ) (men : ShelfMen) (is : IsShelf c shelf men) → has_target (material_of c) ≡ true → (is.passed ≡ true) ↔ (half_of c ≤ shelf * (2 * places c))
+pub halves : (c shelf : ℕ) (men : ShelfMen) (is : IsShelf c shelf men) → has_target (material_of c) ≡ true → (is.targeted ≡ true) ↔ (half_of c ≤ shelf * (2 * places c))
 halves c shelf men is has = (there, back)
   where
-    tells : TellsMen is.passed c (code_of c (number_in c shelf White 0)) (stand_with men (0 + kind_less men.last.kind)) White
+    tells : TellsMen is.targeted c (code_of c (number_in c shelf White 0)) (stand_with men (0 + kind_less men.last.kind)) White
     tells = is.tells White 0 (some_digits men.last.kind)
 
     same : number_in c shelf White 0 ≡ shelf * (2 * places c)
     same = omega arith
 
-    coded : code_of c (shelf * (2 * places c)) ≡ tells.number * 4 + cond is.passed 1 0
+    coded : code_of c (shelf * (2 * places c)) ≡ tells.number * 4 + cond is.targeted 1 0
     coded = grind (arith, code_of, tells)
 
     flag : (b : Bool) → cond {A = ℕ} b 1 0 % 2 ≡ 1 → b ≡ true
     flag b odd = grind arith
 
-    there : is.passed ≡ true → half_of c ≤ shelf * (2 * places c)
-    there passed = grind (arith, places, code_low)
+    there : is.targeted ≡ true → half_of c ≤ shelf * (2 * places c)
+    there targeted = grind (arith, places, code_low)
 
-    back : half_of c ≤ shelf * (2 * places c) → is.passed ≡ true
-    back ge = flag is.passed (let high = code_high c (shelf * (2 * places c)) has ge in let code = coded in omega arith)
+    back : half_of c ≤ shelf * (2 * places c) → is.targeted ≡ true
+    back ge = flag is.targeted (let high = code_high c (shelf * (2 * places c)) has ge in let code = coded in omega arith)

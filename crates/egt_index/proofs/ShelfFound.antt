@@ -6,7 +6,7 @@ use Rattle.egt_index.specs.Prelude.{king_of, Man, White, Black, material_of, kin
 use Rattle.egt_index.specs.Prelude.{IsNoneBefore, TellsLast, half_of, places, kind_digits, kind_less, last_of, AreMenOf}
 use Rattle.egt_index.specs.Prelude.{IsShelfBehind, IsWithin, stand_with, base_of, has_pawns, has_target, king_base}
 use Rattle.egt_index.specs.Prelude.{men_beside, size_of, SpellsMen, Entry, list_of, ShelfMen, Stand}
-use Rattle.egt_index.proofs.Halves.{digits_some, half_plain, half_twice, of_targets, places_of_last, places_some}
+use Rattle.egt_index.proofs.NumbersOfCodes.{digits_some, half_plain, half_twice, of_targets, places_of_last, places_some}
 use Rattle.egt_index.proofs.Opposed.{may_stand}
 use Rattle.egt_index.proofs.Placing.{digit_on, tells, twice_within, within}
 use Rattle.egt_index.proofs.ShelfCodes.{last_told, spelled_on}
@@ -20,11 +20,11 @@ module _ (c : ℕ) (men : ShelfMen) (is_of : AreMenOf c men) where
   pawns = has_pawns (material_of c)
 
   abbrev one : ℕ
-  one = kind_digits men.one.kind
+  one = kind_digits men.first.kind
 
   -- how many numbers the digits of the kings and the first man make
-  abbrev fronts : ℕ
-  fronts = king_base pawns * 64 * one
+  abbrev prefixes : ℕ
+  prefixes = king_base pawns * 64 * one
 
   last : last_of (men_beside (material_of c)) ≡ Some men.last
   last = last_told c men is_of
@@ -32,39 +32,39 @@ module _ (c : ℕ) (men : ShelfMen) (is_of : AreMenOf c men) where
   len : places c ≡ kind_digits men.last.kind
   len = places_of_last c men.last last
 
-  size_is : size_of c ≡ product (map (base_of pawns) (king_of White ∷ king_of Black ∷ men.one ∷ men.last ∷ []) ++ 2 ∷ cond (has_target (material_of c)) (2 ∷ []) [])
+  size_is : size_of c ≡ product (map (base_of pawns) (king_of White ∷ king_of Black ∷ men.first ∷ men.last ∷ []) ++ 2 ∷ cond (has_target (material_of c)) (2 ∷ []) [])
   unfolding size_of
   size_is = ap (λ (list : List Man). product (map (base_of pawns) list ++ 2 ∷ cond (has_target (material_of c)) (2 ∷ []) [])) (sym is_of.are)
 
   size_by : (b : Bool) → has_target (material_of c) ≡ b → size_of c ≡ king_base pawns * (64 * (one * (places c * (2 * product (cond b (2 ∷ []) [])))))
   size_by b targets = grind (arith, size_is, king_base, base_of, last, product, digit_on, len)
 
-  half_is : half_of c ≡ fronts * (2 * places c)
+  half_is : half_of c ≡ prefixes * (2 * places c)
   half_is = of_targets c
       (λ none. let size = size_by false none in let half = half_plain c none in omega arith)
       (λ has. let size = size_by true has in let half = half_twice c has in omega arith)
 
   -- there is a shelf behind each of these numbers
-  pub a_shelf_behind : (passed : Bool) (king black digit high : ℕ) → king < king_base pawns → black < 64 → digit < one → high ≡ (king * 64 + black) * one + digit → (has_target (material_of c) ≡ false → passed ≡ false)
-      → (shelf : ℕ) × IsShelfBehind passed c shelf high
-  a_shelf_behind passed king black digit high king_in black_in digit_in is may = (
-    high + cond passed fronts 0,
-    record { first = first passed; within = all; may = may },
+  pub a_shelf_behind : (targeted : Bool) (king black digit high : ℕ) → king < king_base pawns → black < 64 → digit < one → high ≡ (king * 64 + black) * one + digit → (has_target (material_of c) ≡ false → targeted ≡ false)
+      → (shelf : ℕ) × IsShelfBehind targeted c shelf high
+  a_shelf_behind targeted king black digit high king_in black_in digit_in is may = (
+    high + cond targeted prefixes 0,
+    record { first = first targeted; within = all; may = may },
   )
     where
-      few : high + 1 ≤ fronts
+      few : high + 1 ≤ prefixes
       few = grind arith
 
       all : (high + 1) * (2 * places c) ≤ half_of c
       all = let le = mul-le-mul_right (2 * places c) few in let half = half_is in omega arith
 
-      first : (passed : Bool) → (high + cond passed fronts 0) * (2 * places c) ≡ high * (2 * places c) + cond passed (half_of c) 0
-      first passed = grind (arith, half_is)
+      first : (targeted : Bool) → (high + cond targeted prefixes 0) * (2 * places c) ≡ high * (2 * places c) + cond targeted (half_of c) 0
+      first targeted = grind (arith, half_is)
 
   -- and the digits of each such number spell men
-  module _ (passed : Bool) (shelf high : ℕ) (c_in : c < 36) (at : IsShelfBehind passed c shelf high) where
-    few : high < fronts
-    few = below high fronts (2 * places c) (let some = places_some c in omega arith) (let within = at.within in let half = half_is in omega arith)
+  module _ (targeted : Bool) (shelf high : ℕ) (c_in : c < 36) (at : IsShelfBehind targeted c shelf high) where
+    few : high < prefixes
+    few = below high prefixes (2 * places c) (let some = places_some c in omega arith) (let within = at.within in let half = half_is in omega arith)
       where
         below : (a b n : ℕ) → 0 < n → (a + 1) * n ≤ b * n → a < b
         below a b n some le = lt_of_mul-lt-mul_left n (omega arith)
@@ -79,19 +79,19 @@ module _ (c : ℕ) (men : ShelfMen) (is_of : AreMenOf c men) where
     digit = high % one
 
     there : ShelfMen
-    there = record { white = king_square pawns king; black = black; one = men.one; on = digit + kind_less men.one.kind; last = men.last }
+    there = record { white = king_square pawns king; black = black; first = men.first; on = digit + kind_less men.first.kind; last = men.last }
 
     spelled : SpellsMen (material_of c) (high * kind_digits men.last.kind + 0) (list_of (stand_with there (0 + kind_less men.last.kind)))
     unfolding there king black digit
     spelled =
-        spelled_on passed c shelf high there c_in last is_of.last_beside at (record { are = is_of.are; one_beside = is_of.one_beside; last_beside = is_of.last_beside }) king digit (omega (arith, high_few)) refl (omega arith)
-        (let in_all = within men.one.kind in omega (arith, digit_in)) (may_stand men.one (digit + kind_less men.one.kind) (omega arith) (let twice = twice_within men.one.kind in omega (arith, digit_in))) (omega arith) high_is 0 (digits_some (Some men.last))
+        spelled_on targeted c shelf high there c_in last is_of.last_beside at (record { are = is_of.are; one_beside = is_of.one_beside; last_beside = is_of.last_beside }) king digit (omega (arith, high_few)) refl (omega arith)
+        (let in_all = within men.first.kind in omega (arith, digit_in)) (may_stand men.first (digit + kind_less men.first.kind) (omega arith) (let twice = twice_within men.first.kind in omega (arith, digit_in))) (omega arith) high_is 0 (digits_some (Some men.last))
       where
         high_few : high / one < king_base pawns * 64
-        high_few = (div-lt_iff_lt-mul (digits_some (Some men.one))).1 few
+        high_few = (div-lt_iff_lt-mul (digits_some (Some men.first))).1 few
 
         digit_in : high % one < one
-        digit_in = mod-lt high (digits_some (Some men.one))
+        digit_in = mod-lt high (digits_some (Some men.first))
 
         high_is : high ≡ (high / one / 64 * 64 + high / one % 64) * one + high % one
         high_is = sym (ap (λ n. n * one + high % one) (div-add-mod' (high / one) 64) ∙ div-add-mod' high one)
@@ -106,6 +106,6 @@ module _ (c : ℕ) (men : ShelfMen) (is_of : AreMenOf c men) where
     pub some_before : IsNoneBefore c high → ⊥
     some_before none = let men_are = spelled in none (high * kind_digits men.last.kind + 0) entry told men_are.digits men_are.are men_are.number_is
 
-    pub one_before : (stand : Stand) → IsBefore c high stand → stand.next ≢ None
+    pub one_before : (stand : Stand) → IsBefore c high stand → stand.first ≢ None
     unfolding entry
     one_before stand before none = let alone = before.filled (high * kind_digits men.last.kind + 0) entry told none in cc

@@ -12,17 +12,17 @@ use Rattle.egt_index.proofs.Coding.{last_digits}
 use Rattle.egt_index.proofs.Listing.{AreApart, fits_of}
 use Rattle.egt_index.proofs.MixedDigits.{number_from-lt}
 use Rattle.egt_index.proofs.Picking.{lesser_digit}
-use Rattle.egt_index.proofs.Turned.{counted_of}
+use Rattle.egt_index.proofs.ImageCodes.{counted_of}
 
 -- the turn that changes nothing
 pub stays : (p : Setup) → IsAdmissible p → IsTurn 0 p p
 stays p ok = grind arith
 
-sorted_list : (p : Setup) (stand : Stand) → IsAdmissible p → AllStand false p.men (list_of stand) → IsInOrder stand.next stand.last → AreSorted (list_of stand)
+sorted_list : (p : Setup) (stand : Stand) → IsAdmissible p → AllStand false p.men (list_of stand) → IsInOrder stand.first stand.last → AreSorted (list_of stand)
 sorted_list p stand ok all order = grind (arith, listed_there, rest_of, sorted_rest)
 
 -- digits of equal men in order make the least code
-pub least_in_order : (c code : ℕ) (stand : Stand) (p : Setup) → IsAdmissible p → AllStand false p.men (list_of stand) → IsInOrder stand.next stand.last → (men_among (list_of stand) ≡ men_in_order (material_of c))
+pub least_in_order : (c code : ℕ) (stand : Stand) (p : Setup) → IsAdmissible p → AllStand false p.men (list_of stand) → IsInOrder stand.first stand.last → (men_among (list_of stand) ≡ men_in_order (material_of c))
     → IsOf c false p → SpellsAt c code stand p → IsLeastCode c p code
 least_in_order c code stand p ok all order are is_of s =
     let there = all_there p.men (list_of stand) ok.on_board (subst (AreCounted p.men) (sym are) (counted_of c p is_of)) all in
@@ -80,14 +80,14 @@ exchange pawns (a ∷ b ∷ g ∷ h ∷ []) (i ∷ j ∷ k ∷ l ∷ []) e f x y
     of_four p q r s = cc
 
 -- in the other order they do not
-pub beaten_behind : (c code : ℕ) (stand : Stand) (p : Setup) → IsAdmissible p → AllStand false p.men (list_of stand) → AreBehind stand.next stand.last → (men_among (list_of stand) ≡ men_in_order (material_of c))
+pub beaten_behind : (c code : ℕ) (stand : Stand) (p : Setup) → IsAdmissible p → AllStand false p.men (list_of stand) → AreBehind stand.first stand.last → (men_among (list_of stand) ≡ men_in_order (material_of c))
     → IsOf c false p → SpellsAt c code stand p → Beats c p 0 code
-beaten_behind c code stand p ok all behind are is_of s = of_entries stand.next stand.last refl refl behind
+beaten_behind c code stand p ok all behind are is_of s = of_entries stand.first stand.last refl refl behind
   where
     m : Material
     m = material_of c
 
-    of_two : (x y : Man × ℕ) → stand.next ≡ Some x → stand.last ≡ Some y → x.0 ≡ y.0 → y.1 < x.1 → Beats c p 0 code
+    of_two : (x y : Man × ℕ) → stand.first ≡ Some x → stand.last ≡ Some y → x.0 ≡ y.0 → y.1 < x.1 → Beats c p 0 code
     of_two x y next_is last_is same lt =
         let list_is : list_of stand ≡ (king_of White, stand.white) ∷ (king_of Black, stand.black) ∷ x ∷ y ∷ [] =
         ap (λ (z : Entry). (king_of White, stand.white) ∷ (king_of Black, stand.black) ∷ (option_to_list z ++ option_to_list stand.last)) next_is ∙ ap (λ (z : Entry). (king_of White, stand.white) ∷ (king_of Black, stand.black) ∷ x ∷ option_to_list z) last_is in
@@ -120,7 +120,7 @@ beaten_behind c code stand p ok all behind are is_of s = of_entries stand.next s
         exchanged_men : (x y : Man × ℕ) → x.0 ≡ y.0 → men_among ((king_of White, stand.white) ∷ (king_of Black, stand.black) ∷ y ∷ x ∷ []) ≡ men_among ((king_of White, stand.white) ∷ (king_of Black, stand.black) ∷ x ∷ y ∷ [])
         exchanged_men x y same = ap (λ z. king_of White ∷ king_of Black ∷ z ∷ x.0 ∷ []) (sym same) ∙ ap (λ z. king_of White ∷ king_of Black ∷ x.0 ∷ z ∷ []) same
 
-    of_entries : (a b : Entry) → stand.next ≡ a → stand.last ≡ b → AreBehind a b → Beats c p 0 code
+    of_entries : (a b : Entry) → stand.first ≡ a → stand.last ≡ b → AreBehind a b → Beats c p 0 code
     of_entries None b next_is last_is h = absurd h
     of_entries (Some x) None next_is last_is h = absurd h
     of_entries (Some x) (Some y) next_is last_is h = of_two x y next_is last_is h.0 h.1

@@ -1,4 +1,4 @@
--- What tests tell.
+-- Tests of codes and what they tell.
 use Rattle.std.proofs.Common.{◌≡◌, ◌⊎◌, ◌||◌, not, Bool, true, arith}
 
 pub implied : (a b : Bool) → a ≡ true → (not a || b) ≡ true → b ≡ true

@@ -1,4 +1,4 @@
--- What a code that tells some men spells has these men, and a position with these men is what it spells.
+-- A code that tells some men spells exactly the positions with these men.
 use Rattle.std.proofs.Common.{◌≡◌, ℕ, ◌+◌, ◌-◌, Bool, true, false, List, Option, Some, None, arith, sym, ap, ◌∙◌, subst}
 use Rattle.egt_index.specs.Prelude.{is_some, false≢true, FitsBoard, men_of, setup_of, ahead, pawn_of, Placement, Stands}
 use Rattle.egt_index.specs.Prelude.{IsSettled, Setup, FitsTarget, IsTarget, Man, Side, White, Black, Spells, HasPawns}
@@ -7,7 +7,7 @@ use Rattle.egt_index.proofs.After.{all_apart}
 use Rattle.egt_index.proofs.AtIndex.{target_exists}
 use Rattle.egt_index.proofs.Decoded.{has_pawns_list, spelled_setup}
 use Rattle.egt_index.proofs.FrameMen.{men_are}
-use Rattle.egt_index.proofs.Halves.{of_targets}
+use Rattle.egt_index.proofs.NumbersOfCodes.{of_targets}
 use Rattle.egt_index.proofs.Listing.{listed}
 use Rattle.egt_index.proofs.Setups.{fits_apart, setup_spelled, stand_spelled}
 
@@ -16,33 +16,33 @@ pub untargeted_settled : (q : Setup) → q.target ≡ None → IsSettled q
 untargeted_settled q none = grind (arith, ahead)
 
 -- where a target is told of there is a pawn each
-pub pawns_told : (passed : Bool) (c code : ℕ) (stand : Stand) (side : Side) → TellsMen passed c code stand side → passed ≡ true → HasPawns (list_of stand)
-pawns_told passed c code stand side tells e =
+pub pawns_told : (targeted : Bool) (c code : ℕ) (stand : Stand) (side : Side) → TellsMen targeted c code stand side → targeted ≡ true → HasPawns (list_of stand)
+pawns_told targeted c code stand side tells e =
     of_targets c (λ none. absurd (false≢true (sym (tells.ends.never none) ∙ e))) (λ has. has_pawns_list c tells.number (list_of stand) has tells.men)
 
 pub no_target : (o : Option ℕ) → is_some o ≡ false → o ≡ None
 no_target o is = grind arith
 
 -- the setup of these men, that side to move and the target that the code tells of
-record IsSetup (passed : Bool) (stand : Stand) (side : Side) (p : Setup) : Type 0 where
+record IsSetup (targeted : Bool) (stand : Stand) (side : Side) (p : Setup) : Type 0 where
   target : Option ℕ
-  told : IsTold passed side (list_of stand) target
+  told : IsTold targeted side (list_of stand) target
   fits : FitsBoard (list_of stand)
   is : p ≡ setup_of (list_of stand) side target
 
 -- what a code spells is the setup of the men that it tells
-told_setup : (passed : Bool) (c code : ℕ) (p : Setup) (stand : Stand) (side : Side) → Spells c code p → TellsMen passed c code stand side → IsSetup passed stand side p
-told_setup passed c code p stand side spells tells =
-    let target = target_exists passed side (list_of stand) (pawns_told passed c code stand side tells) in
-    let found = spelled_setup c code tells.number side passed (list_of stand) target.0 p tells.ends tells.men target.1 spells in
+told_setup : (targeted : Bool) (c code : ℕ) (p : Setup) (stand : Stand) (side : Side) → Spells c code p → TellsMen targeted c code stand side → IsSetup targeted stand side p
+told_setup targeted c code p stand side spells tells =
+    let target = target_exists targeted side (list_of stand) (pawns_told targeted c code stand side tells) in
+    let found = spelled_setup c code tells.number side targeted (list_of stand) target.0 p tells.ends tells.men target.1 spells in
     record { target = target.0; told = target.1; fits = found.0; is = found.1 }
 
 -- and has them
-pub told_stands : (passed : Bool) (c code : ℕ) (p : Setup) (stand : Stand) (side : Side) → Spells c code p → IsSettled p → TellsMen passed c code stand side → HasStand c false stand side passed p
-told_stands passed c code p stand side spells settled tells =
-    let found = told_setup passed c code p stand side spells tells in
-    subst (HasStand c false stand side passed) (sym found.is)
-    (stand_spelled c code tells.number stand side passed found.target tells.men (fits_apart (list_of stand) found.fits) found.told (subst (Spells c code) found.is spells) (subst IsSettled found.is settled))
+pub told_stands : (targeted : Bool) (c code : ℕ) (p : Setup) (stand : Stand) (side : Side) → Spells c code p → IsSettled p → TellsMen targeted c code stand side → HasStand c false stand side targeted p
+told_stands targeted c code p stand side spells settled tells =
+    let found = told_setup targeted c code p stand side spells tells in
+    subst (HasStand c false stand side targeted) (sym found.is)
+    (stand_spelled c code tells.number stand side targeted found.target tells.men (fits_apart (list_of stand) found.fits) found.told (subst (Spells c code) found.is spells) (subst IsSettled found.is settled))
 
 pub untargeted_stands : (c code : ℕ) (p : Setup) (stand : Stand) (side : Side) → Spells c code p → TellsMen false c code stand side → HasStand c false stand side false p
 untargeted_stands c code p stand side spells tells =
@@ -54,19 +54,19 @@ target_listed : (side : Side) (men : Placement) (list : List (Man × ℕ)) (t : 
 target_listed White men list t is target = let rank = target.rank in (t - 8, listed list (pawn_of Black) (t - 8) (subst (λ (m : Placement). Stands m (t - 8) (pawn_of Black)) is target.advanced), (omega arith))
 target_listed Black men list t is target = (t + 8, listed list (pawn_of White) (t + 8) (subst (λ (m : Placement). Stands m (t + 8) (pawn_of White)) is target.advanced), (omega arith))
 
-target_told : (passed : Bool) (side : Side) (men : Placement) (list : List (Man × ℕ)) (target : Option ℕ) → men ≡ men_of list → FitsTarget men side target → is_some target ≡ passed → IsTold passed side list target
-target_told passed side men list target is fits none = grind (arith, no_target, target_listed)
+target_told : (targeted : Bool) (side : Side) (men : Placement) (list : List (Man × ℕ)) (target : Option ℕ) → men ≡ men_of list → FitsTarget men side target → is_some target ≡ targeted → IsTold targeted side list target
+target_told targeted side men list target is fits none = grind (arith, no_target, target_listed)
 
 -- and a position with these men is what it spells
-pub stands_told : (passed : Bool) (c code : ℕ) (p : Setup) (stand : Stand) (side : Side) → HasStand c false stand side passed p → TellsMen passed c code stand side → Spells c code p
-stands_told passed c code p stand side has tells =
-    setup_spelled c code tells.number side passed (list_of stand) p.target p tells.ends tells.men told (all_apart false p.men (list_of stand) has.stood.all) same has.admissible
+pub stands_told : (targeted : Bool) (c code : ℕ) (p : Setup) (stand : Stand) (side : Side) → HasStand c false stand side targeted p → TellsMen targeted c code stand side → Spells c code p
+stands_told targeted c code p stand side has tells =
+    setup_spelled c code tells.number side targeted (list_of stand) p.target p tells.ends tells.men told (all_apart false p.men (list_of stand) has.stood.all) same has.admissible
   where
     men : p.men ≡ men_of (list_of stand)
-    men = men_are c stand side passed p has
+    men = men_are c stand side targeted p has
 
-    told : IsTold passed side (list_of stand) p.target
-    told = target_told passed side p.men (list_of stand) p.target men (subst (λ (s : Side). FitsTarget p.men s p.target) has.side_is has.admissible.target) has.target_is
+    told : IsTold targeted side (list_of stand) p.target
+    told = target_told targeted side p.men (list_of stand) p.target men (subst (λ (s : Side). FitsTarget p.men s p.target) has.side_is has.admissible.target) has.target_is
 
     same : p ≡ setup_of (list_of stand) side p.target
     same =

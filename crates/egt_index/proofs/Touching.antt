@@ -33,8 +33,8 @@ checked men white black white_on black_on white_in black_in apart near Black = r
 }
 
 -- so no position of a class has them there
-pub apart_kings : (c : ℕ) (flips : Bool) (stand : Stand) (side : Side) (passed : Bool) (p : Setup) → HasStand c flips stand side passed p → AreNear stand.white stand.black → ⊥
-apart_kings c flips stand side passed p has near = grind (arith, checked, turned_near)
+pub apart_kings : (c : ℕ) (flips : Bool) (stand : Stand) (side : Side) (targeted : Bool) (p : Setup) → HasStand c flips stand side targeted p → AreNear stand.white stand.black → ⊥
+apart_kings c flips stand side targeted p has near = grind (arith, checked, turned_near)
 
 -- no code of the row spells a position
 pub none_near : (c n code : ℕ) (stand : Stand) (p : Setup) → c < 36 → code / row_len c ≡ n → SpellsMen (material_of c) n (list_of stand) → Spells c code p → AreNear stand.white stand.black → ⊥

@@ -26,7 +26,7 @@ use Rattle.egt_index.proofs.OnePosition.{spells_once}
 use Rattle.egt_index.proofs.Picking.{same_digit}
 use Rattle.egt_index.proofs.Setups.{all_apart, apart_all, are_no_kings, men_spelled, no_king_listed, no_kings_beside, placed_may}
 use Rattle.egt_index.proofs.ToldMen.{stands_told, told_stands, untargeted_stands}
-use Rattle.egt_index.proofs.Turned.{counted_of, differ, turned_class}
+use Rattle.egt_index.proofs.ImageCodes.{counted_of, differ, turned_class}
 use Rattle.egt_board.proofs.Parts.{heads, tails}
 
 -- ---- the turn that undoes another in the same colours
@@ -69,7 +69,7 @@ entries_on_board x y x_in y_in = grind arith
 
 list_on_board : (stand : Stand) → AreOnBoard stand → AllOnBoard (list_of stand)
 unfolding AllOnBoard
-list_on_board stand board = (board.white, (board.black, entries_on_board stand.next stand.last board.next board.last))
+list_on_board stand board = (board.white, (board.black, entries_on_board stand.first stand.last board.first board.last))
 
 off_before : (n : ℕ) (flips : Bool) (list : List (Man × ℕ)) (q : ℕ) → IsOff (map (turn_one n flips) list) (turned_square n flips q) → IsOff list q
 off_before n flips [] q off = tt
@@ -87,7 +87,7 @@ all_before n flips r q (e ∷ list) n_in set board all =
     )
 
 list_turned : (n : ℕ) (flips : Bool) (stand : Stand) → map (turn_one n flips) (list_of stand) ≡ list_of (turned_with n flips stand)
-list_turned n flips stand = ap (λ l. (king_of White, turned_square n flips stand.white) ∷ (king_of Black, turned_square n flips stand.black) ∷ l) (both_to_list n flips stand.next stand.last)
+list_turned n flips stand = ap (λ l. (king_of White, turned_square n flips stand.white) ∷ (king_of Black, turned_square n flips stand.black) ∷ l) (both_to_list n flips stand.first stand.last)
 
 differ_from : (flips : Bool) → differ false flips ≡ flips
 differ_from flips = grind arith
@@ -103,12 +103,12 @@ digit_mapped : (f : ℕ → ℕ) (o : Option ℕ) → target_digit (option_map f
 digit_mapped f o = grind arith
 
 -- what a code spells is settled where no target was passed
-settled_told : (passed : Bool) (c code : ℕ) (r : Setup) (stand : Stand) (side : Side) → Spells c code r → TellsMen passed c code stand side → (passed ≡ true → IsSettled r) → IsSettled r
+settled_told : (targeted : Bool) (c code : ℕ) (r : Setup) (stand : Stand) (side : Side) → Spells c code r → TellsMen targeted c code stand side → (targeted ≡ true → IsSettled r) → IsSettled r
 settled_told true c code r stand side spells tells settled = settled refl
 settled_told false c code r stand side spells tells settled = (untargeted_stands c code r stand side spells tells).settled
 
-module _ (facts : Facts) (passed : Bool) (c n code : ℕ) (flips : Bool) (stand : Stand) (side : Side) (r : Setup) (c_in : c < 36) (n_in : n < symmetries (has_pawns (material_of c))) (board : AreOnBoard stand)
-    (tells : TellsMen passed c code (turned_with n flips stand) (turned_side flips side)) (spells : Spells c code r) (settled : passed ≡ true → IsSettled r) where
+module _ (facts : Facts) (targeted : Bool) (c n code : ℕ) (flips : Bool) (stand : Stand) (side : Side) (r : Setup) (c_in : c < 36) (n_in : n < symmetries (has_pawns (material_of c))) (board : AreOnBoard stand)
+    (tells : TellsMen targeted c code (turned_with n flips stand) (turned_side flips side)) (spells : Spells c code r) (settled : targeted ≡ true → IsSettled r) where
   few : n < 8
   few = eight (has_pawns (material_of c)) n n_in
 
@@ -119,8 +119,8 @@ module _ (facts : Facts) (passed : Bool) (c n code : ℕ) (flips : Bool) (stand 
   unfolding back
   back_in = undoing_in (has_pawns (material_of c)) flips n n_in
 
-  there : HasStand c false (turned_with n flips stand) (turned_side flips side) passed r
-  there = told_stands passed c code r (turned_with n flips stand) (turned_side flips side) spells (settled_told passed c code r (turned_with n flips stand) (turned_side flips side) spells tells settled) tells
+  there : HasStand c false (turned_with n flips stand) (turned_side flips side) targeted r
+  there = told_stands targeted c code r (turned_with n flips stand) (turned_side flips side) spells (settled_told targeted c code r (turned_with n flips stand) (turned_side flips side) spells tells settled) tells
 
   made : (q : Setup) × IsTurnedBy back flips r q
   made = facts.made back flips r there.admissible
@@ -141,7 +141,7 @@ module _ (facts : Facts) (passed : Bool) (c n code : ℕ) (flips : Bool) (stand 
     all = all_before n flips r made.0 (list_of stand) few set (list_on_board stand board) (subst (AllStand false r.men) (sym (list_turned n flips stand)) there.stood.all);
   }
 
-  has : HasStand c flips stand side passed made.0
+  has : HasStand c flips stand side targeted made.0
   has = record {
     admissible = facts.admissible r made.0 there.admissible images;
     settled = (facts.settled r made.0 there.admissible images).0 there.settled;
@@ -151,7 +151,7 @@ module _ (facts : Facts) (passed : Bool) (c n code : ℕ) (flips : Bool) (stand 
     target_is = ap is_some set.target ∙ some_mapped (turned_square back flips) r.target ∙ there.target_is;
   }
 
-  pub image_told : (q : Setup) × HasStand c flips stand side passed q × AreImages q r
+  pub image_told : (q : Setup) × HasStand c flips stand side targeted q × AreImages q r
   image_told = (made.0, has, facts.back r made.0 there.admissible images)
 
 -- ---- the index of a position is such a code
@@ -252,7 +252,7 @@ after_none : (n : ℕ) (flips : Bool) (x : Entry) → entry_after n flips x ≡ 
 after_none n flips x is = grind arith
 
 filled_after : (n : ℕ) (flips : Bool) (stand : Stand) → IsFilled stand → IsFilled (turned_with n flips stand)
-filled_after n flips stand filled = λ none. ap (entry_after n flips) (filled (after_none n flips stand.next none))
+filled_after n flips stand filled = λ none. ap (entry_after n flips) (filled (after_none n flips stand.first none))
 
 -- two equal men are there, or none
 equal_filled : (x y : Entry) → men_among (option_to_list x) ≡ men_among (option_to_list y) → y ≡ None → x ≡ None
@@ -261,7 +261,7 @@ equal_filled x y men none = grind arith
 men_stay : (n : ℕ) (flips : Bool) (x : Entry) → men_among (option_to_list (entry_after n flips x)) ≡ men_among (option_to_list x)
 men_stay n flips x = grind arith
 
-module _ (facts : Facts) (passed : Bool) (c n i : ℕ) (flips : Bool) (stand : Stand) (side : Side) (q r : Setup) (c_in : c < 36) (filled : IsFilled stand) (has : HasStand c flips stand side passed q) (n_in : n < 8)
+module _ (facts : Facts) (targeted : Bool) (c n i : ℕ) (flips : Bool) (stand : Stand) (side : Side) (q r : Setup) (c_in : c < 36) (filled : IsFilled stand) (has : HasStand c flips stand side targeted q) (n_in : n < 8)
     (turned : IsTurnedBy n flips q r) (spells : Spells c i r) where
   lane : Stand
   lane = turned_with n flips stand
@@ -285,17 +285,17 @@ module _ (facts : Facts) (passed : Bool) (c n i : ℕ) (flips : Bool) (stand : S
   spelled : (list : List (Man × ℕ)) → list ≡ men_at (material_of c) spells.digits → SpellsMen (material_of c) (number_of (men_bases (material_of c)) spells.digits) list
   spelled list is = record { digits = spells.digits; are = spells.are_digits; list_is = is; number_is = refl }
 
-  target_kept : is_some r.target ≡ passed
+  target_kept : is_some r.target ≡ targeted
   target_kept = ap is_some placed_by.target ∙ some_mapped (turned_square n flips) q.target ∙ has.target_is
 
   -- a class without targets has none
-  never : has_target (material_of c) ≡ false → passed ≡ false
+  never : has_target (material_of c) ≡ false → targeted ≡ false
   never none = elim spells.target [
     | inl some ↦ absurd (false≢true (sym none ∙ some))
     | inr none ↦ sym target_kept ∙ ap is_some none
   ]
 
-  ends : Ends (material_of c) i (number_of (men_bases (material_of c)) spells.digits) (turned_side flips side) passed
+  ends : Ends (material_of c) i (number_of (men_bases (material_of c)) spells.digits) (turned_side flips side) targeted
   ends = record {
     number_is = spells.number ∙ code_of_parts (material_of c) spells.digits r.side (target_digit r.target) spells.are_digits
         ∙ ap (λ (s : Side). number_from (number_of (men_bases (material_of c)) spells.digits) (2 ∷ cond (has_target (material_of c)) (2 ∷ []) []) (side_number s ∷ cond (has_target (material_of c)) (target_digit r.target ∷ []) [])) (placed_by.side ∙ ap (turned_side flips) has.side_is)
@@ -305,14 +305,14 @@ module _ (facts : Facts) (passed : Bool) (c n i : ℕ) (flips : Bool) (stand : S
   }
 
   -- the code tells the men in the one order or the other
-  pub order_told : (after : Stand) × IsInEitherOrder stand after × TellsMen passed c i (turned_with n flips after) (turned_side flips side)
+  pub order_told : (after : Stand) × IsInEitherOrder stand after × TellsMen targeted c i (turned_with n flips after) (turned_side flips side)
   unfolding lane with_kings AreListedIn
-  order_told = elim (in_either_order lane.white lane.black lane.next lane.last (men_at (material_of c) spells.digits) (filled_after n flips stand filled) (no_kings_beside c c_in (king_of White) (king_of Black) (option_to_list lane.next ++ option_to_list lane.last) lane_stood.are) same_names all.1 there) [
+  order_told = elim (in_either_order lane.white lane.black lane.first lane.last (men_at (material_of c) spells.digits) (filled_after n flips stand filled) (no_kings_beside c c_in (king_of White) (king_of Black) (option_to_list lane.first ++ option_to_list lane.last) lane_stood.are) same_names all.1 there) [
     | inl same ↦ (stand, inl refl, record { number = _; men = spelled (list_of lane) same; filled = filled_after n flips stand filled; ends = ends })
     | inr same ↦ (
       swapped stand,
       inr (refl, equal same.1),
-      record { number = _; men = spelled (list_of (swapped lane)) same.0; filled = filled_after n flips (swapped stand) (equal_filled stand.next stand.last (equal same.1)); ends = ends },
+      record { number = _; men = spelled (list_of (swapped lane)) same.0; filled = filled_after n flips (swapped stand) (equal_filled stand.first stand.last (equal same.1)); ends = ends },
     )
   ]
     where
@@ -322,24 +322,24 @@ module _ (facts : Facts) (passed : Bool) (c n i : ℕ) (flips : Bool) (stand : S
       there : (man : Man) (s : ℕ) → IsListed (list_of lane) man s → IsListed (men_at (material_of c) spells.digits) man s
       there man s h = listed (men_at (material_of c) spells.digits) man s (subst (λ (men : Placement). Stands men s man) same_men (listed_stands (list_of lane) man s (apart_all (list_of lane) all.1) h))
 
-      equal : men_among (option_to_list (entry_after n flips stand.next)) ≡ men_among (option_to_list (entry_after n flips stand.last)) → men_among (option_to_list stand.next) ≡ men_among (option_to_list stand.last)
-      equal e = sym (men_stay n flips stand.next) ∙ e ∙ men_stay n flips stand.last
+      equal : men_among (option_to_list (entry_after n flips stand.first)) ≡ men_among (option_to_list (entry_after n flips stand.last)) → men_among (option_to_list stand.first) ≡ men_among (option_to_list stand.last)
+      equal e = sym (men_stay n flips stand.first) ∙ e ∙ men_stay n flips stand.last
 
 -- the code of a turn of that number
-coded_by : (passed : Bool) (c t n i : ℕ) (flips : Bool) (after : Stand) (side : Side) → t < 16 → t % 8 ≡ n → eqb (t / 8) 1 ≡ flips → n < symmetries (has_pawns (material_of c)) → TellsMen passed c i (turned_with n flips after) (turned_side flips side)
-    → IsTurnedCodeWith passed c t i after side
-coded_by passed c t n i flips after side t_in number colours keeps tells = record {
+coded_by : (targeted : Bool) (c t n i : ℕ) (flips : Bool) (after : Stand) (side : Side) → t < 16 → t % 8 ≡ n → eqb (t / 8) 1 ≡ flips → n < symmetries (has_pawns (material_of c)) → TellsMen targeted c i (turned_with n flips after) (turned_side flips side)
+    → IsTurnedCodeWith targeted c t i after side
+coded_by targeted c t n i flips after side t_in number colours keeps tells = record {
   below = t_in;
   keeps = subst (λ k. k < symmetries (has_pawns (material_of c))) (sym number) keeps;
-  tells = subst (λ k. TellsMen passed c i (turned_with k (eqb (t / 8) 1) after) (turned_side (eqb (t / 8) 1) side)) (sym number) (subst (λ f. TellsMen passed c i (turned_with n f after) (turned_side f side)) (sym colours) tells);
+  tells = subst (λ k. TellsMen targeted c i (turned_with k (eqb (t / 8) 1) after) (turned_side (eqb (t / 8) 1) side)) (sym number) (subst (λ f. TellsMen targeted c i (turned_with n f after) (turned_side f side)) (sym colours) tells);
 }
 
 either_colours : (flips turns : Bool) → (turns ≡ flips) ⊎ ((turns ≡ not flips) × (differ flips turns ≡ true))
 either_colours h0 h1 = grind arith
 
 -- what is the index of a position with the men
-pub index_told : Facts → (passed : Bool) (c i : ℕ) (flips : Bool) (stand : Stand) (side : Side) (q : Setup) → c < 36 → IsFilled stand → HasStand c flips stand side passed q → IsIndex c q i → IsSomeTurnedCodeWith passed c i flips stand side
-index_told facts passed c i flips stand side q c_in filled has index = of_colours (either_colours flips turn.1)
+pub index_told : Facts → (targeted : Bool) (c i : ℕ) (flips : Bool) (stand : Stand) (side : Side) (q : Setup) → c < 36 → IsFilled stand → HasStand c flips stand side targeted q → IsIndex c q i → IsSomeTurnedCodeWith targeted c i flips stand side
+index_told facts targeted c i flips stand side q c_in filled has index = of_colours (either_colours flips turn.1)
   where
     same : index.settled ≡ q
     same = facts.settles_once q index.settled q index.settles (inl (has.settled, refl))
@@ -359,21 +359,21 @@ index_told facts passed c i flips stand side q c_in filled has index = of_colour
     class : IsOf c (differ flips turn.1) index.image
     class = turned_class facts c flips turn.1 turn.0 q index.image has.admissible turn.2 turn.3 turn.4 has.is_of
 
-    by : (colours : Bool) (seen : Stand) → turn.1 ≡ colours → IsFilled seen → HasStand c colours seen side passed q → (after : Stand) × IsInEitherOrder seen after × IsTurnedCodeWith passed c number.0 i after side
+    by : (colours : Bool) (seen : Stand) → turn.1 ≡ colours → IsFilled seen → HasStand c colours seen side targeted q → (after : Stand) × IsInEitherOrder seen after × IsTurnedCodeWith targeted c number.0 i after side
     by colours seen is seen_filled seen_has =
-        let told = order_told facts passed c turn.0 i colours seen side q index.image c_in seen_filled seen_has turn.2 (subst (λ f. IsTurnedBy turn.0 f q index.image) is turn.4) index.spells in
-        (told.0, told.1, coded_by passed c number.0 turn.0 i colours told.0 side number.1 number.2 (number.3 ∙ is) keeps told.2)
+        let told = order_told facts targeted c turn.0 i colours seen side q index.image c_in seen_filled seen_has turn.2 (subst (λ f. IsTurnedBy turn.0 f q index.image) is turn.4) index.spells in
+        (told.0, told.1, coded_by targeted c number.0 turn.0 i colours told.0 side number.1 number.2 (number.3 ∙ is) keeps told.2)
 
-    across : IsTrue (has_equal_sides c) → HasStand c (not flips) (seen_across stand) side passed q
-    across equal = has_exchanged facts c flips stand (seen_across stand) side passed q c_in equal refl refl refl refl has
+    across : IsTrue (has_equal_sides c) → HasStand c (not flips) (seen_across stand) side targeted q
+    across equal = has_exchanged facts c flips stand (seen_across stand) side targeted q c_in equal refl refl refl refl has
 
     across_alone : IsTrue (has_equal_sides c) → (after : Stand) → IsInEitherOrder (seen_across stand) after → after ≡ seen_across stand
     across_alone equal after (inl same) = same
     across_alone equal after (inr h) =
         let order = one_order c stand c_in equal has.stood.are h.1 in
-        h.0 ∙ (λ i. record { white = stand.black; black = stand.white; next = order i; last = sym order i })
+        h.0 ∙ (λ i. record { white = stand.black; black = stand.white; first = order i; last = sym order i })
 
-    of_colours : (turn.1 ≡ flips) ⊎ ((turn.1 ≡ not flips) × (differ flips turn.1 ≡ true)) → IsSomeTurnedCodeWith passed c i flips stand side
+    of_colours : (turn.1 ≡ flips) ⊎ ((turn.1 ≡ not flips) × (differ flips turn.1 ≡ true)) → IsSomeTurnedCodeWith targeted c i flips stand side
     of_colours (inl own) =
         let told = by flips stand own filled has in
         record { turn = number.0; after = told.0; seen = inl (number.3 ∙ own, told.1); is = told.2 }
@@ -386,14 +386,14 @@ index_told facts passed c i flips stand side q c_in filled has index = of_colour
 
 -- ---- the same men, however they are seen
 
-in_other_order : (passed : Bool) (c : ℕ) (flips : Bool) (stand : Stand) (side : Side) (q : Setup) → men_among (option_to_list stand.next) ≡ men_among (option_to_list stand.last) → HasStand c flips stand side passed q → HasStand c flips (swapped stand) side passed q
-in_other_order passed c flips stand side q equal has = record {
+in_other_order : (targeted : Bool) (c : ℕ) (flips : Bool) (stand : Stand) (side : Side) (q : Setup) → men_among (option_to_list stand.first) ≡ men_among (option_to_list stand.last) → HasStand c flips stand side targeted q → HasStand c flips (swapped stand) side targeted q
+in_other_order targeted c flips stand side q equal has = record {
   admissible = has.admissible;
   settled = has.settled;
   is_of = has.is_of;
   stood = record {
-    are = ap (λ l. king_of White ∷ king_of Black ∷ l) (ordered_men stand.next stand.last stand.last stand.next (inr (refl, refl, equal))) ∙ has.stood.are;
-    all = ordered flips q.men stand.white stand.black stand.next stand.last stand.last stand.next (inr (refl, refl, equal)) has.stood.all;
+    are = ap (λ l. king_of White ∷ king_of Black ∷ l) (ordered_men stand.first stand.last stand.last stand.first (inr (refl, refl, equal))) ∙ has.stood.are;
+    all = ordered flips q.men stand.white stand.black stand.first stand.last stand.last stand.first (inr (refl, refl, equal)) has.stood.all;
   };
   side_is = has.side_is;
   target_is = has.target_is;
@@ -405,47 +405,47 @@ across_again x y = grind arith
 twice_not : (b : Bool) → b ≡ not (not b)
 twice_not b = grind arith
 
-module _ (facts : Facts) (passed : Bool) (c : ℕ) (flips turns : Bool) (stand after : Stand) (side : Side) (c_in : c < 36) (seen : IsSeenBy c flips turns stand after) where
-  pub seen_so : (q : Setup) → HasStand c flips stand side passed q → HasStand c turns after side passed q
+module _ (facts : Facts) (targeted : Bool) (c : ℕ) (flips turns : Bool) (stand after : Stand) (side : Side) (c_in : c < 36) (seen : IsSeenBy c flips turns stand after) where
+  pub seen_so : (q : Setup) → HasStand c flips stand side targeted q → HasStand c turns after side targeted q
   seen_so q has = elim seen [
-    | inl own ↦ subst (λ f. HasStand c f after side passed q) (sym own.0) (elim own.1 [
-      | inl same ↦ subst (λ (s : Stand). HasStand c flips s side passed q) (sym same) has
-      | inr other ↦ subst (λ (s : Stand). HasStand c flips s side passed q) (sym other.0) (in_other_order passed c flips stand side q other.1 has)
+    | inl own ↦ subst (λ f. HasStand c f after side targeted q) (sym own.0) (elim own.1 [
+      | inl same ↦ subst (λ (s : Stand). HasStand c flips s side targeted q) (sym same) has
+      | inr other ↦ subst (λ (s : Stand). HasStand c flips s side targeted q) (sym other.0) (in_other_order targeted c flips stand side q other.1 has)
     ])
-    | inr across ↦ subst (λ f. HasStand c f after side passed q) (sym across.1) (subst (λ (s : Stand). HasStand c (not flips) s side passed q) (sym across.2)
-        (has_exchanged facts c flips stand (seen_across stand) side passed q c_in across.0 refl refl refl refl has))
+    | inr across ↦ subst (λ f. HasStand c f after side targeted q) (sym across.1) (subst (λ (s : Stand). HasStand c (not flips) s side targeted q) (sym across.2)
+        (has_exchanged facts c flips stand (seen_across stand) side targeted q c_in across.0 refl refl refl refl has))
   ]
 
 -- and back
 pub seen_back : (c : ℕ) (flips turns : Bool) (stand after : Stand) → IsSeenBy c flips turns stand after → IsSeenBy c turns flips after stand
 seen_back c flips turns stand after (inl (own, inl same)) = inl (sym own, inl (sym same))
 seen_back c flips turns stand after (inl (own, inr other)) =
-    inl (sym own, inr (sym (ap swapped other.0), ap (λ (s : Stand). men_among (option_to_list s.next)) other.0 ∙ sym other.1 ∙ sym (ap (λ (s : Stand). men_among (option_to_list s.last)) other.0)))
+    inl (sym own, inr (sym (ap swapped other.0), ap (λ (s : Stand). men_among (option_to_list s.first)) other.0 ∙ sym other.1 ∙ sym (ap (λ (s : Stand). men_among (option_to_list s.last)) other.0)))
 seen_back c flips turns stand after (inr (equal, other, across)) = inr (equal, twice_not flips ∙ ap not (sym other), sym (ap seen_across across ∙ again))
   where
     again : seen_across (seen_across stand) ≡ stand
-    again = λ i. record { white = stand.white; black = stand.black; next = across_again stand.next stand.last i; last = across_again stand.last stand.next i }
+    again = λ i. record { white = stand.white; black = stand.black; first = across_again stand.first stand.last i; last = across_again stand.last stand.first i }
 
 on_board_across : (x y : Entry) → IfSome x (λ e. e.1 < 64) → IfSome y (λ e. e.1 < 64) → IfSome (on_square_of x y) (λ e. e.1 < 64)
 on_board_across x y x_in y_in = grind arith
 
 on_board_so : (c : ℕ) (flips turns : Bool) (stand after : Stand) → IsSeenBy c flips turns stand after → AreOnBoard stand → AreOnBoard after
 on_board_so c flips turns stand after (inl (own, inl same)) board = subst AreOnBoard (sym same) board
-on_board_so c flips turns stand after (inl (own, inr other)) board = subst AreOnBoard (sym other.0) (record { white = board.white; black = board.black; next = board.last; last = board.next })
+on_board_so c flips turns stand after (inl (own, inr other)) board = subst AreOnBoard (sym other.0) (record { white = board.white; black = board.black; first = board.last; last = board.first })
 on_board_so c flips turns stand after (inr (equal, other, across)) board = subst AreOnBoard (sym across) (record {
   white = board.black;
   black = board.white;
-  next = on_board_across stand.next stand.last board.next board.last;
-  last = on_board_across stand.last stand.next board.last board.next;
+  first = on_board_across stand.first stand.last board.first board.last;
+  last = on_board_across stand.last stand.first board.last board.first;
 })
 
 -- what such a code spells is an image of a position with the men
-pub some_image : Facts → (passed : Bool) (c code : ℕ) (flips : Bool) (stand : Stand) (side : Side) (r : Setup) → c < 36 → AreOnBoard stand → IsSomeTurnedCodeWith passed c code flips stand side → Spells c code r
-    → (passed ≡ true → IsSettled r) → (q : Setup) × HasStand c flips stand side passed q × AreImages q r
-some_image facts passed c code flips stand side r c_in board some spells settled =
+pub some_image : Facts → (targeted : Bool) (c code : ℕ) (flips : Bool) (stand : Stand) (side : Side) (r : Setup) → c < 36 → AreOnBoard stand → IsSomeTurnedCodeWith targeted c code flips stand side → Spells c code r
+    → (targeted ≡ true → IsSettled r) → (q : Setup) × HasStand c flips stand side targeted q × AreImages q r
+some_image facts targeted c code flips stand side r c_in board some spells settled =
     let turns : Bool = eqb (some.turn / 8) 1 in
-    let told = image_told facts passed c (some.turn % 8) code turns some.after side r c_in some.is.keeps (on_board_so c flips turns stand some.after some.seen board) some.is.tells spells settled in
-    (told.0, seen_so facts passed c turns flips some.after stand side c_in (seen_back c flips turns stand some.after some.seen) told.0 told.1, told.2)
+    let told = image_told facts targeted c (some.turn % 8) code turns some.after side r c_in some.is.keeps (on_board_so c flips turns stand some.after some.seen board) some.is.tells spells settled in
+    (told.0, seen_so facts targeted c turns flips some.after stand side c_in (seen_back c flips turns stand some.after some.seen) told.0 told.1, told.2)
 
 -- what a turn makes of a position is spelled by the code
 pub record IsSpelledAfter (c t code : ℕ) (q r : Setup) : Type 0 where
@@ -454,10 +454,10 @@ pub record IsSpelledAfter (c t code : ℕ) (q r : Setup) : Type 0 where
   pub spells : Spells c code r
 
 -- the code of the men where the turn takes them spells what it makes of a position with the men
-pub spelled_after : Facts → (passed : Bool) (c t code : ℕ) (stand : Stand) (side : Side) (q : Setup) → HasStand c (eqb (t / 8) 1) stand side passed q → IsTurnedCodeWith passed c t code stand side → (r : Setup) × IsSpelledAfter c t code q r
-spelled_after facts passed c t code stand side q has is = (
+pub spelled_after : Facts → (targeted : Bool) (c t code : ℕ) (stand : Stand) (side : Side) (q : Setup) → HasStand c (eqb (t / 8) 1) stand side targeted q → IsTurnedCodeWith targeted c t code stand side → (r : Setup) × IsSpelledAfter c t code q r
+spelled_after facts targeted c t code stand side q has is = (
   made.0,
-  record { turned = (keeps, made.1); images = images; spells = stands_told passed c code made.0 lane (turned_side (eqb (t / 8) 1) side) there is.tells },
+  record { turned = (keeps, made.1); images = images; spells = stands_told targeted c code made.0 lane (turned_side (eqb (t / 8) 1) side) there is.tells },
 )
   where
     few : t % 8 < 8
@@ -481,7 +481,7 @@ spelled_after facts passed c t code stand side q has is = (
     same_colours : (f : Bool) → differ f f ≡ false
     same_colours f = grind arith
 
-    there : HasStand c false lane (turned_side (eqb (t / 8) 1) side) passed made.0
+    there : HasStand c false lane (turned_side (eqb (t / 8) 1) side) targeted made.0
     there = record {
       admissible = facts.admissible q made.0 has.admissible images;
       settled = (facts.settled q made.0 has.admissible images).0 has.settled;
@@ -492,9 +492,9 @@ spelled_after facts passed c t code stand side q has is = (
     }
 
 -- a position with the men is an image of what such a code spells
-pub one_image : Facts → (passed : Bool) (c code : ℕ) (flips : Bool) (stand : Stand) (side : Side) (q r : Setup) → c < 36 → HasStand c flips stand side passed q → IsSomeTurnedCodeWith passed c code flips stand side → Spells c code r → AreImages q r
-one_image facts passed c code flips stand side q r c_in has some spells =
-    let made = spelled_after facts passed c some.turn code some.after side q (seen_so facts passed c flips (eqb (some.turn / 8) 1) stand some.after side c_in some.seen q has) some.is in
+pub one_image : Facts → (targeted : Bool) (c code : ℕ) (flips : Bool) (stand : Stand) (side : Side) (q r : Setup) → c < 36 → HasStand c flips stand side targeted q → IsSomeTurnedCodeWith targeted c code flips stand side → Spells c code r → AreImages q r
+one_image facts targeted c code flips stand side q r c_in has some spells =
+    let made = spelled_after facts targeted c some.turn code some.after side q (seen_so facts targeted c flips (eqb (some.turn / 8) 1) stand some.after side c_in some.seen q has) some.is in
     subst (AreImages q) (spells_once c code made.0 r made.1.spells spells) made.1.images
 
 -- ---- one code tells men on their squares
@@ -510,10 +510,10 @@ same_placed pawns (man ∷ men) (d ∷ ds) (e ∷ es) are are' same =
     let rest = same_placed pawns men ds es are.1 are'.1 (tails same) in
     ap (λ x. x ∷ ds) digit ∙ ap (λ l. e ∷ l) rest
 
-pub one_code : (passed : Bool) (c x y : ℕ) (stand : Stand) (side : Side) → TellsMen passed c x stand side → TellsMen passed c y stand side → x ≡ y
-one_code passed c x y stand side one other =
+pub one_code : (targeted : Bool) (c x y : ℕ) (stand : Stand) (side : Side) → TellsMen targeted c x stand side → TellsMen targeted c y stand side → x ≡ y
+one_code targeted c x y stand side one other =
     one.ends.number_is
-    ∙ ap (λ n. number_from n (2 ∷ cond (has_target (material_of c)) (2 ∷ []) []) (side_number side ∷ cond (has_target (material_of c)) (cond passed 1 0 ∷ []) []))
+    ∙ ap (λ n. number_from n (2 ∷ cond (has_target (material_of c)) (2 ∷ []) []) (side_number side ∷ cond (has_target (material_of c)) (cond targeted 1 0 ∷ []) []))
     (one.men.number_is ∙ ap (number_of (men_bases (material_of c))) digits ∙ sym other.men.number_is)
     ∙ sym other.ends.number_is
   where
@@ -521,5 +521,5 @@ one_code passed c x y stand side one other =
     digits = same_placed (has_pawns (material_of c)) (men_in_order (material_of c)) one.men.digits other.men.digits one.men.are other.men.are (sym one.men.list_is ∙ other.men.list_is)
 
 -- pawns stand on neither the first rank nor the last
-pub pawns_may : (passed : Bool) (c code : ℕ) (stand : Stand) (side : Side) (man : Man) (s : ℕ) → TellsMen passed c code stand side → IsListed (list_of stand) man s → MayStand man s
-pawns_may passed c code stand side man s tells h = placed_may (has_pawns (material_of c)) (men_in_order (material_of c)) tells.men.digits man s tells.men.are (subst (λ l. IsListed l man s) tells.men.list_is h)
+pub pawns_may : (targeted : Bool) (c code : ℕ) (stand : Stand) (side : Side) (man : Man) (s : ℕ) → TellsMen targeted c code stand side → IsListed (list_of stand) man s → MayStand man s
+pawns_may targeted c code stand side man s tells h = placed_may (has_pawns (material_of c)) (men_in_order (material_of c)) tells.men.digits man s tells.men.are (subst (λ l. IsListed l man s) tells.men.list_is h)

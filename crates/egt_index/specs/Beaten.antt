@@ -44,7 +44,7 @@ AreBehind (Some x) (Some y) = (x.0 ≡ y.0) × (y.1 < x.1)
 
 -- what holds of each position with these men on their squares and of a code by which they spell it
 abbrev pub AllSpelled : ℕ → Stand → (Setup → ℕ → Type 0) → Type 0
-AllSpelled c stand Holds = (p : Setup) (side : Side) (passed : Bool) (code : ℕ) → HasStand c false stand side passed p → SpellsAt c code stand p → Holds p code
+AllSpelled c stand Holds = (p : Setup) (side : Side) (targeted : Bool) (code : ℕ) → HasStand c false stand side targeted p → SpellsAt c code stand p → Holds p code
 
 -- the kings stand on these squares
 abbrev pub HasKingsOn : (white black : ℕ) → Stand → Type 0
@@ -55,8 +55,8 @@ abbrev pub IsFirstOfTwo : ℕ → Man → Type 0
 IsFirstOfTwo c man = (last : Man) × (men_beside (material_of c) ≡ man ∷ last ∷ []) × (man ≢ last)
 
 -- and the first man on his, where he is known
-abbrev pub HasFront : (white black : ℕ) → Entry → Stand → Type 0
-HasFront white black first stand = HasKingsOn white black stand × IfSome first (λ e. stand.next ≡ Some e)
+abbrev pub HasPrefix : (white black : ℕ) → Entry → Stand → Type 0
+HasPrefix white black first stand = HasKingsOn white black stand × IfSome first (λ e. stand.first ≡ Some e)
 
 -- the first man is known, and the turn, which exchanges no colours, takes him so far
 abbrev pub IfMoved : Entry → ℕ → (ℕ → ℕ → Type 0) → Type 0
@@ -65,10 +65,10 @@ IfMoved (Some e) t Holds = (t < 8) × Holds e.1 (turned_square (t % 8) (t / 8 ==
 
 -- what the turn makes of each position with these men, where it brings the king home, has a lesser code
 abbrev pub TurnBeats : ℕ → Stand → ℕ → Type 0
-TurnBeats c stand t = (p : Setup) (side : Side) (passed : Bool) (code : ℕ) → HasStand c (t / 8 == 1) stand side passed p → KeepsPlay (t % 8) p.men
+TurnBeats c stand t = (p : Setup) (side : Side) (targeted : Bool) (code : ℕ) → HasStand c (t / 8 == 1) stand side targeted p → KeepsPlay (t % 8) p.men
     → BringsHome (has_pawns (material_of c)) (t / 8 == 1) stand.white t → Spells c code p → Beats c p t code
 
 -- or none that is less
 abbrev pub TurnKeeps : ℕ → Stand → ℕ → Type 0
-TurnKeeps c stand t = (p : Setup) (side : Side) (passed : Bool) (code : ℕ) → HasStand c (t / 8 == 1) stand side passed p → KeepsPlay (t % 8) p.men
+TurnKeeps c stand t = (p : Setup) (side : Side) (targeted : Bool) (code : ℕ) → HasStand c (t / 8 == 1) stand side targeted p → KeepsPlay (t % 8) p.men
     → Spells c code p → Keeps c p t code

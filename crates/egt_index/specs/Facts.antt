@@ -1,4 +1,4 @@
--- What holds of images and classes, by the laws of the crates below.
+-- Laws of images and classes, by the laws of the crates below.
 use Rattle.std.specs.Prelude.{◌≡◌, ℕ, ◌<◌, ◌⊎◌, ◌↔◌, Bool, IsTrue}
 use Rattle.egt_board.specs.Prelude.{Setup, IsAdmissible, IsSettled, SettlesTo, KeepsPlay, AreImages, SameMen}
 use Rattle.egt_board.specs.Prelude.{ExchangedMen, IsTurnedBy, IsSetBy}

@@ -11,7 +11,7 @@ use Rattle.egt_index.specs.declared.stand.Stand.{Stand}
 
 -- the kings and the man on these squares
 abbrev pub lone_stand : (white black : ℕ) → Man → ℕ → Stand
-lone_stand white black man s = record { white = white; black = black; next = Some (man, s); last = None }
+lone_stand white black man s = record { white = white; black = black; first = Some (man, s); last = None }
 
 -- he alone is beside the kings
 pub record IsLoneMan (c : ℕ) (man : Man) : Type 0 where

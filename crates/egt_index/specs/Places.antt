@@ -5,13 +5,13 @@ use Rattle.egt_class.specs.Prelude.{material_of}
 use Rattle.egt_board.specs.declared.man.Man.{Man}
 use Rattle.egt_board.specs.declared.man.Side.{Side}
 use Rattle.egt_board.specs.declared.man.Side.TheVariants.{White, Black}
-use Rattle.egt_index.specs.Front.{IsFront}
+use Rattle.egt_index.specs.Prefix.{IsPrefix}
 use Rattle.egt_index.specs.Index.{IsVoid}
 use Rattle.egt_index.specs.Scales.{kind_digits, kind_less}
 use Rattle.egt_index.specs.Shelf.{last_of}
 use Rattle.egt_index.specs.Size.{men_beside}
 use Rattle.egt_index.specs.Stood.{Entry, HasStand, IsInOrder, with_last}
-use Rattle.egt_index.specs.declared.front.Front.{Front}
+use Rattle.egt_index.specs.declared.prefix.Prefix.{Prefix}
 use Rattle.egt_index.specs.declared.places.Places.{Places}
 use Rattle.egt_index.specs.declared.stand.Stand.{Stand}
 
@@ -26,28 +26,28 @@ waiting White stand = stand.black
 waiting Black stand = stand.white
 
 -- the last man may stand on the square of the digit, and leaves the king of the side that waits unattacked
-pub record IsPlaced (front : Front) (man : Man) (mover : Side) (k : ℕ) : Type 0 where
+pub record IsPlaced (prefix : Prefix) (man : Man) (mover : Side) (k : ℕ) : Type 0 where
   pub below : k < kind_digits man.kind
-  pub free : IsFree front.board (k + kind_less man.kind)
-  pub kept : IsKeptFrom front.board (k + kind_less man.kind) man (waiting mover front.stand) mover
+  pub free : IsFree prefix.board (k + kind_less man.kind)
+  pub kept : IsKeptFrom prefix.board (k + kind_less man.kind) man (waiting mover prefix.stand) mover
 
--- the front is one of the class's, and the man the last one behind it
-pub record IsFrontBefore (c : ℕ) (front : Front) (man : Man) : Type 0 where
+-- the prefix is one of the class's, and the man the last one behind it
+pub record IsPrefixBefore (c : ℕ) (prefix : Prefix) (man : Man) : Type 0 where
   pub last : last_of (men_beside (material_of c)) ≡ Some man
   pub other : man ≢ king_of White
   pub high : ℕ
-  pub is : IsFront c high front
+  pub is : IsPrefix c high prefix
 
 -- the last man, on the square of the digit, makes a settled position with the men before him, with that side to move and a target where one was passed
-pub record IsMade (passed : Bool) (c : ℕ) (stand : Stand) (man : Man) (mover : Side) (k : ℕ) : Type 0 where
+pub record IsMade (targeted : Bool) (c : ℕ) (stand : Stand) (man : Man) (mover : Side) (k : ℕ) : Type 0 where
   pub below : k < kind_digits man.kind
   pub position : Setup
-  pub has : HasStand c false (with_last stand (Some (man, k + kind_less man.kind))) mover passed position
+  pub has : HasStand c false (with_last stand (Some (man, k + kind_less man.kind))) mover targeted position
 
 -- the bits are of his digits: 1 exactly where he makes one
-pub record AreMade (passed : Bool) (c : ℕ) (stand : Stand) (man : Man) (found : Places) : Type 0 where
-  pub white : (k : ℕ) → (bit_at found.white k ≡ 1) ↔ IsMade passed c stand man White k
-  pub black : (k : ℕ) → (bit_at found.black k ≡ 1) ↔ IsMade passed c stand man Black k
+pub record AreMade (targeted : Bool) (c : ℕ) (stand : Stand) (man : Man) (found : Places) : Type 0 where
+  pub white : (k : ℕ) → (bit_at found.white k ≡ 1) ↔ IsMade targeted c stand man White k
+  pub black : (k : ℕ) → (bit_at found.black k ≡ 1) ↔ IsMade targeted c stand man Black k
 
 -- of all these digits of his those by which two equal men are in order
 pub record AreInOrder (next : Entry) (man : Man) (all found : Places) : Type 0 where

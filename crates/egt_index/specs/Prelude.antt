@@ -40,7 +40,7 @@ pub use Rattle.egt_class.specs.Material.{Material, beside, count_in, is_kind, ki
 unfoldable pub use Rattle.egt_class.specs.Material.{has_equal_sides, material_of, materials, men_in}
 pub use Rattle.egt_class.specs.Membership.{IsOf}
 pub use Rattle.egt_class.specs.Pair.{AreNonKings}
-pub use Rattle.egt_index.specs.Beaten.{AllSpelled, AreBehind, Beats, HasFront, HasKingsOn, IfMoved, IsBeaten}
+pub use Rattle.egt_index.specs.Beaten.{AllSpelled, AreBehind, Beats, HasPrefix, HasKingsOn, IfMoved, IsBeaten}
 pub use Rattle.egt_index.specs.Beaten.{IsFirstOfTwo, Keeps, KeepsWith, SpellsAt, TurnBeats, TurnKeeps}
 pub use Rattle.egt_index.specs.Code.{HasTargetDigit, Spells, SpellsBy, king_square, men_at, placed, square_by_digit}
 pub use Rattle.egt_index.specs.Code.{square_of, target_digit, target_digits}
@@ -48,15 +48,15 @@ pub use Rattle.egt_index.specs.DecidedSpelled.{decided_spelled}
 pub use Rattle.egt_index.specs.Digits.{AreDigits, number_from, number_of, product}
 pub use Rattle.egt_index.specs.Facts.{Facts}
 unfoldable pub use Rattle.egt_index.specs.First.{tells_colours}
-pub use Rattle.egt_index.specs.Front.{IsBefore, IsFront, IsFrontOf, IsNoneBefore, IsVoidFront, TellsLast}
+pub use Rattle.egt_index.specs.Prefix.{IsBefore, IsPrefix, IsPrefixOf, IsNoneBefore, IsVoidPrefix, TellsLast}
 pub use Rattle.egt_index.specs.Home.{AreHome, BringsHome, FlipCode, IsAtHome, IsTurnWith, LeastWith, symmetries}
 pub use Rattle.egt_index.specs.Index.{IsIndex, IsVoid, SettleAlike}
 pub use Rattle.egt_index.specs.LoneCodes.{IsLoneMan, IsLoneRow, lone_stand}
-pub use Rattle.egt_index.specs.Nearer.{AreNearest, IsVoidAfter, KingsHome}
+pub use Rattle.egt_index.specs.VoidByKings.{AreNearest, IsVoidAfter, KingsHome}
 pub use Rattle.egt_index.specs.Numbers.{IsNumbered}
 unfoldable pub use Rattle.egt_index.specs.Numbers.{code_of, half_of, places}
 pub use Rattle.egt_index.specs.Picked.{AreCounted, CodeOf, DigitOf, Fits, Goes, IsLeastCode, Least, Picks, tally}
-pub use Rattle.egt_index.specs.Places.{AreInOrder, AreMade, IsFrontBefore, IsMade, IsNewDigit, IsPlaced, TellsIndex}
+pub use Rattle.egt_index.specs.Places.{AreInOrder, AreMade, IsPrefixBefore, IsMade, IsNewDigit, IsPlaced, TellsIndex}
 pub use Rattle.egt_index.specs.Places.{taking_rank, waiting}
 pub use Rattle.egt_index.specs.Scales.{digits_at, ends_of, kind_digits, kind_less}
 pub use Rattle.egt_index.specs.Shelf.{last_of, row_len}
@@ -77,7 +77,7 @@ pub use Rattle.egt_index.specs.TurnedMen.{IsInEitherOrder, IsSeenBy, IsSomeTurne
 pub use Rattle.egt_index.specs.TurnedMen.{seen_across, swapped, turned_by, turned_with}
 pub use Rattle.egt_index.specs.Turns.{Best, BestOf, CodeAfter, IsInColours, IsTurn, TurnCode, lesser}
 pub use Rattle.egt_index.specs.Went.{AreOnBoard}
-pub use Rattle.egt_index.specs.declared.front.Front.{Front}
+pub use Rattle.egt_index.specs.declared.prefix.Prefix.{Prefix}
 pub use Rattle.egt_index.specs.declared.home.TheConstants.{FIRST, LAST}
 pub use Rattle.egt_index.specs.declared.men.TheConstants.{EQUAL_SIDES, NON_KINGS, PAWNS}
 pub use Rattle.egt_index.specs.declared.places.Places.{Places}

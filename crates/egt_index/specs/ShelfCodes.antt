@@ -1,12 +1,11 @@
 -- The men of a shelf of numbers: the same men in all of its codes but for the last man's square.
-use Rattle.std.specs.Prelude.{◌≡◌, ◌≢◌, ◌↔◌, ℕ, ◌+◌, ◌*◌, ◌/◌, ◌<◌, ◌≤◌, Bool, true, false, if◌then◌else◌, [], ◌∷◌}
-use Rattle.std.specs.Prelude.{Some}
+use Rattle.std.specs.Prelude.{◌≡◌, ◌≢◌, ◌↔◌, ℕ, ◌+◌, ◌*◌, ◌/◌, ◌<◌, ◌≤◌, Bool, true, false, if◌then◌else◌, [], ◌∷◌, Some}
 use Rattle.egt_board.specs.Prelude.{bit_at, king_of, side_number, MayStand, IsSettled, Setup}
 use Rattle.egt_class.specs.Prelude.{material_of}
 use Rattle.egt_board.specs.declared.man.Side.{Side}
 use Rattle.egt_board.specs.declared.man.Side.TheVariants.{White, Black}
 use Rattle.egt_index.specs.Code.{Spells}
-use Rattle.egt_index.specs.Front.{TellsLast}
+use Rattle.egt_index.specs.Prefix.{TellsLast}
 use Rattle.egt_index.specs.Home.{IsAtHome}
 use Rattle.egt_index.specs.Index.{IsVoid}
 use Rattle.egt_index.specs.Numbers.{code_of, half_of, places}
@@ -22,7 +21,7 @@ use Rattle.egt_index.specs.declared.stand.Stand.{Stand}
 
 -- the men with the last one on the square
 abbrev pub stand_with : ShelfMen → ℕ → Stand
-stand_with men s = record { white = men.white; black = men.black; next = Some (men.one, men.on); last = Some (men.last, s) }
+stand_with men s = record { white = men.white; black = men.black; first = Some (men.first, men.on); last = Some (men.last, s) }
 
 -- the shelf's number with that side to move and this digit of the last man
 abbrev pub number_in : (c shelf : ℕ) → Side → ℕ → ℕ
@@ -30,40 +29,40 @@ number_in c shelf side digit = shelf * (2 * places c) + side_number side + 2 * d
 
 -- they are the class's men
 pub record AreMenOf (c : ℕ) (men : ShelfMen) : Type 0 where
-  pub are : king_of White ∷ king_of Black ∷ men.one ∷ men.last ∷ [] ≡ men_in_order (material_of c)
-  pub one_beside : men.one ≢ king_of White
+  pub are : king_of White ∷ king_of Black ∷ men.first ∷ men.last ∷ [] ≡ men_in_order (material_of c)
+  pub one_beside : men.first ≢ king_of White
   pub last_beside : men.last ≢ king_of White
 
 -- the class has two men beside the kings
 abbrev pub HasTwoBeside : ℕ → Type 0
 HasTwoBeside c = (men : ShelfMen) × AreMenOf c men
 
--- the numbers of the shelf stand for codes that tell them, and the last one by his digit; `passed` tells whether its positions have a target
+-- the numbers of the shelf stand for codes that tell them, and the last one by his digit; `targeted` tells whether its positions have a target
 pub record IsShelf (c shelf : ℕ) (men : ShelfMen) : Type 0 where
   pub men_of : AreMenOf c men
   pub len : places c ≡ kind_digits men.last.kind
-  pub passed : Bool
-  pub tells : (side : Side) (digit : ℕ) → digit < kind_digits men.last.kind → TellsMen passed c (code_of c (number_in c shelf side digit)) (stand_with men (digit + kind_less men.last.kind)) side
+  pub targeted : Bool
+  pub tells : (side : Side) (digit : ℕ) → digit < kind_digits men.last.kind → TellsMen targeted c (code_of c (number_in c shelf side digit)) (stand_with men (digit + kind_less men.last.kind)) side
 
-abbrev pub IsShelfOf : (passed : Bool) (c shelf : ℕ) → ShelfMen → Type 0
-IsShelfOf passed c shelf men = (is : IsShelf c shelf men) × (is.passed ≡ passed)
+abbrev pub IsShelfOf : (targeted : Bool) (c shelf : ℕ) → ShelfMen → Type 0
+IsShelfOf targeted c shelf men = (is : IsShelf c shelf men) × (is.targeted ≡ targeted)
 
 -- the shelf is one of the class's
 abbrev pub IsWithin : (c shelf : ℕ) → Type 0
 IsWithin c shelf = (shelf + 1) * (2 * places c) ≤ size_of c
 
--- the shelf is the one behind the front with this number, of positions with a target or without
-pub record IsShelfBehind (passed : Bool) (c shelf high : ℕ) : Type 0 where
-  pub first : shelf * (2 * places c) ≡ high * (2 * places c) + (if passed then half_of c else 0)
+-- the shelf is the one behind the prefix with this number, of positions with a target or without
+pub record IsShelfBehind (targeted : Bool) (c shelf high : ℕ) : Type 0 where
+  pub first : shelf * (2 * places c) ≡ high * (2 * places c) + (if targeted then half_of c else 0)
   pub within : (high + 1) * (2 * places c) ≤ half_of c
-  pub may : has_target (material_of c) ≡ false → passed ≡ false
+  pub may : has_target (material_of c) ≡ false → targeted ≡ false
 
 -- some shelf has these men, of positions with a target where one was passed: the white king is at home, the man who stands still may stand where he does,
 -- and the class has targets where one was passed
-pub record HasShelf (passed : Bool) (c : ℕ) (men : ShelfMen) : Type 0 where
+pub record HasShelf (targeted : Bool) (c : ℕ) (men : ShelfMen) : Type 0 where
   pub home : IsAtHome (has_pawns (material_of c)) men.white
-  pub stands : MayStand men.one men.on
-  pub may : has_target (material_of c) ≡ false → passed ≡ false
+  pub stands : MayStand men.first men.on
+  pub may : has_target (material_of c) ≡ false → targeted ≡ false
 
 -- the bits are of every other number from `first` on: 1 exactly where the code of the number is a position's index
 abbrev pub AreIndexed : (c first bits : ℕ) → Type 0

@@ -35,9 +35,9 @@ abbrev pub SpellsNoMen : Material → ℕ → Type 0
 SpellsNoMen m number = (digits : List ℕ) → AreDigits (men_bases m) digits → number ≢ number_of (men_bases m) digits
 
 -- the lowest digits of a code are those of the side to move and, where the class has it, of the target
-pub record Ends (m : Material) (code high : ℕ) (side : Side) (passed : Bool) : Type 0 where
-  pub number_is : code ≡ number_from high (2 ∷ (if has_target m then 2 ∷ [] else [])) (side_number side ∷ (if has_target m then (if passed then 1 else 0) ∷ [] else []))
-  pub never : has_target m ≡ false → passed ≡ false
+pub record Ends (m : Material) (code high : ℕ) (side : Side) (targeted : Bool) : Type 0 where
+  pub number_is : code ≡ number_from high (2 ∷ (if has_target m then 2 ∷ [] else [])) (side_number side ∷ (if has_target m then (if targeted then 1 else 0) ∷ [] else []))
+  pub never : has_target m ≡ false → targeted ≡ false
 
 -- the list has this man on this square
 abbrev pub IsListed : List (Man × ℕ) → Man → ℕ → Type 0

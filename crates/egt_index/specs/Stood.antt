@@ -21,20 +21,20 @@ men_among list = map (λ e. e.0) list
 
 -- the men beside the white king
 abbrev pub rest_of : Stand → List (Man × ℕ)
-rest_of s = (king_of Black, s.black) ∷ (option_to_list s.next ++ option_to_list s.last)
+rest_of s = (king_of Black, s.black) ∷ (option_to_list s.first ++ option_to_list s.last)
 
 abbrev pub list_of : Stand → List (Man × ℕ)
 list_of s = (king_of White, s.white) ∷ rest_of s
 
 abbrev pub before_last : Stand → List (Man × ℕ)
-before_last s = (king_of White, s.white) ∷ (king_of Black, s.black) ∷ option_to_list s.next
+before_last s = (king_of White, s.white) ∷ (king_of Black, s.black) ∷ option_to_list s.first
 
 abbrev pub with_last : Stand → Entry → Stand
-with_last s last = record { white = s.white; black = s.black; next = s.next; last = last }
+with_last s last = record { white = s.white; black = s.black; first = s.first; last = last }
 
 -- the last man of the name is not there alone
 abbrev pub IsFilled : Stand → Type 0
-IsFilled s = s.next ≡ None → s.last ≡ None
+IsFilled s = s.first ≡ None → s.last ≡ None
 
 -- none of these stands on the square
 abbrev pub IsOff : List (Man × ℕ) → ℕ → Type 0
@@ -86,13 +86,13 @@ IsInNameOrder first flips one other next last =
 
 -- p is settled and of the class, in colours exchanged where `flips`, with these men on their squares, this side to move
 -- and a target where one was passed
-pub record HasStand (c : ℕ) (flips : Bool) (stand : Stand) (side : Side) (passed : Bool) (p : Setup) : Type 0 where
+pub record HasStand (c : ℕ) (flips : Bool) (stand : Stand) (side : Side) (targeted : Bool) (p : Setup) : Type 0 where
   pub admissible : IsAdmissible p
   pub settled : IsSettled p
   pub is_of : IsOf c flips p
   pub stood : Stood c flips p.men (list_of stand)
   pub side_is : p.side ≡ side
-  pub target_is : is_some p.target ≡ passed
+  pub target_is : is_some p.target ≡ targeted
 
 -- the man of the one entry on the square of the other, if there are both
 abbrev pub on_square_of : Entry → Entry → Entry
@@ -130,14 +130,14 @@ IsOrdered x y first second =
 pub record IsStandAfter (n : ℕ) (flips : Bool) (before after : Stand) : Type 0 where
   pub white : after.white ≡ turned_square n flips before.white
   pub black : after.black ≡ turned_square n flips before.black
-  pub both : IsOrdered (entry_after n flips before.next) (entry_after n flips before.last) after.next after.last
-  pub in_order : IsInOrder after.next after.last
+  pub both : IsOrdered (entry_after n flips before.first) (entry_after n flips before.last) after.first after.last
+  pub in_order : IsInOrder after.first after.last
 
 -- the men where the turn takes them, in the order in which they were
 pub record IsTurned (n : ℕ) (flips : Bool) (before after : Stand) : Type 0 where
   pub white : after.white ≡ turned_square n flips before.white
   pub black : after.black ≡ turned_square n flips before.black
-  pub next : after.next ≡ entry_after n flips before.next
+  pub first : after.first ≡ entry_after n flips before.first
   pub last : after.last ≡ entry_after n flips before.last
 
 -- the man has a digit on its square

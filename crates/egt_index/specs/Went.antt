@@ -15,12 +15,12 @@ moved_entry from to entry = option_map (λ e. (e.0, moved_square from to e.1)) e
 pub record IsMovedStand (from to : ℕ) (before after : Stand) : Type 0 where
   pub white : after.white ≡ moved_square from to before.white
   pub black : after.black ≡ moved_square from to before.black
-  pub next : after.next ≡ moved_entry from to before.next
+  pub first : after.first ≡ moved_entry from to before.first
   pub last : after.last ≡ moved_entry from to before.last
 
 -- each man is on the board
 pub record AreOnBoard (stand : Stand) : Type 0 where
   pub white : stand.white < 64
   pub black : stand.black < 64
-  pub next : IfSome stand.next (λ e. e.1 < 64)
+  pub first : IfSome stand.first (λ e. e.1 < 64)
   pub last : IfSome stand.last (λ e. e.1 < 64)

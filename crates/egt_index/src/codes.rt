@@ -39,20 +39,20 @@ fn entry_behind(number: u32, entry: Option<(Man, Square)>) -> u32
 /// The number of the digits of the men beside the white king behind those that made `high`.
 pub(crate) fn number_behind(high: u32, stand: &Stand) -> u32
     requires { high < 32 }
-    ensures tells { HasDigit stand.now.next → HasDigit stand.now.last → (pawns : Bool) →
+    ensures tells { HasDigit stand.now.first → HasDigit stand.now.last → (pawns : Bool) →
         Tells pawns result (men_among (rest_of stand.now)) high (rest_of stand.now) }
     ensures small { result < 32 * 64 ^ 3 }
 {
     let king = behind(high, BLACK_KING, stand.black);
-    let next = entry_behind(king, stand.next);
+    let next = entry_behind(king, stand.first);
     entry_behind(next, stand.last)
 }
 
 /// The number with the digits of the side to move and of the target behind it: whether a pawn has passed one.
-pub(crate) fn with_side(class: Class, side: Side, passed: bool, number: u32) -> u32
+pub(crate) fn with_side(class: Class, side: Side, targeted: bool, number: u32) -> u32
     requires { number < 32 * 64 ^ 3 }
     ensures { result ≡ number_from number (2 ∷ (if has_target (material_of class) then 2 ∷ [] else []))
-        (side_number side ∷ (if has_target (material_of class) then (if passed then 1 else 0) ∷ [] else [])) }
+        (side_number side ∷ (if has_target (material_of class) then (if targeted then 1 else 0) ∷ [] else [])) }
 {
     let side = match side {
         Side::White => 0,
@@ -62,7 +62,7 @@ pub(crate) fn with_side(class: Class, side: Side, passed: bool, number: u32) -> 
     if !has_target(class) {
         return with_side;
     }
-    if passed {
+    if targeted {
         with_side * 2 + 1
     } else {
         with_side * 2

@@ -16,12 +16,12 @@ fn settled_position(class: Class, code: u32) -> Option<Position>
     ensures none { IfNone result ((p : Setup) → Spells class code p → ¬ IsSettled p) }
 {
     let _number = class.number();
-    let (number, side, passed) = ends(class, code);
+    let (number, side, targeted) = ends(class, code);
     let stand = stand_on(class, number)?;
     if !are_apart(&stand) {
         return None;
     }
-    let target = target_of(side, passed, &stand);
+    let target = target_of(side, targeted, &stand);
     let board = board_of(&stand);
     let position = admitted(board, side, target, stand.white, stand.black)?;
     if is_settled(&position) {

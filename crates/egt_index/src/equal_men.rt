@@ -6,10 +6,10 @@ use crate::stand::{Stand, turned};
 
 /// Whether the men beside the kings are equal and the last stands on the lesser square.
 fn is_behind(stand: &Stand) -> bool
-    ensures behind { result ≡ true → AreExchanged stand.now.next stand.now.last }
-    ensures in_order { result ≡ false → IsInOrder stand.now.next stand.now.last }
+    ensures behind { result ≡ true → AreExchanged stand.now.first stand.now.last }
+    ensures in_order { result ≡ false → IsInOrder stand.now.first stand.now.last }
 {
-    match (stand.next, stand.last) {
+    match (stand.first, stand.last) {
         (Some(first), Some(second)) => first.0 == second.0 && second.1.number() < first.1.number(),
         _ => false,
     }
@@ -19,21 +19,21 @@ fn is_behind(stand: &Stand) -> bool
 pub(crate) fn ordered(stand: &Stand) -> Stand
     ensures white { result.white ≡ stand.now.white }
     ensures black { result.black ≡ stand.now.black }
-    ensures both { IsOrdered stand.now.next stand.now.last result.next result.last }
-    ensures in_order { IsInOrder result.next result.last }
+    ensures both { IsOrdered stand.now.first stand.now.last result.first result.last }
+    ensures in_order { IsInOrder result.first result.last }
 {
     if is_behind(stand) {
         Stand {
             white: stand.white,
             black: stand.black,
-            next: stand.last,
-            last: stand.next,
+            first: stand.last,
+            last: stand.first,
         }
     } else {
         Stand {
             white: stand.white,
             black: stand.black,
-            next: stand.next,
+            first: stand.first,
             last: stand.last,
         }
     }

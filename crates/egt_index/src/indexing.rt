@@ -9,7 +9,7 @@ use crate::equal_men::stand_after;
 use crate::facts::facts;
 use crate::home::home;
 use crate::men::{has_equal_sides, has_pawns};
-use crate::stand::{Stand, Standing, exchanged, man_of, standing_by, standing_of};
+use crate::stand::{Arrangement, Stand, arrangement_by, arrangement_of, exchanged, man_of};
 use egt_board::{Man, Position, Side, Square};
 use egt_class::laws::men_beside_are_counted;
 use egt_class::{Class, of_men};
@@ -22,9 +22,9 @@ fn side_after(side: Side, flips: bool) -> Side
 }
 
 /// The least code of what the turn makes of a settled position with these men of the class, if it has one.
-fn code_after(class: Class, stand: &Stand, side: Side, passed: bool, turn: u8) -> Option<u32>
+fn code_after(class: Class, stand: &Stand, side: Side, targeted: bool, turn: u8) -> Option<u32>
     requires { turn < 16 }
-    ensures { (p : Setup) → HasStand class (turn / 8 == 1) stand.now side passed p → KeepsPlay (turn % 8) p.men →
+    ensures { (p : Setup) → HasStand class (turn / 8 == 1) stand.now side targeted p → KeepsPlay (turn % 8) p.men →
         CodeAfter class p turn result }
 {
     facts();
@@ -33,7 +33,7 @@ fn code_after(class: Class, stand: &Stand, side: Side, passed: bool, turn: u8) -
     let side = side_after(side, turn / 8 == 1);
     let high = king_digit(has_pawns(class), after.white)?;
     let number = number_behind(u32::from(high), &after);
-    Some(with_side(class, side, passed, number))
+    Some(with_side(class, side, targeted, number))
 }
 
 /// The lesser of two codes, if there are any.
@@ -51,15 +51,15 @@ fn lesser(least: Option<u32>, code: Option<u32>) -> Option<u32>
 
 /// The least code of what the turns that exchange colours, or those that do not, make of a settled position of the
 /// class. Only one or two of them bring the white king to a square of his digit.
-fn least_with(class: Class, stand: &Stand, side: Side, passed: bool, flips: bool) -> Option<u32>
-    ensures { (p : Setup) → HasStand class flips stand.now side passed p → LeastWith class p flips result }
+fn least_with(class: Class, stand: &Stand, side: Side, targeted: bool, flips: bool) -> Option<u32>
+    ensures { (p : Setup) → HasStand class flips stand.now side targeted p → LeastWith class p flips result }
 {
     facts();
     let (first, second) = home(has_pawns(class), flips, stand.white);
-    let code = code_after(class, stand, side, passed, first);
+    let code = code_after(class, stand, side, targeted, first);
     match second {
         Some(second) => {
-            let other = code_after(class, stand, side, passed, second);
+            let other = code_after(class, stand, side, targeted, second);
             lesser(code, other)
         }
         None => code,
@@ -71,31 +71,31 @@ fn least_of_both(
     class: Class,
     stand: &Stand,
     side: Side,
-    passed: bool,
+    targeted: bool,
     flipped: bool,
 ) -> Option<u32>
     requires { has_equal_sides class ≡ true }
-    ensures { (p : Setup) → HasStand class flipped stand.now side passed p → Best class p 16 result }
+    ensures { (p : Setup) → HasStand class flipped stand.now side targeted p → Best class p 16 result }
 {
     facts();
     let _number = class.number();
     let others = exchanged(stand);
-    let other = least_with(class, &others, side, passed, !flipped);
-    let own = least_with(class, stand, side, passed, flipped);
+    let other = least_with(class, &others, side, targeted, !flipped);
+    let own = least_with(class, stand, side, targeted, flipped);
     lesser(own, other)
 }
 
 /// The least code of all images of a settled position of the class.
-fn least_standing(class: Class, standing: &Standing, side: Side, passed: bool) -> Option<u32>
-    ensures { (p : Setup) → HasStand class standing.now.flipped standing.now.stand side passed p →
+fn least_arranged(class: Class, men: &Arrangement, side: Side, targeted: bool) -> Option<u32>
+    ensures { (p : Setup) → HasStand class men.now.flipped men.now.stand side targeted p →
         Best class p 16 result }
 {
     facts();
     let _number = class.number();
     if has_equal_sides(class) {
-        least_of_both(class, &standing.stand, side, passed, standing.flipped)
+        least_of_both(class, &men.stand, side, targeted, men.flipped)
     } else {
-        least_with(class, &standing.stand, side, passed, standing.flipped)
+        least_with(class, &men.stand, side, targeted, men.flipped)
     }
 }
 
@@ -116,9 +116,9 @@ pub fn index(class: Class, position: &Position) -> u32
 {
     facts();
     let side = position.side();
-    let standing = standing_of(class, position);
-    let passed = keeps_target(position);
-    least_standing(class, &standing, side, passed).unwrap()
+    let arrangement = arrangement_of(class, position);
+    let targeted = keeps_target(position);
+    least_arranged(class, &arrangement, side, targeted).unwrap()
 }
 
 /// The class of a position without a target and its index there, by its men alone: the kings' squares, the men beside
@@ -138,7 +138,7 @@ pub fn indexed_by_men(
     facts();
     men_beside_are_counted();
     let (class, flipped) = of_men(man_of(&one), man_of(&other));
-    let standing = standing_by(class, flipped, white, black, &one, &other);
-    let index = least_standing(class, &standing, side, false).unwrap();
+    let arrangement = arrangement_by(class, flipped, white, black, &one, &other);
+    let index = least_arranged(class, &arrangement, side, false).unwrap();
     (class, index)
 }

@@ -1,4 +1,4 @@
-//! What holds of codes and indexes. These functions do nothing: a caller calls one to know what it ensures.
+//! Laws of codes and indexes. These functions do nothing: a caller calls one to know what it ensures.
 ghost use Rattle.std.specs.Prelude.{◌≡◌, ◌↔◌, ◌⊎◌, ℕ, ◌*◌, ◌<◌, ◌≤◌, Bool, false, true};
 ghost use Rattle.egt_index.specs.Prelude.{Man, Side, HasNoPawn, MayStand, IsSettled, Setup, IsAdmissible, material_of};
 ghost use Rattle.egt_index.specs.Prelude.{IsOf, Spells, AreImages, IsIndex, IsVoid, SettleAlike, IsShelf, ShelfMen};
@@ -60,8 +60,8 @@ pub fn a_class_without_pawns_has_none()
 
 /// A settled position that a code spells has the men that the code tells.
 pub fn codes_tell_their_men()
-    ensures { (passed : Bool) (c code : ℕ) (p : Setup) (stand : Stand) (side : Side) → c < 36 → Spells c code p →
-        IsSettled p → TellsMen passed c code stand side → HasStand c false stand side passed p }
+    ensures { (targeted : Bool) (c code : ℕ) (p : Setup) (stand : Stand) (side : Side) → c < 36 → Spells c code p →
+        IsSettled p → TellsMen targeted c code stand side → HasStand c false stand side targeted p }
 {
     facts();
 }
@@ -75,7 +75,7 @@ pub fn numbers_stand_for_codes()
     ensures coded { (c n : ℕ) → c < 36 → n < size_of c → code_of c n < size_of c }
     ensures number { (c n : ℕ) → c < 36 → n < size_of c → number_of c (code_of c n) ≡ n }
     ensures halves { (c shelf : ℕ) (men : ShelfMen) (is : IsShelf c shelf men) → c < 36 →
-        has_target (material_of c) ≡ true → (is.passed ≡ true) ↔ (half_of c ≤ shelf * (2 * places c)) }
+        has_target (material_of c) ≡ true → (is.targeted ≡ true) ↔ (half_of c ≤ shelf * (2 * places c)) }
     ensures indexes_are_settled { (c i : ℕ) (p q : Setup) → IsAdmissible p → IsIndex c p i → Spells c i q →
         IsSettled q }
 {
@@ -87,20 +87,20 @@ pub fn numbers_stand_for_codes()
 /// such code spells is an image of each position with these men. There is one if no target was passed, or what the code
 /// spells is settled.
 pub fn codes_tell_turned_men()
-    ensures one { (passed : Bool) (c x y : ℕ) (stand : Stand) (side : Side) → TellsMen passed c x stand side →
-        TellsMen passed c y stand side → x ≡ y }
-    ensures pawns { (passed : Bool) (c code : ℕ) (stand : Stand) (side : Side) (man : Man) (s : ℕ) →
-        TellsMen passed c code stand side → IsListed (list_of stand) man s → MayStand man s }
-    ensures index { (passed : Bool) (c i : ℕ) (flips : Bool) (stand : Stand) (side : Side) (q : Setup) → c < 36 →
-        IsFilled stand → HasStand c flips stand side passed q → IsIndex c q i →
-        IsSomeTurnedCodeWith passed c i flips stand side }
-    ensures images { (passed : Bool) (c code : ℕ) (flips : Bool) (stand : Stand) (side : Side) (q r : Setup) → c < 36 →
-        HasStand c flips stand side passed q →
-        IsSomeTurnedCodeWith passed c code flips stand side → Spells c code r → AreImages q r }
-    ensures there { (passed : Bool) (c code : ℕ) (flips : Bool) (stand : Stand) (side : Side) (r : Setup) → c < 36 →
-        AreOnBoard stand → IsSomeTurnedCodeWith passed c code flips stand side →
-        Spells c code r → (passed ≡ true → IsSettled r) →
-        (q : Setup) × HasStand c flips stand side passed q × AreImages q r }
+    ensures one { (targeted : Bool) (c x y : ℕ) (stand : Stand) (side : Side) → TellsMen targeted c x stand side →
+        TellsMen targeted c y stand side → x ≡ y }
+    ensures pawns { (targeted : Bool) (c code : ℕ) (stand : Stand) (side : Side) (man : Man) (s : ℕ) →
+        TellsMen targeted c code stand side → IsListed (list_of stand) man s → MayStand man s }
+    ensures index { (targeted : Bool) (c i : ℕ) (flips : Bool) (stand : Stand) (side : Side) (q : Setup) → c < 36 →
+        IsFilled stand → HasStand c flips stand side targeted q → IsIndex c q i →
+        IsSomeTurnedCodeWith targeted c i flips stand side }
+    ensures images { (targeted : Bool) (c code : ℕ) (flips : Bool) (stand : Stand) (side : Side) (q r : Setup) →
+        c < 36 → HasStand c flips stand side targeted q →
+        IsSomeTurnedCodeWith targeted c code flips stand side → Spells c code r → AreImages q r }
+    ensures there { (targeted : Bool) (c code : ℕ) (flips : Bool) (stand : Stand) (side : Side) (r : Setup) → c < 36 →
+        AreOnBoard stand → IsSomeTurnedCodeWith targeted c code flips stand side →
+        Spells c code r → (targeted ≡ true → IsSettled r) →
+        (q : Setup) × HasStand c flips stand side targeted q × AreImages q r }
 {
     facts();
 }

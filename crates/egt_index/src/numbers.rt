@@ -1,5 +1,5 @@
 //! Numbers of positions, and the codes that they stand for: the codes without a target come first, then those with one.
-//! A shelf of numbers is behind a front, whose men stand before the last one.
+//! A shelf of numbers is behind a prefix, whose men stand before the last one.
 ghost use Rattle.std.specs.Prelude.{◌≡◌, ℕ, ◌<◌, ◌+◌, ◌*◌, ◌≤◌, IfNone, IfSome};
 ghost use Rattle.egt_index.specs.Prelude.{code_of, half_of, places, IsShelfBehind, IsWithin, size_of};
 
@@ -20,7 +20,7 @@ fn half(class: Class) -> u32
 }
 
 /// How many shelves of the class have no target.
-fn fronts(class: Class) -> u32
+fn prefixes(class: Class) -> u32
     ensures whole { result * (2 * places class) ≡ half_of class }
     ensures few { result < 268435456 }
 {
@@ -52,45 +52,45 @@ pub fn code_of(class: Class, number: u32) -> u32
     }
 }
 
-/// The number of the front of the shelf, which the men before the last one have, and whether the positions of the shelf
+/// The number of the shelf's prefix, which the men before the last one have, and whether the positions of the shelf
 /// have a target. `None` past the last shelf.
-pub(crate) fn front_number(class: Class, shelf: u32) -> Option<(u32, bool)>
+pub(crate) fn prefix_number(class: Class, shelf: u32) -> Option<(u32, bool)>
     ensures behind { IfSome result (λ found. IsShelfBehind found.1 class shelf found.0) }
     ensures past { IfNone result (size_of class ≤ shelf * (2 * places class)) }
 {
     let _number = class.number();
-    let fronts = fronts(class);
-    if shelf < fronts {
+    let prefixes = prefixes(class);
+    if shelf < prefixes {
         return Some((shelf, false));
     }
     if !has_target(class) {
         return None;
     }
-    let front = shelf - fronts;
-    if front < fronts {
-        Some((front, true))
+    let prefix = shelf - prefixes;
+    if prefix < prefixes {
+        Some((prefix, true))
     } else {
         None
     }
 }
 
-/// The number of the shelf behind the front, of positions with a target where one was passed. `None` past the last
-/// front, and where the class has no targets but one was passed.
-pub(crate) fn shelf_behind(class: Class, front: u32, passed: bool) -> Option<u32>
-    ensures behind { IfSome result (λ shelf. IsShelfBehind passed class shelf front) }
+/// The number of the shelf behind the prefix, of positions with a target where one was passed. `None` past the last
+/// prefix, and where the class has no targets but one was passed.
+pub(crate) fn shelf_behind(class: Class, prefix: u32, targeted: bool) -> Option<u32>
+    ensures behind { IfSome result (λ shelf. IsShelfBehind targeted class shelf prefix) }
     ensures within { IfSome result (IsWithin class) }
-    ensures none { IfNone result ((shelf : ℕ) → ¬ IsShelfBehind passed class shelf front) }
+    ensures none { IfNone result ((shelf : ℕ) → ¬ IsShelfBehind targeted class shelf prefix) }
 {
     let _number = class.number();
-    let fronts = fronts(class);
-    if front >= fronts {
+    let prefixes = prefixes(class);
+    if prefix >= prefixes {
         return None;
     }
-    if !passed {
-        return Some(front);
+    if !targeted {
+        return Some(prefix);
     }
     if has_target(class) {
-        Some(front + fronts)
+        Some(prefix + prefixes)
     } else {
         None
     }

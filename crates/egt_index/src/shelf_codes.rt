@@ -7,7 +7,7 @@ ghost use Rattle.egt_index.specs.Prelude.{IsShelf, IsShelfOf, IsWithin};
 
 use crate::digits::king_digit;
 use crate::men::{has_pawns, non_kings};
-use crate::numbers::{front_number, shelf_behind};
+use crate::numbers::{prefix_number, shelf_behind};
 use crate::shelf::digits_of;
 use crate::spelling::stand_before;
 use egt_board::{Kind, Man, Square};
@@ -19,7 +19,7 @@ pub struct ShelfMen {
     pub white: Square,
     pub black: Square,
     /// The man beside the kings who stands still.
-    pub one: Man,
+    pub first: Man,
     /// Where he stands.
     pub on: Square,
     pub last: Man,
@@ -53,13 +53,13 @@ pub fn shelf_men(class: Class, shelf: u32) -> Option<ShelfMen>
     let _number = class.number();
     let (_, last) = non_kings(class);
     let last = last?;
-    let (front, _) = front_number(class, shelf)?;
-    let stand = stand_before(class, front)?;
-    let (one, on) = stand.next?;
+    let (prefix, _) = prefix_number(class, shelf)?;
+    let stand = stand_before(class, prefix)?;
+    let (first, on) = stand.first?;
     Some(ShelfMen {
         white: stand.white,
         black: stand.black,
-        one,
+        first,
         on,
         last,
     })
@@ -67,18 +67,18 @@ pub fn shelf_men(class: Class, shelf: u32) -> Option<ShelfMen>
 
 /// The number of the shelf with these men, of positions with a target where one was passed. `None` where the white king
 /// is not at home, a pawn stands on the first rank or the last, and where the class has no targets but one was passed.
-pub fn shelf_of(class: Class, men: &ShelfMen, passed: bool) -> Option<u32>
+pub fn shelf_of(class: Class, men: &ShelfMen, targeted: bool) -> Option<u32>
     requires men { AreMenOf class men.now }
-    ensures shelf { IfSome result (λ shelf. IsShelfOf passed class shelf men.now) }
+    ensures shelf { IfSome result (λ shelf. IsShelfOf targeted class shelf men.now) }
     ensures within { IfSome result (IsWithin class) }
-    ensures none { IfNone result (¬ HasShelf passed class men.now) }
+    ensures none { IfNone result (¬ HasShelf targeted class men.now) }
 {
     let _number = class.number();
     let _black = men.black.number();
     let _on = men.on.number();
     let high = king_digit(has_pawns(class), men.white)?;
-    let digit = digit_on(men.one, men.on)?;
+    let digit = digit_on(men.first, men.on)?;
     let kings = u32::from(high) * 64 + u32::from(men.black.number());
-    let front = kings * digits_of(men.one) + digit;
-    shelf_behind(class, front, passed)
+    let prefix = kings * digits_of(men.first) + digit;
+    shelf_behind(class, prefix, targeted)
 }

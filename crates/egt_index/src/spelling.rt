@@ -1,4 +1,4 @@
-//! What the digits of a code spell, and the position of a code that is known to be an index.
+//! The men that the digits of a code spell, and the position of a code that is known to be an index.
 ghost use Rattle.std.specs.Prelude.{◌≡◌, ◌≢◌, ◌*◌, ◌/◌, ◌∷◌, [], ◌<◌, ◌≤◌, ◌↔◌, Option, Bool, true, false, IsTrue};
 ghost use Rattle.std.specs.Prelude.{IfSome, IfNone, None};
 ghost use Rattle.egt_index.specs.Prelude.{IsSome, king_of, men_of, PawnsFit, IsFree, IsSettled, Setup, IsAdmissible};
@@ -93,7 +93,7 @@ pub(crate) fn stand_before(class: Class, number: u32) -> Option<Stand>
     Some(Stand {
         white,
         black,
-        next,
+        first: next,
         last: None,
     })
 }
@@ -113,7 +113,7 @@ pub(crate) fn stand_on(class: Class, number: u32) -> Option<Stand>
 pub(crate) fn ends(class: Class, code: u32) -> (u32, Side, bool)
     ensures { Ends (material_of class) code result.0 result.1 result.2 }
 {
-    let (number, passed) = if has_target(class) {
+    let (number, targeted) = if has_target(class) {
         (code / 2, code % 2 == 1)
     } else {
         (code, false)
@@ -123,7 +123,7 @@ pub(crate) fn ends(class: Class, code: u32) -> (u32, Side, bool)
     } else {
         Side::Black
     };
-    (number / 2, side, passed)
+    (number / 2, side, targeted)
 }
 
 /// The board with one man more, if there is one.
@@ -156,21 +156,21 @@ pub(crate) fn board_of(stand: &Stand) -> Board
     ensures few { map.len result ≤ 4 }
 {
     let kings = kings_on(stand.white, stand.black);
-    let board = with_entry(kings, stand.next);
+    let board = with_entry(kings, stand.first);
     with_entry(board, stand.last)
 }
 
 /// The target, if there is one: the square that the pawn of the side that waits has passed.
-pub(crate) fn target_of(side: Side, passed: bool, stand: &Stand) -> Option<Square>
-    requires { passed ≡ true → HasPawns (list_of stand.now) }
-    ensures { IsTold passed side (list_of stand.now) result }
+pub(crate) fn target_of(side: Side, targeted: bool, stand: &Stand) -> Option<Square>
+    requires { targeted ≡ true → HasPawns (list_of stand.now) }
+    ensures { IsTold targeted side (list_of stand.now) result }
 {
-    if !passed {
+    if !targeted {
         return None;
     }
     let advanced = match side {
         Side::White => stand.last,
-        Side::Black => stand.next,
+        Side::Black => stand.first,
     };
     let (_, square) = advanced?;
     Some(square.ahead(side))
@@ -222,9 +222,9 @@ fn spelled_stand(class: Class, code: u32) -> (Stand, Side, bool)
     ensures pawns { result.2 ≡ true → HasPawns (list_of result.0) }
 {
     let _number = class.number();
-    let (number, side, passed) = ends(class, code);
+    let (number, side, targeted) = ends(class, code);
     let stand = stand_on(class, number).unwrap();
-    (stand, side, passed)
+    (stand, side, targeted)
 }
 
 /// The position that the code spells, where the caller knows that it spells one.
@@ -233,8 +233,8 @@ pub fn spelled_position(class: Class, code: u32) -> Position
     ensures { Spells class code result }
 {
     let _number = class.number();
-    let (stand, side, passed) = spelled_stand(class, code);
-    let target = target_of(side, passed, &stand);
+    let (stand, side, targeted) = spelled_stand(class, code);
+    let target = target_of(side, targeted, &stand);
     let board = board_of(&stand);
     Position::with_kings(board, side, target, stand.white, stand.black)
 }

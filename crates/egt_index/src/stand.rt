@@ -1,10 +1,8 @@
 //! The men of a class on their squares.
-ghost use Rattle.std.specs.Prelude.{◌≡◌, ◌<◌, ◌%◌, ◌/◌, ◌==◌, ◌↔◌, IsTrue, IfSome, Bool, None};
-ghost use Rattle.std.specs.Prelude.{if◌then◌else◌};
-ghost use Rattle.egt_index.specs.Prelude.{option_to_list, option_map, HasAllMen, Setup, IsAdmissible, turned_man};
-ghost use Rattle.egt_index.specs.Prelude.{IsOf, Stood, Holds, IsOn, IsAmong, IsFirst, list_of};
-ghost use Rattle.egt_index.specs.Prelude.{before_last, with_last, IsOff, AllApart, AreNear, entry_after, on_square_of};
-ghost use Rattle.egt_index.specs.Prelude.{IsTurned};
+ghost use Rattle.std.specs.Prelude.{◌≡◌, ◌<◌, ◌%◌, ◌/◌, ◌==◌, ◌↔◌, IsTrue, IfSome, Bool, None, if◌then◌else◌};
+ghost use Rattle.egt_index.specs.Prelude.{option_to_list, Setup, IsAdmissible, before_last, entry_after, on_square_of};
+ghost use Rattle.egt_index.specs.Prelude.{option_map, HasAllMen, turned_man, IsAmong, with_last, AllApart, IsTurned};
+ghost use Rattle.egt_index.specs.Prelude.{IsOf, Stood, Holds, IsOn, IsFirst, list_of, IsOff, AreNear};
 
 use crate::facts::facts;
 use crate::men::non_kings;
@@ -18,7 +16,7 @@ use egt_class::Class;
 pub struct Stand {
     pub white: Square,
     pub black: Square,
-    pub next: Option<(Man, Square)>,
+    pub first: Option<(Man, Square)>,
     pub last: Option<(Man, Square)>,
 }
 
@@ -107,7 +105,7 @@ fn placed(man: Option<Man>, square: Square) -> Option<(Man, Square)>
 
 /// Where the men of a class stand in a position, and whether there its colours are exchanged.
 #[derive(Clone, Copy)]
-pub(crate) struct Standing {
+pub(crate) struct Arrangement {
     pub(crate) flipped: bool,
     pub(crate) stand: Stand,
 }
@@ -131,7 +129,7 @@ pub(crate) fn stand_by(
     Stand {
         white: either(flipped, black, white),
         black: either(flipped, white, black),
-        next: placed(first, either(in_order, one, other)),
+        first: placed(first, either(in_order, one, other)),
         last: placed(second, either(in_order, other, one)),
     }
 }
@@ -139,7 +137,7 @@ pub(crate) fn stand_by(
 /// Where the men of a position of the class stand. The first man of the name beside the king tells the colours: no
 /// class whose sides differ has him on both.
 #[inline(always)]
-pub(crate) fn standing_of(class: Class, position: &Position) -> Standing
+pub(crate) fn arrangement_of(class: Class, position: &Position) -> Arrangement
     requires { (flipped : Bool) × IsOf class flipped position.now }
     ensures is_of { IsOf class result.flipped position.now }
     ensures stood { Stood class result.flipped position.now.men (list_of result.stand) }
@@ -152,7 +150,7 @@ pub(crate) fn standing_of(class: Class, position: &Position) -> Standing
     let white = position.king(Side::White);
     let black = position.king(Side::Black);
     let flipped = !is_among(&first, &one, &other);
-    Standing {
+    Arrangement {
         flipped,
         stand: stand_by(class, flipped, white, black, &one, &other),
     }
@@ -160,19 +158,19 @@ pub(crate) fn standing_of(class: Class, position: &Position) -> Standing
 
 /// Where these men, in whatever order beside the kings, stand in their class, in colours exchanged where `flipped`.
 #[inline(always)]
-pub(crate) fn standing_by(
+pub(crate) fn arrangement_by(
     class: Class,
     flipped: bool,
     white: Square,
     black: Square,
     one: &Option<(Man, Square)>,
     other: &Option<(Man, Square)>,
-) -> Standing
+) -> Arrangement
     ensures flipped { result.flipped ≡ flipped }
     ensures stood { (p : Setup) → IsAdmissible p → IsOf class flipped p →
         HasAllMen p.men white black one.now other.now → Stood class flipped p.men (list_of result.stand) }
 {
-    Standing {
+    Arrangement {
         flipped,
         stand: stand_by(class, flipped, white, black, one, other),
     }
@@ -197,7 +195,7 @@ pub(crate) fn turned(stand: &Stand, turn: u8) -> Stand
     Stand {
         white: turned_square(turn, stand.white),
         black: turned_square(turn, stand.black),
-        next: entry_after(stand.next, turn),
+        first: entry_after(stand.first, turn),
         last: entry_after(stand.last, turn),
     }
 }
@@ -216,14 +214,14 @@ fn on_square_of(entry: Option<(Man, Square)>, other: Option<(Man, Square)>) -> O
 pub(crate) fn exchanged(stand: &Stand) -> Stand
     ensures white { result.white ≡ stand.now.black }
     ensures black { result.black ≡ stand.now.white }
-    ensures next { result.next ≡ on_square_of stand.now.next stand.now.last }
-    ensures last { result.last ≡ on_square_of stand.now.last stand.now.next }
+    ensures first { result.first ≡ on_square_of stand.now.first stand.now.last }
+    ensures last { result.last ≡ on_square_of stand.now.last stand.now.first }
 {
     Stand {
         white: stand.black,
         black: stand.white,
-        next: on_square_of(stand.next, stand.last),
-        last: on_square_of(stand.last, stand.next),
+        first: on_square_of(stand.first, stand.last),
+        last: on_square_of(stand.last, stand.first),
     }
 }
 
@@ -245,7 +243,7 @@ pub(crate) fn with_last(stand: &Stand, last: Option<(Man, Square)>) -> Stand
     Stand {
         white: stand.white,
         black: stand.black,
-        next: stand.next,
+        first: stand.first,
         last,
     }
 }
@@ -257,7 +255,7 @@ pub(crate) fn is_last_off(stand: &Stand) -> bool
 {
     match stand.last {
         Some((_, square)) => {
-            (stand.white != square) & (stand.black != square) & is_off(stand.next, square)
+            (stand.white != square) & (stand.black != square) & is_off(stand.first, square)
         }
         None => true,
     }
@@ -267,12 +265,12 @@ pub(crate) fn is_last_off(stand: &Stand) -> bool
 pub(crate) fn are_apart(stand: &Stand) -> bool
     ensures { IsTrue result ↔ AllApart (list_of stand.now) }
 {
-    let others = match stand.next {
+    let others = match stand.first {
         Some((_, square)) => is_off(stand.last, square),
         None => true,
     };
-    let off_white = is_off(stand.next, stand.white) & is_off(stand.last, stand.white);
-    let off_black = is_off(stand.next, stand.black) & is_off(stand.last, stand.black);
+    let off_white = is_off(stand.first, stand.white) & is_off(stand.last, stand.white);
+    let off_black = is_off(stand.first, stand.black) & is_off(stand.last, stand.black);
     others & off_white & off_black & (stand.white != stand.black)
 }
 

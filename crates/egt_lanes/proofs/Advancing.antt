@@ -3,7 +3,7 @@ use Rattle.std.proofs.Common.{◌≡◌, ℕ, ◌<◌, ◌≤◌, ◌==◌, ◌�
 use Rattle.std.proofs.Common.{get_or, refl, ap, ◌∙◌, subst, arith, eqb-true}
 use Rattle.egt_lanes.specs.Prelude.{cases_eq, eqb-false, bit_at, Rides, Advances, forward, home_rank}
 use Rattle.egt_lanes.specs.Prelude.{rank_of, Away, Side, Step, AdvancesBy, IsRaised}
-use Rattle.egt_lanes.proofs.Raising.{raised_again, raised_among, raised_as, raised_by_none, raised_is}
+use Rattle.egt_lanes.proofs.RaisedTwice.{raised_again, raised_among, raised_as, raised_by_none, raised_is}
 use Rattle.egt_lanes.proofs.Rays.{IsRidden}
 use Rattle.egt_lanes.proofs.Riding.{HasBit, IsShifted, more_ends, one_ride, raised_over, ride_one, ridden_first}
 

@@ -5,12 +5,12 @@ pub mod RankBytes
 pub mod Turns
 pub mod Moves
 pub mod Weaving
-pub mod Raising
+pub mod RaisedTwice
 pub mod Rays
 pub mod Riding
 pub mod Entries
 pub mod Sweeping
 pub mod Rowwise
 pub mod Advancing
-pub mod Likeness
+pub mod LanesCompared
 pub mod Nearness

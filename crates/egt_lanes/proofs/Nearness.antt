@@ -3,7 +3,7 @@ use Rattle.std.proofs.Common.{◌≡◌, ℕ, zero, suc, ◌<◌, min, List, [],
 use Rattle.std.proofs.lemmas.Nat.{le_or_l, le_or_r}
 use lib.Lanes.{zip2, Each1}
 use Rattle.egt_lanes.specs.Near.{IsVoidOrNear}
-use Rattle.egt_lanes.proofs.Likeness.{below, less, chosen, select, none_over}
+use Rattle.egt_lanes.proofs.LanesCompared.{below, less, chosen, select, none_over}
 
 -- of n lanes
 abbrev pub far : ℕ → List ℕ → List ℕ → List ℕ

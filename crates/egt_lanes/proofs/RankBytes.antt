@@ -1,6 +1,5 @@
 -- The bits of a set, as bytes of ranks.
-use Rattle.std.proofs.Common.{◌≡◌, ℕ, ◌*◌, ◌/◌, ◌%◌, ◌^◌, ◌<◌, eqb, bit_and}
-use Rattle.std.proofs.Common.{eq-eqb, sym, ap, ◌∙◌, arith}
+use Rattle.std.proofs.Common.{◌≡◌, ℕ, ◌*◌, ◌/◌, ◌%◌, ◌^◌, ◌<◌, eqb, bit_and, eq-eqb, sym, ap, ◌∙◌, arith}
 use Rattle.egt_lanes.specs.Prelude.{bit_at, div-div-eq-div-mul, and_pow, bit_at_cat_low, bit_at-lt, div-add-mod'}
 use Rattle.egt_lanes.specs.Prelude.{pow_pos}
 use Rattle.egt_lanes.proofs.Tests.{agreed}

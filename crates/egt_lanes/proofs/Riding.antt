@@ -3,7 +3,7 @@ use Rattle.std.proofs.Common.{arith, ◌≡◌, ℕ, ◌+◌, ◌<◌, ◌==◌,
 use Rattle.std.proofs.Common.{◌∷◌, ◌++◌, get_or, take, length, refl, sym, ap, ◌∙◌, subst, inl, inr, eqb-true}
 use Rattle.egt_lanes.specs.Prelude.{eqb-false, take_more, bit_at, Side, Kind, Step, Away, Rides, OneOf, farthest}
 use Rattle.egt_lanes.specs.Prelude.{steps_of, P, K, IsPiece, IsRaised}
-use Rattle.egt_lanes.proofs.Raising.{raised_by_none, first_raised, raised_more, raised_again, raised_as, raised_is}
+use Rattle.egt_lanes.proofs.RaisedTwice.{raised_by_none, first_raised, raised_more, raised_again, raised_as, raised_is}
 use Rattle.egt_lanes.proofs.Rays.{IsRidden, first_step, same_end, next_square, one_step, more_steps, fewer_steps, Rides-more, Rides-last, Rides-none}
 
 -- what a shift by one step ensures

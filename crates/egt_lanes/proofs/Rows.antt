@@ -1,4 +1,4 @@
--- What the operations on rows come to at one lane. A mask's lane is 255 or 0.
+-- The operations on rows at one lane. A mask's lane is 255 or 0.
 use Rattle.std.proofs.Common.{T, inl, inr, ◌==◌, if◌then◌else◌, subst, ◌≡◌, ◌≢◌, ℕ, zero, suc, ◌+◌, ◌≤◌, ◌<◌, ◌-◌, ◌/◌}
 use Rattle.std.proofs.Common.{◌%◌, ◌^◌, Bool, true, false, not, cond, eqb, ltb, leb, max, List, [], ◌∷◌, map, length}
 use Rattle.std.proofs.Common.{get_or, replicate, bit_and, refl, sym, ap, ◌∙◌, arith, Fits, w8, eqb-true}

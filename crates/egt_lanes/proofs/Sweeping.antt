@@ -4,7 +4,7 @@ use Rattle.std.proofs.Common.{max, List, [], get_or, refl, sym, ap, ◌∙◌, s
 use Rattle.std.proofs.Common.{get_or-set_other}
 use Rattle.egt_lanes.specs.Prelude.{bit_at, cases_eq, eqb-false, get_or-set_at, set, length-set, Step, Away, Rides, at}
 use Rattle.egt_lanes.specs.Prelude.{IsOpen, IsRaised, IsAhead, IsRay}
-use Rattle.egt_lanes.proofs.Raising.{raised_by_none, first_raised, raised_more, raised_as, raised_is}
+use Rattle.egt_lanes.proofs.RaisedTwice.{raised_by_none, first_raised, raised_more, raised_as, raised_is}
 use Rattle.egt_lanes.proofs.Riding.{raised_over}
 use Rattle.egt_lanes.proofs.Rays.{IsRidden, same_end, first_step, more_steps, fewer_steps}
 

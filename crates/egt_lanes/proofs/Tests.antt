@@ -1,4 +1,4 @@
--- What is computed at each number below a limit.
+-- Tests computed at each number below a limit.
 use Rattle.std.proofs.Common.{◌≡◌, ℕ, zero, suc, ◌-◌, ◌<◌, Bool, true, ◌&&◌, T, eqb, subst, inl, inr, arith, eq-zero-or-pos, eqb-true}
 use lib.Ieee.Fits.{and_l, and_r}
 

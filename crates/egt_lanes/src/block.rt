@@ -57,11 +57,11 @@ pub fn raise_transposed(out: &mut Block, from: &Block)
     interleaved(&mut here, &there);
     interleaved(&mut there, &here);
     interleaved(&mut here, &there);
-    raise(out, &here);
+    raise_to_max(out, &here);
 }
 
 /// Each number of `out` the greater of it and of that in `by`.
-pub fn raise(out: &mut Block, by: &Block)
+pub fn raise_to_max(out: &mut Block, by: &Block)
     ensures { (a b : ℕ) → a < 64 → b < 64 → at out.new a b ≡ max (at out.old a b) (at by.now a b) }
 {
     for i in 0..64 {

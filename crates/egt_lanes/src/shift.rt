@@ -1,4 +1,10 @@
-//! Rows moved by the steps of men.
+//! Rows moved by the steps of men: to each square comes what stands a step further, for all squares at once. Of a rook
+//! that goes to the right, on a rank of three squares:
+//!
+//!     row             5 2 7
+//!     one step        2 7 0     `shifted`
+//!     two steps       7 0 0     `shifted` twice; nothing comes over a square that is not free
+//!     the greatest    7 7 0     `ridden`
 ghost use Rattle.std.specs.Prelude.{◌≡◌, ℕ, ◌<◌, ◌≤◌, ◌==◌, slice_index, if◌then◌else◌};
 ghost use Rattle.egt_lanes.specs.Prelude.{bit_at, OneOf, Reaches, Rides, straight_steps, diagonal_steps, knight_steps};
 ghost use Rattle.egt_lanes.specs.Prelude.{Advances, forward, home_rank, rank_of, Away, AdvancesBy, beside, beyond};

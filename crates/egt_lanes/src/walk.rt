@@ -1,4 +1,10 @@
-//! The first man's moves: the rows of the squares that he reaches, raised into the row of his own.
+//! The first man's moves: the rows of the squares that he reaches, raised into the row of his own. A lane is a square
+//! of the last man, and so each lane has its own way. A rook on a1 with a king on a4, in the lane of d1:
+//!
+//!     4  K . . . . . . .     the rows of a2, a3 and a4 count, and no row behind a king;
+//!     3  x . . . . . . .
+//!     2  x . . . . . . .     the rows of b1, c1 and d1 count, and none behind the last man,
+//!     1  R x x L . . . .     but in the lanes of squares off this rank all up to h1
 ghost use Rattle.std.specs.Prelude.{◌≡◌, ℕ, ◌<◌, Bool, if◌then◌else◌, ◌-◌, slice_index};
 ghost use Rattle.egt_lanes.specs.Prelude.{All, OneOf, Reaches, Rides, diagonal_steps, knight_steps, straight_steps};
 ghost use Rattle.egt_lanes.specs.Prelude.{Away, at, IsOpen, IsPiece, IsRaised, IsRay};

@@ -1,4 +1,4 @@
--- What a legal move leads to is admissible.
+-- A legal move leads to an admissible position.
 use Rattle.std.proofs.Common.{◌≡◌, ◌≢◌, ℕ, ◌<◌, ◌≤◌, ◌+◌, ◌-◌, ◌/◌, ◌⊎◌, ◌&&◌, Option, Some, None, cond, true}
 use Rattle.std.proofs.Common.{false, Bool, arith, refl, sym, ap, ◌∙◌, inl, inr, subst, if◌then◌else◌}
 use Rattle.egt_moves.specs.Prelude.{is_some, nat_cmp_total, false≢true, and_parts, eqb_tells, Side, White}
@@ -9,7 +9,7 @@ use Rattle.egt_moves.specs.Prelude.{IsInCheck, Setup, IsAdmissible, IsKingOn, Ha
 use Rattle.egt_moves.specs.Prelude.{Goes, PawnTakes, is_pawn, promotes, IsOfficer, FitsPromotion, arriving, men_left}
 use Rattle.egt_moves.specs.Prelude.{men_after, is_two_ranks, passed, after, goes_on_board}
 use Rattle.std.specs.FinMap as map
-use Rattle.egt_moves.proofs.After.{left_cases, left_keeps, left_free, after_to, after_from, after_other, after_cases, king_moves, king_stays, other_king_stays, may_become}
+use Rattle.egt_moves.proofs.MenAfter.{left_cases, left_keeps, left_free, after_to, after_from, after_other, after_cases, king_moves, king_stays, other_king_stays, may_become}
 
 -- no more men than before
 len_left : (p : Setup) (man : Man) (to : ℕ) → IsAdmissible p → map.len (men_left p man to) ≤ map.len p.men

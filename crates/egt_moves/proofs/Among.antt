@@ -1,4 +1,4 @@
--- What can be told of all elements of a finite list, or of one.
+-- Statements about all elements of a finite list, or about one, that can be decided.
 use Rattle.std.proofs.Common.{ℕ, zero, ◌+◌, ◌≤◌, ◌⊎◌, inl, inr, arith, List, [], ◌∷◌, Option, Some, None}
 use Rattle.egt_moves.specs.Prelude.{⊎_elim, IsSomeAnd, any_here, any_there, any_cons, Any, AllByRecursion, filter_map}
 use Rattle.egt_moves.specs.Prelude.{cons_option}

@@ -1,10 +1,10 @@
--- What a man may become, one choice after the other.
+-- The men that a man may become, one choice after the other.
 use Rattle.std.proofs.Common.{◌≡◌, ℕ, ◌+◌, ◌*◌, ◌<◌, ◌≤◌, ◌↔◌, ◌⊎◌, List, [], ◌∷◌, ◌++◌, length, get_or}
 use Rattle.std.proofs.Common.{true, false, Option, Some, None, arith, sym, ap, ◌∙◌, inl, inr, subst}
 use Rattle.egt_moves.specs.Prelude.{Contains, cases_eq, length-append, Contains-push, Contains-push_cases}
 use Rattle.egt_moves.specs.Prelude.{Contains-append_left, Kind, Q, R, B, N, Move, FitsPromotion, plain, place_of}
 use Rattle.egt_moves.specs.Prelude.{promotion_place, IsInOrder}
-use Rattle.egt_moves.proofs.InOrder.{IsInOrder-push}
+use Rattle.egt_moves.proofs.MoveOrder.{IsInOrder-push}
 
 -- the moves to one square that promote to the first n of four kinds have been added
 pub record Chosen (from to : ℕ) (old new : List Move) (n : ℕ) : Type 0 where

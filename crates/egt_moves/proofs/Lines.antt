@@ -1,8 +1,7 @@
 -- How play goes on: a win to a loss one ply less, a loss to a win one ply less or sooner.
-use Rattle.std.proofs.Common.{ℕ, zero, suc, ◌⊎◌, inl, inr}
+use Rattle.std.proofs.Common.{ℕ, zero, suc, ◌⊎◌, inl, inr, arith}
 use Rattle.egt_moves.specs.WinLossDraw.{Arena, Win, Loss, NoMove, SomeMove, EachMove, MatesWithin, CannotMateWithin, IsMatedWithin, AvoidsMateFor, HasValue}
 use Rattle.egt_moves.proofs.Bounds.{not_mated}
-use Rattle.std.proofs.Common.{arith}
 
 module _ {S : Type 0} (a : Arena S) where
   -- what is mated within k after a step of one that cannot mate within k is a loss in k

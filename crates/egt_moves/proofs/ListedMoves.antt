@@ -1,14 +1,13 @@
 -- The list of legal moves: what it holds, and that no other list in order holds the same.
-use Rattle.std.proofs.Common.{◌≡◌, ℕ, zero, suc, ◌+◌, ◌*◌, ◌<◌, ◌↔◌, ◌⊎◌, Bool, true, false, cond, List, [], ◌∷◌, ◌++◌}
-use Rattle.std.proofs.Common.{length, map, Option, Some, None, slice_index_or, arith, refl, sym, ap, ◌∙◌, subst, inl}
-use Rattle.std.proofs.Common.{inr}
+use Rattle.std.proofs.Common.{◌≡◌, suc, ◌+◌, ◌*◌, ◌<◌, ◌↔◌, ◌⊎◌, [], ◌∷◌, map, Some, None, refl, sym, ap, ◌∙◌, inl, inr}
+use Rattle.std.proofs.Common.{ℕ, zero, Bool, true, false, cond, List, ◌++◌, length, Option, slice_index_or, arith, subst}
 use Rattle.egt_moves.specs.Prelude.{Contains, filter, cases_eq, false≢true, Contains-append_left, Contains-append_right}
 use Rattle.egt_moves.specs.Prelude.{Contains-append_cases, Kind, Q, R, B, N, P, K, Setup, IsAdmissible, Decided}
 use Rattle.egt_moves.specs.Prelude.{tells_so, tells_where, Move, decided_legal, goes_on_board, leads_to_one, Leads}
 use Rattle.egt_moves.specs.Prelude.{IsLegal, promotions, moves_between, moves_from, moves_below, all_moves, is_legal}
 use Rattle.egt_moves.specs.Prelude.{led_to, played, moves_of, place_of, promotion_place, IsInOrder}
-use Rattle.egt_moves.proofs.Growing.{promotion_small}
-use Rattle.egt_moves.proofs.InOrder.{Contains-head, Contains-tail}
+use Rattle.egt_moves.proofs.ListGrows.{promotion_small}
+use Rattle.egt_moves.proofs.MoveOrder.{Contains-head, Contains-tail}
 
 -- the first, or a later one
 Contains-cases : {X : Type 0} (x y : X) (xs : List X) → Contains (x ∷ xs) y → (x ≡ y) ⊎ Contains xs y

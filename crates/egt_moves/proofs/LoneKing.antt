@@ -4,7 +4,7 @@ use Rattle.egt_moves.specs.Prelude.{Side, Man, other_side, king_of, IsOccupancy,
 use Rattle.egt_moves.specs.Prelude.{one_man, get-insert_same, get-insert_other, get-remove_same, get-remove_other}
 use Rattle.egt_moves.specs.Prelude.{IsKeptFrom, Setup, IsAdmissible, IsKingOn, Has, Occupancy, sides_differ, side_twice}
 use Rattle.std.specs.FinMap as map
-use Rattle.egt_moves.proofs.After.{not_free}
+use Rattle.egt_moves.proofs.MenAfter.{not_free}
 
 -- kings attack each other
 abbrev pub BothAttack : Type 0

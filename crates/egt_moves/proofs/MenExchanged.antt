@@ -1,13 +1,12 @@
--- What a legal move does to the counts of men.
+-- Counts of men after a legal move.
 use Rattle.std.proofs.Common.{◌≡◌, ◌≢◌, ℕ, ◌+◌, ◌<◌, Option, Some, None, IfSome, true, false, Bool, refl, sym, ap, ◌∙◌}
 use Rattle.std.proofs.Common.{inl, inr, if◌then◌else◌, arith}
-use Rattle.egt_moves.specs.Prelude.{IsSome, is_some, and_parts, Side, Kind, P, K, Man, other_side, rank_of, Placement}
-use Rattle.egt_moves.specs.Prelude.{Stands, get-remove_other, ahead, pawn_of, last_rank, IsTarget, target_rank, Setup}
-use Rattle.egt_moves.specs.Prelude.{IsAdmissible, count_of, stands_here, side_twice, Move, Captures, Exchanges, is_pawn}
-use Rattle.egt_moves.specs.Prelude.{promotes, IsOfficer, FitsPromotion, arriving, is_target, takes_in_passing, men_left}
-use Rattle.egt_moves.specs.Prelude.{Leads}
+use Rattle.egt_moves.specs.Prelude.{IsSome, get-remove_other, target_rank, IsAdmissible, FitsPromotion, takes_in_passing}
+use Rattle.egt_moves.specs.Prelude.{is_some, Side, Kind, K, rank_of, Stands, ahead, pawn_of, Setup, Move, is_pawn, Leads}
+use Rattle.egt_moves.specs.Prelude.{and_parts, Man, other_side, Placement, last_rank, stands_here, side_twice, Exchanges}
+use Rattle.egt_moves.specs.Prelude.{P, IsTarget, count_of, Captures, promotes, IsOfficer, arriving, is_target, men_left}
 use Rattle.std.specs.FinMap as map
-use Rattle.egt_moves.proofs.After.{one_man, not_free, target_is, goes_on_board, goes_not_own}
+use Rattle.egt_moves.proofs.MenAfter.{one_man, not_free, target_is, goes_on_board, goes_not_own}
 use Rattle.egt_moves.proofs.Admissible.{pawn_told}
 use Rattle.egt_board.proofs.Sides.{side_cases}
 

@@ -6,7 +6,7 @@ use Rattle.egt_moves.specs.Prelude.{IsInCheck, StandsBeside, other_side, ahead, 
 use Rattle.egt_moves.specs.Prelude.{one_man, Setup, IsAdmissible, IsKingOn, Move, entry_after, square_after, Leads}
 use Rattle.egt_moves.specs.Prelude.{after, men_left, men_after, is_pawn, promotes, FitsPromotion, arriving}
 use Rattle.egt_moves.proofs.Admissible.{admissible_after}
-use Rattle.egt_moves.proofs.After.{after_to, after_other, after_cases, MayBecome, may_become, not_king_of}
+use Rattle.egt_moves.proofs.MenAfter.{after_to, after_other, after_cases, MayBecome, may_become, not_king_of}
 use Rattle.std.specs.FinMap as map
 
 abbrev Entry : Type 0

@@ -3,14 +3,14 @@ use Rattle.std.proofs.Common.{◌≡◌, ◌≢◌, ℕ, ◌<◌, Bool, true, fa
 use Rattle.std.proofs.Common.{ap, ◌∙◌, subst, inl, inr}
 use Rattle.egt_moves.specs.Prelude.{option_map, cases_eq, false≢true, and_parts, eqb_tells, Mirror, Files, Ranks}
 use Rattle.egt_moves.specs.Prelude.{Diagonal, Colours, Side, Kind, Man, other_side, rank_of, Placement, Stands, IsFree}
-use Rattle.egt_moves.specs.Prelude.{IsHeld, get-remove_same, get-remove_other, ahead, HasNoPawn, king_of, IsAttacked}
+use Rattle.egt_moves.specs.Prelude.{IsOccupiedBy, get-remove_same, get-remove_other, ahead, HasNoPawn, king_of, IsAttacked}
 use Rattle.egt_moves.specs.Prelude.{IsInCheck, Setup, IsAdmissible, square_by, side_by, man_by, IsMirrored, Allows}
 use Rattle.egt_moves.specs.Prelude.{Move, chess, Zeroes, Goes, is_pawn, promotes, FitsPromotion, arriving, Leads}
 use Rattle.egt_moves.specs.Prelude.{is_target, takes_in_passing, men_left, men_after, is_two_ranks, passed, after}
 use Rattle.egt_moves.specs.Prelude.{Alike, HasLike, AreMirrored, IsCheckmate, goes_on_board}
 use Rattle.std.specs.FinMap as map
 use Rattle.egt_board.specs.MirrorLaws as mirrors
-use Rattle.egt_moves.proofs.After.{target_is, after_to, after_from, after_other, after_cases}
+use Rattle.egt_moves.proofs.MenAfter.{target_is, after_to, after_from, after_other, after_cases}
 use Rattle.egt_moves.proofs.Admissible.{admissible_after, arrived_pawn, pawn_told}
 
 -- a mirror that the men allow is allowed by their image
@@ -54,7 +54,7 @@ stands_there m p p' s man r stands = r.mirrored.men s (r.here.on_board s man sta
 free_there : (m : Mirror) (p p' : Setup) (s : ℕ) → AreMirrored m p p' → s < 64 → IsFree p.men s → IsFree p'.men (square_by m s)
 free_there m p p' s r s_in free = r.mirrored.men s s_in ∙ ap (option_map (man_by m)) free
 
-held_there : (m : Mirror) (p p' : Setup) (s : ℕ) (side : Side) → AreMirrored m p p' → IsHeld p.men s side → IsHeld p'.men (square_by m s) (side_by m side)
+held_there : (m : Mirror) (p p' : Setup) (s : ℕ) (side : Side) → AreMirrored m p p' → IsOccupiedBy p.men s side → IsOccupiedBy p'.men (square_by m s) (side_by m side)
 held_there m p p' s side r held = record {
   man = man_by m held.man;
   stands = stands_there m p p' s held.man r held.stands;
@@ -81,7 +81,7 @@ other_side_there : (m : Mirror) (p p' : Setup) → AreMirrored m p p' → side_b
 other_side_there m p p' r = mirrors.side_by-other m p.side ∙ ap other_side (sym r.mirrored.side)
 
 -- a man of this side, there of the side that it becomes
-held_back : (m : Mirror) (p p' : Setup) (s : ℕ) → AreMirrored m p p' → s < 64 → IsHeld p'.men (square_by m s) p'.side → IsHeld p.men s p.side
+held_back : (m : Mirror) (p p' : Setup) (s : ℕ) → AreMirrored m p p' → s < 64 → IsOccupiedBy p'.men (square_by m s) p'.side → IsOccupiedBy p.men s p.side
 held_back m p p' s r s_in held = grind (arith, mirrors.square_by-twice, square_by, side_by)
 
 goes_there : (m : Mirror) (p p' : Setup) (man : Man) (from to : ℕ) → AreMirrored m p p' → Stands p.men from man → Goes p man from to → Goes p' (man_by m man) (square_by m from) (square_by m to)
@@ -110,7 +110,7 @@ goes_there m p p' man from to r stands goes = by_way goes
       pawn = takes.pawn;
       reaches = mirrors.Reaches-by m (IsFree p.men) (IsFree p'.men) man from to suits from_in free takes.reaches;
       takes = elim takes.takes [
-        | inl held ↦ inl (subst (IsHeld p'.men (square_by m to)) (other_side_there m p p' r) (held_there m p p' to (other_side p.side) r held))
+        | inl held ↦ inl (subst (IsOccupiedBy p'.men (square_by m to)) (other_side_there m p p' r) (held_there m p p' to (other_side p.side) r held))
         | inr target ↦ inr (r.mirrored.target ∙ ap (option_map (square_by m)) target)
       ];
     }))
@@ -264,7 +264,7 @@ leads_there m p p' q x r l = (
 pub zeroes_there : (m : Mirror) (p p' : Setup) (x : Move) → AreMirrored m p p' → Zeroes p x → Zeroes p' (move_by m x)
 unfolding move_by
 zeroes_there m p p' x r zeroes = elim zeroes [
-  | inl held ↦ inl (subst (IsHeld p'.men (square_by m x.to)) (other_side_there m p p' r) (held_there m p p' x.to (other_side p.side) r held))
+  | inl held ↦ inl (subst (IsOccupiedBy p'.men (square_by m x.to)) (other_side_there m p p' r) (held_there m p p' x.to (other_side p.side) r held))
   | inr pawn ↦ inr (record { man = man_by m pawn.man; stands = stands_there m p p' x.from pawn.man r pawn.stands; pawn = pawn.pawn })
 ]
 

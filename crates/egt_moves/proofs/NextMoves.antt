@@ -6,7 +6,7 @@ use Rattle.egt_moves.specs.Prelude.{any_cons, Decided, squares_of, on_square, Se
 use Rattle.egt_moves.specs.Prelude.{chess, goes_on_board, leads_to_one, decided_legal, decided_zeroes}
 use Rattle.egt_moves.specs.Prelude.{decided_checkmate, Leads, IsLegal}
 use Rattle.egt_moves.proofs.Deciding.{successors_among}
-use Rattle.egt_moves.proofs.After.{MayBecome, may_become}
+use Rattle.egt_moves.proofs.MenAfter.{MayBecome, may_become}
 
 -- the moves between two squares that promote to these
 choices : ℕ → ℕ → List (Option Kind) → List Move → List Move

@@ -6,8 +6,8 @@ use Rattle.egt_moves.specs.Prelude.{ahead, IsAttacked, IsInCheck, IsKeptFrom, Se
 use Rattle.egt_moves.specs.Prelude.{sides_differ, Move, Goes, is_pawn, promotes, FitsPromotion, men_after, plain}
 use Rattle.egt_moves.specs.Prelude.{is_target, takes_in_passing, IsLegalTarget, IsSafeGoal, king_square}
 use Rattle.std.specs.FinMap as map
-use Rattle.egt_moves.proofs.After.{goes_on_board, king_moves, king_stays}
-use Rattle.egt_moves.proofs.Growing.{legal_of, goes_of, fits_of, safe_of, same_safety}
+use Rattle.egt_moves.proofs.MenAfter.{goes_on_board, king_moves, king_stays}
+use Rattle.egt_moves.proofs.ListGrows.{legal_of, goes_of, fits_of, safe_of, same_safety}
 
 -- nothing is taken in passing by another man than a pawn, or on another square than the target
 pub not_passing : (p : Setup) (man : Man) (t : ℕ) → (man.kind ≡ P → p.target ≡ Some t → ⊥) → takes_in_passing p man t ≡ false

@@ -1,11 +1,10 @@
 -- A target that no pawn stands ready to take changes no move.
 use Rattle.std.proofs.Common.{◌≡◌, ◌≢◌, ℕ, ◌≤◌, ◌⊎◌, ◌↔◌, Some, arith, sym, ◌∙◌, subst, inl, inr}
-use Rattle.egt_moves.specs.Prelude.{cases_eq, Side, P, Man, other_side, rank_of, Stands, ahead, home_rank}
-use Rattle.egt_moves.specs.Prelude.{farthest_advance, Advances, target_rank, Setup, IsAdmissible, IsSettled, untargeted}
-use Rattle.egt_moves.specs.Prelude.{SettlesTo, Move, chess, Zeroes, Goes, arriving, Leads, after, Alike, KeepsSteps}
-use Rattle.egt_moves.specs.Prelude.{IsCheckmate}
+use Rattle.egt_moves.specs.Prelude.{cases_eq, rank_of, home_rank, Advances, IsSettled, SettlesTo, arriving, KeepsSteps}
+use Rattle.egt_moves.specs.Prelude.{Side, Man, Stands, ahead, Setup, Move, chess, Zeroes, Goes, Leads, after, Alike}
+use Rattle.egt_moves.specs.Prelude.{P, other_side, farthest_advance, target_rank, IsAdmissible, untargeted, IsCheckmate}
 use Rattle.std.specs.FinMap as map
-use Rattle.egt_moves.proofs.After.{target_is}
+use Rattle.egt_moves.proofs.MenAfter.{target_is}
 use Rattle.egt_moves.proofs.Admissible.{Forward, advances_forward, from_home}
 use Rattle.egt_moves.proofs.Likeness.{alike_by_steps}
 

@@ -1,12 +1,12 @@
 -- The search for a legal move.
 use Rattle.std.proofs.Common.{◌≡◌, ◌≢◌, ◌↔◌, ℕ, ◌∙◌, subst, inl, inr, arith}
-use Rattle.egt_moves.specs.Prelude.{bit_at, cases_eq, IsHeld, Setup, Move, IsLegal, IsLegalTarget, IsStuck, CanMove}
+use Rattle.egt_moves.specs.Prelude.{bit_at, cases_eq, IsOccupiedBy, Setup, Move, IsLegal, IsLegalTarget, IsStuck, CanMove}
 
 -- legal moves leave squares of the set alone
 abbrev pub LeavesSet : Setup → ℕ → Type 0
 LeavesSet p rest = (m : Move) → IsLegal p m → bit_at rest m.from ≡ 1
 
-pub LeavesSet-none : (p : Setup) (rest : ℕ) → ((t : ℕ) → (bit_at rest t ≡ 1) ↔ IsHeld p.men t p.side) → LeavesSet p rest
+pub LeavesSet-none : (p : Setup) (rest : ℕ) → ((t : ℕ) → (bit_at rest t ≡ 1) ↔ IsOccupiedBy p.men t p.side) → LeavesSet p rest
 LeavesSet-none p rest held m legal = (held m.from).1 (record { man = legal.1.man; stands = legal.1.stands; theirs = legal.1.mine })
 
 pub LeavesSet-less : (p : Setup) (rest rest' from targets : ℕ) → ((t : ℕ) → t ≢ from → bit_at rest' t ≡ bit_at rest t) → ((t : ℕ) → (bit_at targets t ≡ 1) ↔ IsLegalTarget p from t) → ((t : ℕ) → bit_at targets t ≡ 0)

@@ -1,10 +1,10 @@
 -- The list of moves over all men of the side to move.
 use Rattle.std.proofs.Common.{◌≡◌, ◌≢◌, ℕ, ◌+◌, ◌*◌, ◌<◌, ◌≤◌, ◌↔◌, ◌⊎◌, List, length, arith, sym, ap, ◌∙◌, inl, inr}
 use Rattle.std.proofs.Common.{subst}
-use Rattle.egt_moves.specs.Prelude.{bit_at, Contains, cases_eq, cases_lt, Man, SquareSet, Stands, IsHeld, Has, size_of}
+use Rattle.egt_moves.specs.Prelude.{bit_at, Contains, cases_eq, cases_lt, Man, SquareSet, Stands, IsOccupiedBy, Has, size_of}
 use Rattle.egt_moves.specs.Prelude.{Setup, IsAdmissible, Move, IsLegal, most_moves, HasRoom, room_for_man}
 use Rattle.egt_moves.specs.Prelude.{room_for_others, place_of, IsInOrder, goes_on_board}
-use Rattle.egt_moves.proofs.Growing.{promotion_small}
+use Rattle.egt_moves.proofs.ListGrows.{promotion_small}
 use Rattle.egt_board.proofs.Bits.{not_both}
 
 -- the legal moves from the squares that are no longer left are listed, and there is room for the others
@@ -12,7 +12,7 @@ pub record Walks (p : Setup) (moves : List Move) (rest : SquareSet) : Type 0 whe
   pub ordered : IsInOrder moves
   pub legal : (m : Move) → Contains moves m ↔ (IsLegal p m × (bit_at rest.bits m.from ≡ 0))
   pub later : (m : Move) → Contains moves m → (t : ℕ) → Has rest t → m.from < t
-  pub held : (t : ℕ) → Has rest t → IsHeld p.men t p.side
+  pub held : (t : ℕ) → Has rest t → IsOccupiedBy p.men t p.side
   pub room : HasRoom p (length moves) rest
 
 pub Walks-room : (p : Setup) (moves : List Move) (rest rest' : SquareSet) (s : ℕ) (man : Man) → IsAdmissible p → Has rest s → bit_at rest'.bits s ≡ 0 → ((t : ℕ) → t ≢ s → bit_at rest'.bits t ≡ bit_at rest.bits t)

@@ -9,7 +9,7 @@ use Rattle.egt_moves.specs.Promotion.{arriving}
 
 -- these are all men of the position, and its side to move
 pub record AreMenOf (p : Setup) (m : Men) : Type 0 where
-  pub men : HasAllMen p.men m.white m.black m.one m.other
+  pub men : HasAllMen p.men m.white m.black m.first m.other
   pub side : p.side ≡ m.side
 
 -- who stood on the square left is on the square arrived at, and whoever stood there is gone

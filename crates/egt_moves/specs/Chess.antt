@@ -1,6 +1,6 @@
 -- Chess as an arena of play: from position to position by legal moves, until checkmate.
 use Rattle.std.specs.Prelude.{◌≡◌, ℕ, ◌⊎◌}
-use Rattle.egt_board.specs.Prelude.{other_side, Placement, Stands, IsHeld, Setup}
+use Rattle.egt_board.specs.Prelude.{other_side, Placement, Stands, IsOccupiedBy, Setup}
 use Rattle.egt_board.specs.declared.man.Kind.TheVariants.{P}
 use Rattle.egt_board.specs.declared.man.Man.{Man}
 use Rattle.egt_moves.specs.declared.chess_move.Move.{Move}
@@ -17,7 +17,7 @@ pub record IsPawnOn (men : Placement) (s : ℕ) : Type 0 where
 -- the move captures or is a pawn's (FIDE Laws of Chess 2023, article 9.3: a move after which the count of moves
 -- begins anew)
 abbrev pub Zeroes : Setup → Move → Type 0
-Zeroes p m = IsHeld p.men m.to (other_side p.side) ⊎ IsPawnOn p.men m.from
+Zeroes p m = IsOccupiedBy p.men m.to (other_side p.side) ⊎ IsPawnOn p.men m.from
 
 -- legal moves (FIDE Laws of Chess 2023, article 3) and checkmate (article 5.1.1)
 abbrev pub chess : Arena Setup

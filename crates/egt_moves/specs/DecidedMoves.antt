@@ -1,7 +1,7 @@
 -- Whether a move is legal, and whether a step leads from one setup to another, can be told.
 use Rattle.std.proofs.Common.{◌≡◌, ◌≢◌, ℕ, ◌<◌, ◌⊎◌, Bool, true, false, Option, Some, None, refl, sym, ap, ◌∙◌, subst}
 use Rattle.std.proofs.Common.{inl, inr}
-use Rattle.egt_board.specs.Prelude.{other_side, IsInCheck, Reaches, Reaches-on_board, Advances, Stands, IsFree, IsHeld}
+use Rattle.egt_board.specs.Prelude.{other_side, IsInCheck, Reaches, Reaches-on_board, Advances, Stands, IsFree, IsOccupiedBy}
 use Rattle.egt_board.specs.Prelude.{one_man, Setup, Decided}
 use Rattle.egt_board.specs.declared.man.Man.{Man}
 use Rattle.egt_board.specs.declared.man.Kind.{Kind}
@@ -17,7 +17,7 @@ use Rattle.egt_moves.specs.Promotion.{FitsPromotion, promotes}
 use Rattle.egt_moves.specs.Legal.{Leads, IsLegal, men_after, after}
 use Rattle.egt_moves.specs.Standing.{IsStuck, IsCheckmate}
 
-decided_takes : (p : Setup) (to : ℕ) → Decided (IsHeld p.men to (other_side p.side) ⊎ (p.target ≡ Some to))
+decided_takes : (p : Setup) (to : ℕ) → Decided (IsOccupiedBy p.men to (other_side p.side) ⊎ (p.target ≡ Some to))
 decided_takes p to = decided_either (decided_held p.men to (other_side p.side)) (is_it p.target)
   where
     is_it : (o : Option ℕ) → Decided (o ≡ Some to)
@@ -29,7 +29,7 @@ decided_goes p man from to = decided_either piece (decided_either advance takes)
   where
     piece : Decided (PieceGoes p man from to)
     piece = decided_as
-        (λ (h : (man.kind ≢ P) × (Reaches (IsFree p.men) man from to × ¬ IsHeld p.men to p.side)). record { piece = h.0; reaches = h.1.0; not_own = h.1.1 })
+        (λ (h : (man.kind ≢ P) × (Reaches (IsFree p.men) man from to × ¬ IsOccupiedBy p.men to p.side)). record { piece = h.0; reaches = h.1.0; not_own = h.1.1 })
         (λ (g : PieceGoes p man from to). (g.piece, (g.reaches, g.not_own)))
         (decided_both (decided_not (decided_kind man.kind P))
         (λ _. decided_both (decided_reaches (IsFree p.men) (decided_free p.men) man from to) (λ _. decided_not (decided_held p.men to p.side))))
@@ -42,7 +42,7 @@ decided_goes p man from to = decided_either piece (decided_either advance takes)
 
     takes : Decided (PawnTakes p man from to)
     takes = decided_as
-        (λ (h : (man.kind ≡ P) × (Reaches (IsFree p.men) man from to × (IsHeld p.men to (other_side p.side) ⊎ (p.target ≡ Some to)))). record { pawn = h.0; reaches = h.1.0; takes = h.1.1 })
+        (λ (h : (man.kind ≡ P) × (Reaches (IsFree p.men) man from to × (IsOccupiedBy p.men to (other_side p.side) ⊎ (p.target ≡ Some to)))). record { pawn = h.0; reaches = h.1.0; takes = h.1.1 })
         (λ (g : PawnTakes p man from to). (g.pawn, (g.reaches, g.takes)))
         (decided_both (decided_kind man.kind P) (λ _. decided_both (decided_reaches (IsFree p.men) (decided_free p.men) man from to) (λ _. decided_takes p to)))
 

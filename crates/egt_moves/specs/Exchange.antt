@@ -1,6 +1,6 @@
--- What a legal move does to the men: FIDE Laws of Chess 2023, articles 3.1 and 3.7.3.
+-- The men after a legal move: FIDE Laws of Chess 2023, articles 3.1 and 3.7.3.
 use Rattle.std.specs.Prelude.{◌≡◌, ◌≢◌, ◌+◌, ◌⊎◌, ◌↔◌, Option, Some, IfSome, IsSome}
-use Rattle.egt_board.specs.Prelude.{other_side, IsHeld, Setup, count_of, stands_here}
+use Rattle.egt_board.specs.Prelude.{other_side, IsOccupiedBy, Setup, count_of, stands_here}
 use Rattle.egt_board.specs.declared.man.Kind.TheVariants.{P, K}
 use Rattle.egt_board.specs.declared.man.Man.{Man}
 use Rattle.egt_moves.specs.declared.chess_move.Move.{Move}
@@ -9,7 +9,7 @@ use Rattle.egt_moves.specs.Promotion.{IsOfficer, arriving}
 
 -- the move captures: an enemy man stands where it arrives, or a pawn that has just passed there is taken
 abbrev pub Captures : Setup → Move → Type 0
-Captures p m = IsHeld p.men m.to (other_side p.side) ⊎ (IsPawnOn p.men m.from × (p.target ≡ Some m.to))
+Captures p m = IsOccupiedBy p.men m.to (other_side p.side) ⊎ (IsPawnOn p.men m.from × (p.target ≡ Some m.to))
 
 -- the men of q are those of p without the man that is taken, and with what the man that moved has become
 pub record Exchanges (p : Setup) (m : Move) (q : Setup) : Type 0 where

@@ -1,4 +1,4 @@
--- What a search for mate tells, as the value of the position to the side to move.
+-- The answer of a search for mate, as the value of the position to the side to move.
 use Rattle.std.specs.Prelude.{ℕ, Option, Some, None}
 use Rattle.egt_board.specs.declared.man.Side.{Side}
 use Rattle.egt_board.specs.declared.man.Side.TheVariants.{White, Black}

@@ -17,7 +17,7 @@ pub use Rattle.egt_board.specs.NonKings.{StandsBeside}
 pub use Rattle.egt_board.specs.Occupancy.{IsOccupancy}
 pub use Rattle.egt_board.specs.Pawn.{Advances, HasNoPawn, HasPawnBeside, IsBeside, PawnsFit, ahead, farthest_advance}
 pub use Rattle.egt_board.specs.Pawn.{home_rank, last_rank, pawn_of}
-pub use Rattle.egt_board.specs.Placement.{IsFree, IsHeld, Placement, Stands, get-insert_other, get-insert_same}
+pub use Rattle.egt_board.specs.Placement.{IsFree, IsOccupiedBy, Placement, Stands, get-insert_other, get-insert_same}
 pub use Rattle.egt_board.specs.Placement.{get-remove_other, get-remove_same, one_man}
 pub use Rattle.egt_board.specs.Safety.{IsKeptFrom}
 pub use Rattle.egt_board.specs.Settled.{IsSettled, SettlesTo, untargeted}

@@ -1,4 +1,4 @@
--- What becomes of a pawn on the last rank: FIDE Laws of Chess 2023, article 3.7.3.3.
+-- Promotion of a pawn on the last rank: FIDE Laws of Chess 2023, article 3.7.3.3.
 use Rattle.std.specs.Prelude.{ℕ, ◌==◌, ◌&&◌, Bool, true, false, Option, Some, None}
 use Rattle.egt_board.specs.Prelude.{rank_of, last_rank}
 use Rattle.egt_board.specs.declared.man.Kind.{Kind}

@@ -1,4 +1,4 @@
-//! What holds of the nearest checkmate by legal moves of both sides, and of dead positions (FIDE Laws of Chess 2023,
+//! Laws of the nearest checkmate by legal moves of both sides, and of dead positions (FIDE Laws of Chess 2023,
 //! article 5.2.2). These functions do nothing: a caller calls one to know what it ensures.
 ghost use Rattle.std.specs.Prelude.{◌≡◌, ◌↔◌, ◌⊎◌, ℕ, ◌≤◌, Bool, IsTrue, Option};
 ghost use Rattle.egt_moves.specs.Prelude.{AreImages, SettlesTo, Setup, IsAdmissible, Draw, HasValue, IsStalemate};

@@ -1,4 +1,4 @@
-//! What legal moves do to the men. These functions do nothing: a caller calls one to know what it ensures.
+//! Laws of captures and promotions. These functions do nothing: a caller calls one to know what it ensures.
 ghost use Rattle.egt_moves.specs.Prelude.{Setup, IsAdmissible, Move, Exchanges, Leads};
 
 use egt_board::counting::one_square_changes;

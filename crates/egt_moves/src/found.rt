@@ -1,4 +1,4 @@
-//! What a search for mate tells.
+//! The answer of a search for mate.
 use egt_board::Side;
 
 /// What a search for mate tells: the value of a position, if it is decided within the plies that were searched.

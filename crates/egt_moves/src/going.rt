@@ -1,7 +1,7 @@
 //! Where a man may go, and the board after it has gone there.
 ghost use Rattle.std.specs.Prelude.{◌≡◌, ℕ, ◌≤◌, ◌↔◌, ◌⊎◌, IsTrue, Some};
-ghost use Rattle.egt_moves.specs.Prelude.{IsInCheck, IsOccupancy, Stands, IsHeld, IsAdmissible, IsKingOn, Has, size_of};
-ghost use Rattle.egt_moves.specs.Prelude.{other_side, P, Goes, PieceGoes, PawnTakes, men_after, men_left};
+ghost use Rattle.egt_moves.specs.Prelude.{IsInCheck, IsOccupancy, Stands, IsOccupiedBy, IsAdmissible, IsKingOn, Has};
+ghost use Rattle.egt_moves.specs.Prelude.{other_side, P, Goes, PieceGoes, PawnTakes, men_after, men_left, size_of};
 ghost use Rattle.egt_moves.specs.Prelude.{takes_in_passing, passed, plain, most_goals};
 
 use crate::chess_move::Move;
@@ -19,13 +19,13 @@ fn piece_targets(position: &Position, occupancy: Occupancy, man: Man, from: Squa
     position
         .board()
         .reach_past(man, from, occupancy.occupied())
-        .without(occupancy.own)
+        .difference(occupancy.own)
 }
 
 /// The squares that an enemy man holds or a pawn has just passed.
 fn takeable(position: &Position, occupancy: Occupancy) -> SquareSet
     requires { IsOccupancy position.now occupancy }
-    ensures { (t : ℕ) → Has result t ↔ (IsHeld position.now.men t (other_side position.now.side) ⊎
+    ensures { (t : ℕ) → Has result t ↔ (IsOccupiedBy position.now.men t (other_side position.now.side) ⊎
         (position.now.target ≡ Some t)) }
 {
     match position.target() {
@@ -46,7 +46,7 @@ fn pawn_targets(position: &Position, occupancy: Occupancy, man: Man, from: Squar
     let takes = position
         .board()
         .reach_past(man, from, occupancy.occupied())
-        .common(takeable(position, occupancy));
+        .intersection(takeable(position, occupancy));
     advances.union(takes)
 }
 

@@ -1,4 +1,4 @@
-//! What holds of the rules of play alone. These functions do nothing: a caller calls one to know what it
+//! Laws of the rules of play alone. These functions do nothing: a caller calls one to know what it
 //! ensures.
 
 ghost use Rattle.std.specs.Prelude.{◌≡◌, ◌↔◌, ◌⊎◌, ℕ, suc, ◌<◌, ◌≤◌, Bool, IsTrue, Option};

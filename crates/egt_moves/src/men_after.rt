@@ -12,7 +12,7 @@ use egt_board::{Kind, Man, Position, Side, Square};
 pub struct Men {
     pub white: Square,
     pub black: Square,
-    pub one: Option<(Man, Square)>,
+    pub first: Option<(Man, Square)>,
     pub other: Option<(Man, Square)>,
     pub side: Side,
 }
@@ -57,7 +57,7 @@ impl Men {
         Men {
             white: position.king(Side::White),
             black: position.king(Side::Black),
-            one,
+            first: one,
             other,
             side: position.side(),
         }
@@ -71,7 +71,7 @@ impl Men {
         Men {
             white: square_after(self.white, chess_move),
             black: square_after(self.black, chess_move),
-            one: entry_after(&self.one, chess_move),
+            first: entry_after(&self.first, chess_move),
             other: entry_after(&self.other, chess_move),
             side: self.side.other(),
         }

@@ -1,4 +1,4 @@
-//! What a move leads to.
+//! Playing a move.
 ghost use Rattle.std.specs.Prelude.{◌≡◌, IfSome, IfNone};
 ghost use Rattle.egt_moves.specs.Prelude.{IsInCheck, Stands, Setup, IsAdmissible, IsKingOn, Goes, Leads, IsLegal};
 ghost use Rattle.egt_moves.specs.Prelude.{men_after, after, FitsPromotion, promotes};

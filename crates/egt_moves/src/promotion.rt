@@ -1,4 +1,4 @@
-//! What becomes of a pawn on the last rank.
+//! Promotion of a pawn on the last rank.
 ghost use Rattle.std.specs.Prelude.{◌≡◌, ◌↔◌, IsTrue};
 ghost use Rattle.egt_moves.specs.Prelude.{promotes, FitsPromotion, arriving, IsOfficer};
 

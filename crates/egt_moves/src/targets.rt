@@ -27,7 +27,7 @@ fn danger(position: &Position, occupancy: Occupancy, from: Square) -> SquareSet
 fn is_lone(camp: SquareSet, king: Square) -> bool
     ensures { IsTrue result → (t : ℕ) → Has camp t → t ≡ king }
 {
-    camp.less(king).is_empty()
+    camp.without(king).is_empty()
 }
 
 /// The squares to which this man, lifted from `from`, may come so that the enemy does not attack `king`: all of them
@@ -74,7 +74,7 @@ fn king_goals(
     ensures few { size_of result ≤ size_of goals }
 {
     attacks_pass_over_no_occupant();
-    goals.without(danger(position, occupancy, from))
+    goals.difference(danger(position, occupancy, from))
 }
 
 /// The target, where the man goes there as a pawn that takes in passing.
@@ -116,7 +116,7 @@ fn shields(
         return shelter;
     };
     // The pawn that has just passed is gone too, so this one move is played out.
-    shelter.changed(target, is_safe(position, man, from, target))
+    shelter.set(target, is_safe(position, man, from, target))
 }
 
 /// The squares to which the man on `from`, one of the side to move, legally goes.
@@ -136,7 +136,7 @@ pub(crate) fn legal_goals(
     if man.kind == Kind::K {
         king_goals(position, occupancy, man, from, goals)
     } else {
-        goals.common(shields(position, occupancy, man, from, goals))
+        goals.intersection(shields(position, occupancy, man, from, goals))
     }
 }
 

@@ -1,13 +1,13 @@
 //! Captures and moves of pawns.
 ghost use Rattle.std.specs.Prelude.{◌↔◌, IsTrue};
-ghost use Rattle.egt_moves.specs.Prelude.{other_side, IsHeld, Zeroes, IsPawnOn};
+ghost use Rattle.egt_moves.specs.Prelude.{other_side, IsOccupiedBy, Zeroes, IsPawnOn};
 
 use crate::chess_move::Move;
 use egt_board::{Kind, Position, Square};
 
 /// Whether an enemy of the side to move stands on the square.
 fn is_held_by_enemy(position: &Position, square: Square) -> bool
-    ensures { IsTrue result ↔ IsHeld position.now.men square (other_side position.now.side) }
+    ensures { IsTrue result ↔ IsOccupiedBy position.now.men square (other_side position.now.side) }
 {
     match position.at(square) {
         Some(man) => man.side == position.side().other(),

@@ -1,5 +1,5 @@
-//! What the crates of tests stand on. Plain tables of the first six classes: every position by its own code, with no
-//! symmetry, solved by sweeps forward, written from the rules of play alone (`filling` and `shelf` alone ask for indexes
+//! The base of the crates of tests. Plain tables of the first six classes: every position by its own code, with no
+//! symmetry, solved by sweeps forward, from the rules of play alone (`filling` and `shelf` alone ask for indexes
 //! and sizes, and put the entries there). The table of two kings by the rule of kings alone; tables' files and
 //! libraries; runs by rounds in whatever order. And the tests over the public calls of the rules, of games, tables,
 //! their files and the checker: the crates that the program stands on have none, since a crate with tests is proved

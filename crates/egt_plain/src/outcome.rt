@@ -1,4 +1,4 @@
-//! What an entry says.
+//! Plain values of entries.
 
 /// An entry of a draw. Sweeps also take it for a position that is not decided yet.
 pub(crate) const DRAW: u16 = 1;

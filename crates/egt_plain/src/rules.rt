@@ -1,4 +1,4 @@
-//! The rules of play: squares, moves, moves backward, texts of positions, classes and indexes. Figures come from outside.
+//! Rules of play: squares, moves, moves backward, texts of positions, classes and indexes. Figures come from outside.
 mod board;
 mod class;
 mod fen;

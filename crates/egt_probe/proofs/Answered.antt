@@ -6,7 +6,7 @@ use Rattle.egt_probe.specs.Prelude.{Consumes, IsAtEnd, AppendsFront, AnswerFault
 use Rattle.egt_probe.specs.Prelude.{WroteBy, Stopped, AreLinesOf, AnsweredAll, AnsweredSome, Holds, Advanced, StoppedIn}
 use Rattle.egt_probe.specs.Prelude.{lines_of, with_front, Loaded, Report}
 use Rattle.egt_probe.specs.declared.fault.AnswerFault.TheVariants.{Device, NoMemory}
-use Rattle.egt_probe.proofs.Splitting.{front_last, fed, grown}
+use Rattle.egt_probe.proofs.LinesRead.{front_last, fed, grown}
 
 module _ (loaded : Loaded) where
   reports_more : (lines others : List (List ℕ)) (text more : List ℕ) → Reports loaded lines text → Reports loaded others more → Reports loaded (lines ++ others) (text ++ more)

@@ -1,8 +1,7 @@
--- What the column of the nearest mates tells of dead positions.
+-- Dead positions, told by the column of the nearest mates.
 use Rattle.std.proofs.Common.{◌≡◌, ◌≢◌, ℕ, Option, refl, sym, ◌∙◌, arith}
-use Rattle.egt_probe.specs.Prelude.{Setup, IsAdmissible, IsIndex, chess, IsDead, HasReach, IsStalemate, StandsAs}
-use Rattle.egt_probe.specs.Prelude.{Standing, Checkmate, Stalemate, HasMove, TableValue, ShowsReach, reach_at}
-use Rattle.egt_probe.specs.Prelude.{IsTrueReach}
+use Rattle.egt_probe.specs.Prelude.{Setup, IsIndex, chess, IsDead, HasReach, StandsAs, Standing, HasMove, reach_at}
+use Rattle.egt_probe.specs.Prelude.{IsAdmissible, IsStalemate, Checkmate, Stalemate, TableValue, ShowsReach, IsTrueReach}
 
 dead_if_one : (p : Setup) (x : ℕ) (number : Option ℕ) → HasReach chess p number → ShowsReach x number → x ≡ 1 → IsDead chess p
 dead_if_one p x number has shows e = grind arith

@@ -4,7 +4,7 @@ pub mod SameKinds
 pub mod Ordered
 pub mod Best
 pub mod Drawn
-pub mod Splitting
+pub mod LinesRead
 pub mod Answered
 pub mod OneReport
 pub mod Ranked

@@ -1,4 +1,4 @@
--- What a verdict means in the words of forced mate and of the defence against it.
+-- The meaning of a verdict in the words of forced mate and of the defence against it.
 use Rattle.std.proofs.Common.{◌≡◌, ℕ, subst, arith}
 use Rattle.egt_probe.specs.Prelude.{Side, other_side, Setup, Win, Loss, HasValue, MatesWithin, IsMatedWithin}
 use Rattle.egt_probe.specs.Prelude.{CannotMateBefore, AvoidsMateBefore, chess, mate_by}

@@ -1,12 +1,11 @@
 -- A line has one report.
 use Rattle.std.proofs.Common.{◌≡◌, ℕ, zero, suc, ◌<◌, ◌≤◌, ◌⊎◌, is_some, IsSome, List, [], ◌∷◌, ◌++◌}
 use Rattle.std.proofs.Common.{length, Option, Some, None, refl, sym, ap, ◌∙◌, subst, inl, inr, arith}
-use Rattle.egt_probe.specs.Prelude.{cases_lt, Kind, Q, R, B, N, P, K, Side, Setup, IsAdmissible, Fen}
-use Rattle.egt_probe.specs.Prelude.{Value, Draw, mate_by, Leads, place_of, promotion_place, Move, Reports}
-use Rattle.egt_probe.specs.Prelude.{Facts, IsHold, IsFirstTo, next_value, plies_of, IsLine, Loaded, IsOfClass}
-use Rattle.egt_probe.specs.Prelude.{IsMissing, PositionReport, Unloaded, Decisive, Dead, Drawn, verdict_of, Report}
-use Rattle.egt_probe.specs.Prelude.{Long, Refused, Answered, decided_text, dead_text, drawn_text, missing_text}
-use Rattle.egt_probe.specs.Prelude.{refused_text, IsVerdict}
+use Rattle.egt_probe.specs.Prelude.{cases_lt, Kind, mate_by, place_of, plies_of, Unloaded, Decisive, Answered, IsVerdict}
+use Rattle.egt_probe.specs.Prelude.{Q, next_value, IsOfClass, IsMissing, verdict_of, dead_text, drawn_text, refused_text}
+use Rattle.egt_probe.specs.Prelude.{R, B, N, P, K, Side, Fen, Draw, Move, Dead, Long}
+use Rattle.egt_probe.specs.Prelude.{Setup, Value, Leads, Reports, Facts, IsHold, IsLine, Loaded, Drawn, Report, Refused}
+use Rattle.egt_probe.specs.Prelude.{IsAdmissible, promotion_place, IsFirstTo, PositionReport, decided_text, missing_text}
 use Rattle.egt_probe.specs.declared.outcome.Outcome.TheVariants as outcomes
 
 -- the next value is one ply nearer

@@ -1,4 +1,4 @@
--- What a table of a library tells of the positions of its class.
+-- The positions of a class by its table in a library.
 use Rattle.std.proofs.Common.{◌≡◌, ℕ, ◌<◌, Bool, IsSome, sym, subst, arith}
 use Rattle.egt_probe.specs.Prelude.{⊎_elim, Contains, Side, Setup, IsAdmissible, children_of, IsOf, IsIndex, Value}
 use Rattle.egt_probe.specs.Prelude.{HasValue, chess, Leads, HasZeroing, Move, TableValue, Metric, Mate, Zeroing, Shows}

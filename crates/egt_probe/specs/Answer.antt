@@ -1,4 +1,4 @@
--- What is answered to a text, line by line.
+-- The answer to a text, line by line.
 use Rattle.std.specs.Prelude.{◌≡◌, ℕ, ◌<◌, ◌≤◌, ◌⊎◌, List, [], ◌∷◌, ◌++◌, length, Option, Result, Ok, Err, MatchBool, IfSome}
 use Rattle.std.specs.Io.KnownBytes.{Appends, IsAtEnd}
 use Rattle.egt_table.specs.Stream.{AppendsFront, risen}

@@ -1,4 +1,4 @@
--- What the calls that are asked of one position tell of it, a fault included.
+-- Answers of the calls that are asked of one position, a fault included.
 use Rattle.std.specs.Prelude.{IsSome, List, Option, Result, Ok, Err}
 use Rattle.egt_board.specs.Setup.{Setup}
 use Rattle.egt_moves.specs.declared.chess_move.Move.{Move}

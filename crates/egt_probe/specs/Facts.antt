@@ -1,4 +1,4 @@
--- What holds of play, texts and classes, by the laws of the crates below.
+-- Laws of play, texts and classes, by the laws of the crates below.
 use Rattle.std.specs.Prelude.{◌≡◌, ℕ, suc, ◌<◌, ◌≤◌, ◌⊎◌, Bool, List}
 use Rattle.egt_moves.specs.Prelude.{Contains, Setup, IsAdmissible, Value, Win, Loss, SomeMove, HasValue, IsMatedWithin}
 use Rattle.egt_moves.specs.Prelude.{MatesWithin, AvoidsMateFor, CannotMateWithin, chess, Leads, HasZeroing}

@@ -1,4 +1,4 @@
--- What is reported of a line: a FEN (PGN standard of 1994, section 16.1), or what stands in its place.
+-- The report of a line: a FEN (PGN standard of 1994, section 16.1), or what stands in its place.
 use Rattle.std.specs.Prelude.{◌≡◌, ℕ, ◌<◌, ◌≤◌, List, length, Option, Some, IsSome}
 use Rattle.egt_fen.specs.Prelude.{Setup, Spells, IsFirstFault}
 use Rattle.egt_board.specs.declared.man.Side.{Side}

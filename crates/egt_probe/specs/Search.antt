@@ -1,4 +1,4 @@
--- What entries of tables tell of a position and of where its moves lead.
+-- A position and those to which its moves lead, by the entries of tables.
 use Rattle.std.specs.Prelude.{◌≢◌, ℕ, ◌<◌}
 use Rattle.egt_moves.specs.Prelude.{Setup, Value, HasValue, chess, Leads, place_of}
 use Rattle.egt_check.specs.Prelude.{Shows}

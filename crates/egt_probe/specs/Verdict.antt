@@ -1,4 +1,4 @@
--- What a verdict claims of a position.
+-- The claim of a verdict on a position.
 use Rattle.std.specs.Prelude.{◌≡◌, ◌≤◌, Bool, true, Option, Some}
 use Rattle.egt_moves.specs.Prelude.{Setup, Value, Draw, HasValue, chess, IsDead, CanMove, HasZeroing}
 use Rattle.egt_board.specs.declared.man.Side.{Side}

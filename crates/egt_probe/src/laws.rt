@@ -1,4 +1,4 @@
-//! What holds of lines of best play and of reports. These functions do nothing: a caller calls one to know what it
+//! Laws of lines of best play and of reports. These functions do nothing: a caller calls one to know what it
 //! ensures.
 ghost use Rattle.std.specs.Prelude.{◌≡◌, ◌≢◌, ℕ, List, ◌∷◌, length, true, Option, Some, Result, Err};
 ghost use Rattle.egt_probe.specs.Prelude.{other_side, Setup, IsAdmissible, Value, MatesWithin, IsMatedWithin};

@@ -1,4 +1,4 @@
-//! What a table tells of a position.
+//! The outcome of a position by its table.
 ghost use Rattle.std.specs.Prelude.{◌≡◌, codes};
 
 use egt_board::Side;

@@ -1,4 +1,4 @@
--- What the code after a step spells: the men who stood there, but for the one who went.
+-- The code after a step spells: the men who stood there, but for the one who went.
 use Rattle.std.proofs.Common.{◌≡◌, ◌≢◌, ℕ, List, [], ◌∷◌, ◌++◌, map, refl, sym, ap, ◌∙◌, inl, inr, subst, arith}
 use Rattle.egt_steps.specs.Prelude.{option_to_list, cases_eq, king_of, men_of, get-insert_other, get-insert_same}
 use Rattle.egt_steps.specs.Prelude.{get-remove_other, get-remove_same, same_men, Man, White, Black, IsListed, AllApart}
@@ -75,4 +75,4 @@ module _ (from to : ℕ) (apart : to ≢ from) where
   both_listed x y = grind arith
 
   pub list_moved : (s : Stand) → list_of (after_of from to s) ≡ moved_list (list_of s)
-  list_moved s = ap (λ l. (king_of White, moved_square from to s.white) ∷ (king_of Black, moved_square from to s.black) ∷ l) (both_listed s.next s.last)
+  list_moved s = ap (λ l. (king_of White, moved_square from to s.white) ∷ (king_of Black, moved_square from to s.black) ∷ l) (both_listed s.first s.last)

@@ -6,7 +6,7 @@ use Rattle.egt_steps.specs.Prelude.{Stands, SettlesTo, Setup, IsAdmissible, rank
 use Rattle.egt_steps.specs.Prelude.{Man, Side, settles_admissible, settles_men, side_twice, sides_differ, ShelfMen}
 use Rattle.egt_steps.specs.Prelude.{is_two_ranks, passed, is_pawn, target_is, Facts, AreTwoRanksApart, LeavesTarget}
 use Rattle.egt_steps.proofs.Leaping.{one_off_home}
-use Rattle.egt_steps.proofs.TwoNonKings.{AreTwo, one_two, who}
+use Rattle.egt_steps.proofs.MenListed.{AreTwo, one_two, who}
 
 -- in an advance by two squares the pawn stands right ahead of the square that he passed
 past_half : (F : ℕ → Type 0) (side : Side) (s t : ℕ) → Advances F side s t → AreTwoRanksApart s t → ahead side ((s + t) / 2) ≡ t
@@ -37,11 +37,11 @@ module _ (men : ShelfMen) (side : Side) (a b t : ℕ) (man : Man) (pawn : men.la
 
   -- a position after the advance
   pub record IsAfter (q : Setup) : Type 0 where
-    pub are : AreTwo q.men men.white men.black men.one a man t
+    pub are : AreTwo q.men men.white men.black men.first a man t
     pub side_is : q.side ≡ other_side side
 
   -- a pawn in it is the first man or this one
-  pawn_on : (q : Setup) (owner : Side) (s : ℕ) → IsAfter q → Stands q.men s (pawn_of owner) → ((s ≡ a) × (pawn_of owner ≡ men.one)) ⊎ ((s ≡ t) × (pawn_of owner ≡ man))
+  pawn_on : (q : Setup) (owner : Side) (s : ℕ) → IsAfter q → Stands q.men s (pawn_of owner) → ((s ≡ a) × (pawn_of owner ≡ men.first)) ⊎ ((s ≡ t) × (pawn_of owner ≡ man))
   pawn_on q owner s is stands = grind (arith, who)
 
   before_half : (q : Setup) → IsAfter q → AreTwoRanksApart b t → ahead (other_side q.side) half ≡ t
@@ -94,7 +94,7 @@ module _ (men : ShelfMen) (side : Side) (a b t : ℕ) (man : Man) (pawn : men.la
 
       same : form.0 ≡ r
       same = λ i. record {
-        men = one_two form.0.men r.men men.white men.black men.one a man t form_after.are after.are i;
+        men = one_two form.0.men r.men men.white men.black men.first a man t form_after.are after.are i;
         side = (form_after.side_is ∙ sym after.side_is) i;
         target = targets form.0.target r.target refl refl i;
       }

@@ -3,7 +3,7 @@ pub mod Still
 pub mod Leaping
 pub mod Fanned
 pub mod Takings
-pub mod TwoNonKings
+pub mod MenListed
 pub mod TakenInPassing
 pub mod PawnCaptures
 pub mod PawnAdvances

@@ -67,7 +67,7 @@ module _ (c : ℕ) (p : Setup) (from to : ℕ) (q : Setup) (moved : IsMoved c p 
   both_listed x y = grind (arith, entry_listed)
 
   list_moved : (before after : Stand) → after.white ≡ moved_square from to before.white → after.black ≡ moved_square from to before.black
-      → after.next ≡ moved_entry from to before.next → after.last ≡ moved_entry from to before.last → map move_one (list_of before) ≡ list_of after
+      → after.first ≡ moved_entry from to before.first → after.last ≡ moved_entry from to before.last → map move_one (list_of before) ≡ list_of after
   list_moved before after white black next last = grind (arith, both_listed)
 
   stood_moved : (flips : Bool) (before after : Stand) → map move_one (list_of before) ≡ list_of after → Stood c flips p.men (list_of before) → Stood c flips q.men (list_of after)
@@ -77,13 +77,13 @@ module _ (c : ℕ) (p : Setup) (from to : ℕ) (q : Setup) (moved : IsMoved c p 
   }
 
 -- the men stand as a move leaves them
-pub stand_moved : (c : ℕ) (flips passed : Bool) (p q : Setup) (from to : ℕ) (before after : Stand) (old side : Side) → HasStand c flips before old passed p → IsMoved c p from to q → IsSettled q
+pub stand_moved : (c : ℕ) (flips targeted : Bool) (p q : Setup) (from to : ℕ) (before after : Stand) (old side : Side) → HasStand c flips before old targeted p → IsMoved c p from to q → IsSettled q
     → side ≡ other_side old → IsMovedStand from to before after → HasStand c flips after side false q
-stand_moved c flips passed p q from to before after old side has moved settled side_is is = record {
+stand_moved c flips targeted p q from to before after old side has moved settled side_is is = record {
   admissible = moved.admissible;
   settled = settled;
   is_of = moved.class flips has.is_of;
-  stood = stood_moved c p from to q moved flips before after (list_moved c p from to q moved before after is.white is.black is.next is.last) has.stood;
+  stood = stood_moved c p from to q moved flips before after (list_moved c p from to q moved before after is.white is.black is.first is.last) has.stood;
   side_is = moved.side ∙ ap other_side has.side_is ∙ sym side_is;
   target_is = ap is_some moved.target;
 }
@@ -93,6 +93,6 @@ abbrev pub after_of : ℕ → ℕ → Stand → Stand
 after_of from to s = record {
   white = moved_square from to s.white;
   black = moved_square from to s.black;
-  next = moved_entry from to s.next;
+  first = moved_entry from to s.first;
   last = moved_entry from to s.last;
 }

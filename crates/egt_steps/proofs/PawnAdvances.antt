@@ -1,19 +1,18 @@
 -- The advances of a pawn lead to the men after them, and to all positions of them.
 use Rattle.std.proofs.Common.{◌≡◌, ◌≢◌, ◌↔◌, ℕ, ◌<◌, if◌then◌else◌, Bool, false, IsTrue, Option}
 use Rattle.std.proofs.Common.{Some, None, refl, sym, ap, ◌∙◌, subst, inl, inr, arith}
-use Rattle.egt_steps.specs.Prelude.{is_some, IsInCheck, king_of, other_side, Advances, ahead, forward, pawn_of}
-use Rattle.egt_steps.specs.Prelude.{Placement, Stands, IsFree, one_man, SettlesTo, Setup, Away, IsTarget, target_rank}
-use Rattle.egt_steps.specs.Prelude.{Kind, P, K, Man, Side, White, Black, settles_men, settles_settled, side_twice}
-use Rattle.egt_steps.specs.Prelude.{sides_differ, HasStand, ShelfMen, Captures, Goes, PawnAdvances, Leads, after}
-use Rattle.egt_steps.specs.Prelude.{men_after, men_left, FitsPromotion, arriving, promotes, Move}
-use Rattle.egt_steps.specs.Prelude.{arriving_side, not_free, target_is, Facts, LeavesTarget, IsAdvance, IsAdvanceFrom}
-use Rattle.egt_steps.specs.Prelude.{IsClassAfter, stand_after, stand_in, IsClear}
+use Rattle.egt_steps.specs.Prelude.{is_some, king_of, forward, pawn_of, Stands, one_man, K, not_free, stand_in, IsClear}
+use Rattle.egt_steps.specs.Prelude.{IsInCheck, other_side, ahead, Placement, SettlesTo, side_twice, men_after, target_is}
+use Rattle.egt_steps.specs.Prelude.{Advances, settles_settled, sides_differ, FitsPromotion, arriving_side, IsAdvanceFrom}
+use Rattle.egt_steps.specs.Prelude.{IsFree, Setup, Away, Kind, Side, White, Black, Goes, Leads, after, Move, Facts}
+use Rattle.egt_steps.specs.Prelude.{IsTarget, P, HasStand, ShelfMen, Captures, men_left, arriving, promotes, IsAdvance}
+use Rattle.egt_steps.specs.Prelude.{target_rank, Man, settles_men, PawnAdvances, LeavesTarget, IsClassAfter, stand_after}
 use Rattle.std.specs.FinMap as placement
 use Rattle.egt_moves.specs.Legal as legal
 use Rattle.egt_steps.proofs.LeftTargets.{IsAfter, settles_so, told}
 use Rattle.egt_steps.proofs.Still.{not_passing}
 use Rattle.egt_steps.proofs.Takings.{arrives, empties, placed, stays}
-use Rattle.egt_steps.proofs.TwoNonKings.{AreTwo, Counting, are_after, are_in, one_two, stands_after}
+use Rattle.egt_steps.proofs.MenListed.{AreTwo, Counting, are_after, are_in, one_two, stands_after}
 use Rattle.egt_moves.proofs.SettledMoves.{advances_from}
 
 -- a pawn goes off the square from which it advances
@@ -31,17 +30,17 @@ arriving_kind man b promo pawn fits king = grind arith
 pub none_of : (o : Option ℕ) → is_some o ≡ false → o ≡ None
 none_of o e = grind arith
 
-module _ (facts : Facts) (counting : Counting) (c : ℕ) (men : ShelfMen) (first : Bool) (side : Side) (passed : Bool) (a b : ℕ) (p : Setup) (one_other : men.one.kind ≢ K) (pawn : men.last.kind ≡ P)
-    (has : HasStand c false (stand_in first men a b) side passed p) where
-  there : AreTwo p.men men.white men.black men.one a men.last b
-  there = are_in c men first side passed a b p has
+module _ (facts : Facts) (counting : Counting) (c : ℕ) (men : ShelfMen) (first : Bool) (side : Side) (targeted : Bool) (a b : ℕ) (p : Setup) (one_other : men.first.kind ≢ K) (pawn : men.last.kind ≡ P)
+    (has : HasStand c false (stand_in first men a b) side targeted p) where
+  there : AreTwo p.men men.white men.black men.first a men.last b
+  there = are_in c men first side targeted a b p has
 
   -- where the pawn goes to a square that is clear
-  moved : (t : ℕ) (man : Man) → IsClear men a t → AreTwo (placed p.men b t man) men.white men.black men.one a man t
+  moved : (t : ℕ) (man : Man) → IsClear men a t → AreTwo (placed p.men b t man) men.white men.black men.first a man t
   moved t man clear = record {
     white_there = stays p.men b t man men.white (king_of White) (λ e. clear.0 (sym e)) (λ e. there.other_white (sym e)) there.white_there;
     black_there = stays p.men b t man men.black (king_of Black) (λ e. clear.1 (sym e)) (λ e. there.other_black (sym e)) there.black_there;
-    one_there = stays p.men b t man a men.one (λ e. clear.2 (sym e)) (λ e. there.apart (sym e)) there.one_there;
+    one_there = stays p.men b t man a men.first (λ e. clear.2 (sym e)) (λ e. there.apart (sym e)) there.one_there;
     other_there = arrives p.men b t man;
     kings_apart = there.kings_apart;
     one_white = there.one_white;
@@ -102,8 +101,8 @@ module _ (facts : Facts) (counting : Counting) (c : ℕ) (men : ShelfMen) (first
         ∙ ap (λ (x : Placement). placed x m.from m.to (arriving leads.man m.promo)) (sym (left_so leads.man m.to unpassed))
         ∙ ap (λ (s : Setup). s.men) (sym leads.becomes)
 
-    are : AreTwo q.men men.white men.black men.one a man m.to
-    are = subst (λ (x : Placement). AreTwo x men.white men.black men.one a man m.to) men_are (moved m.to man (clear_of m.to advances.free))
+    are : AreTwo q.men men.white men.black men.first a man m.to
+    are = subst (λ (x : Placement). AreTwo x men.white men.black men.first a man m.to) men_are (moved m.to man (clear_of m.to advances.free))
 
     is_after : IsAfter men side a b m.to man pawn man_mine (IsFree p.men) advances q
     is_after = record { are = are; side_is = ap (λ (s : Setup). s.side) leads.becomes ∙ ap other_side has.side_is }
@@ -118,7 +117,7 @@ module _ (facts : Facts) (counting : Counting) (c : ℕ) (men : ShelfMen) (first
     same_side r h = grind arith
 
     pub goes : IsAdvance men side a b m.promo m.to
-        × ((d : ℕ) (before flips : Bool) → IsClassAfter before d flips men.one (arriving men.last m.promo)
+        × ((d : ℕ) (before flips : Bool) → IsClassAfter before d flips men.first (arriving men.last m.promo)
         → (left : Bool) × (IsTrue left ↔ LeavesTarget men side a b m.to) × (r : Setup) × SettlesTo q r × HasStand d flips (stand_after before flips men a (arriving men.last m.promo) m.to) (other_side side) left r)
     goes = (
       is_advance,
@@ -128,7 +127,7 @@ module _ (facts : Facts) (counting : Counting) (c : ℕ) (men : ShelfMen) (first
         form.0,
         form.1,
         stands_after counting d before flips men a man m.to (other_side side) (is_some form.0.target) form.0 (facts.settled_admissible q form.0 (facts.step_admissible p q m has.admissible leads) form.1)
-            (subst (λ (x : Placement). AreTwo x men.white men.black men.one a man m.to) (sym (settles_men q form.0 form.1)) are) one_other
+            (subst (λ (x : Placement). AreTwo x men.white men.black men.first a man m.to) (sym (settles_men q form.0 form.1)) are) one_other
             (arriving_kind men.last (promotes men.last m.to) m.promo pawn is_advance.fits) (same_side form.0 form.1 ∙ is_after.side_is) (settles_settled q form.0 form.1) refl class,
       ),
     )
@@ -165,12 +164,12 @@ module _ (facts : Facts) (counting : Counting) (c : ℕ) (men : ShelfMen) (first
         set_there : Stands p.men b (pawn_of (other_side p.side))
         set_there = subst (λ s. Stands p.men s (pawn_of (other_side p.side))) (sym from_there) set.advanced
 
-    r_are : AreTwo r.men men.white men.black men.one a became t
+    r_are : AreTwo r.men men.white men.black men.first a became t
     r_are = are_after d before flips men a became t (other_side side) left r has_after
 
     men_are_so : r.men ≡ men_after p men.last move
     men_are_so =
-        one_two r.men (placed p.men b t became) men.white men.black men.one a became t r_are (moved t became is.advances.free)
+        one_two r.men (placed p.men b t became) men.white men.black men.first a became t r_are (moved t became is.advances.free)
         ∙ ap (λ (x : Placement). placed x b t became) (sym (left_so men.last t (λ kind target. no_target target)))
 
     leads : Leads p move (after p men.last move)
@@ -190,7 +189,7 @@ module _ (facts : Facts) (counting : Counting) (c : ℕ) (men : ShelfMen) (first
     settled : SettlesTo next r
     settled =
         settles_so men side a b t became pawn became_mine (IsFree p.men) goes_there facts next r
-        (record { are = subst (λ (x : Placement). AreTwo x men.white men.black men.one a became t) men_are_so r_are; side_is = ap other_side has.side_is })
+        (record { are = subst (λ (x : Placement). AreTwo x men.white men.black men.first a became t) men_are_so r_are; side_is = ap other_side has.side_is })
         (record { are = r_are; side_is = has_after.side_is })
         (facts.step_admissible p next move has.admissible leads) has_after.admissible refl (subst (λ x. IsTrue x ↔ LeavesTarget men side a b t) (sym has_after.target_is) left_as_told)
 

@@ -2,7 +2,7 @@
 use Rattle.std.proofs.Common.{◌≡◌, ◌≢◌, ℕ, Bool, true, false, Option, Some, None, refl, sym, ap, ◌∙◌, subst, inl, inr}
 use Rattle.std.proofs.Common.{arith}
 use Rattle.egt_steps.specs.Prelude.{IsInCheck, king_of, OneOf, Reaches, Rides, pawn_steps, other_side, ahead, Placement}
-use Rattle.egt_steps.specs.Prelude.{Stands, IsFree, IsHeld, one_man, Setup, Kind, P, K, Man, Side, White, Black}
+use Rattle.egt_steps.specs.Prelude.{Stands, IsFree, IsOccupiedBy, one_man, Setup, Kind, P, K, Man, Side, White, Black}
 use Rattle.egt_steps.specs.Prelude.{side_twice, sides_differ, HasStand, ShelfMen, Goes, Leads, after, is_two_ranks}
 use Rattle.egt_steps.specs.Prelude.{men_after, men_left, passed, FitsPromotion, IsOfficer, arriving, is_pawn, promotes}
 use Rattle.egt_steps.specs.Prelude.{Move, not_free, target_is, Facts, IsPromotingCapture, IsPromotingCaptureFrom}
@@ -13,7 +13,7 @@ use Rattle.egt_steps.proofs.Leaping.{and_false}
 use Rattle.egt_steps.proofs.PawnAdvances.{none_of}
 use Rattle.egt_steps.proofs.Still.{not_passing}
 use Rattle.egt_steps.proofs.Takings.{AreLeft, Telling, are_left, arrives, empties, one_left, placed, stands_left, stays}
-use Rattle.egt_steps.proofs.TwoNonKings.{AreTwo, are_in, who}
+use Rattle.egt_steps.proofs.MenListed.{AreTwo, are_in, who}
 
 -- a pawn attacks squares of the next rank alone, and passes none
 one_rank : (F : ℕ → Type 0) (side : Side) (s t : ℕ) → OneOf (Rides F 1 s t) (pawn_steps side) → is_two_ranks s t ≡ false
@@ -33,9 +33,9 @@ promoted b kind fits = grind arith
 no_king_made : (kind : Kind) → IsOfficer kind → kind ≢ K
 no_king_made kind officer king = subst IsOfficer king officer
 
-module _ (facts : Facts) (telling : Telling) (c : ℕ) (men : ShelfMen) (first : Bool) (side : Side) (passed : Bool) (a b : ℕ) (p : Setup) (pawn : men.last.kind ≡ P) (has : HasStand c false (stand_in first men a b) side passed p) (kind : Kind) where
-  there : AreTwo p.men men.white men.black men.one a men.last b
-  there = are_in c men first side passed a b p has
+module _ (facts : Facts) (telling : Telling) (c : ℕ) (men : ShelfMen) (first : Bool) (side : Side) (targeted : Bool) (a b : ℕ) (p : Setup) (pawn : men.last.kind ≡ P) (has : HasStand c false (stand_in first men a b) side targeted p) (kind : Kind) where
+  there : AreTwo p.men men.white men.black men.first a men.last b
+  there = are_in c men first side targeted a b p has
 
   -- the pawn's side's new man where the first man stood
   abbrev left : Left
@@ -58,7 +58,7 @@ module _ (facts : Facts) (telling : Telling) (c : ℕ) (men : ShelfMen) (first :
 
   -- ---- from the move to the men left
 
-  module _ (q : Setup) (m : Move) (leads : Leads p m q) (from_is : m.from ≡ b) (held : IsHeld p.men m.to (other_side p.side)) (promo_is : m.promo ≡ Some kind) where
+  module _ (q : Setup) (m : Move) (leads : Leads p m q) (from_is : m.from ≡ b) (held : IsOccupiedBy p.men m.to (other_side p.side)) (promo_is : m.promo ≡ Some kind) where
     his : leads.man ≡ men.last
     his = one_man p.men b leads.man men.last (subst (λ s. Stands p.men s leads.man) from_is leads.stands) there.other_there
 
@@ -82,8 +82,8 @@ module _ (facts : Facts) (telling : Telling) (c : ℕ) (men : ShelfMen) (first :
     })
 
     -- the first man is taken
-    taken : (m.to ≡ a) × (held.man ≡ men.one)
-    taken = elim (who p.men men.white men.black men.one a men.last b there m.to held.man held.stands) [
+    taken : (m.to ≡ a) × (held.man ≡ men.first)
+    taken = elim (who p.men men.white men.black men.first a men.last b there m.to held.man held.stands) [
       | inl h ↦ absurd (no_king White h.1)
       | inr rest ↦ elim rest [
         | inl h ↦ absurd (no_king Black h.1)
@@ -140,8 +140,8 @@ module _ (facts : Facts) (telling : Telling) (c : ℕ) (men : ShelfMen) (first :
     abbrev move : Move
     move = record { from = b; to = a; promo = Some kind }
 
-    held_there : IsHeld p.men a (other_side p.side)
-    held_there = record { man = men.one; stands = there.one_there; theirs = is.theirs ∙ ap other_side (sym has.side_is) }
+    held_there : IsOccupiedBy p.men a (other_side p.side)
+    held_there = record { man = men.first; stands = there.one_there; theirs = is.theirs ∙ ap other_side (sym has.side_is) }
 
     reaches : Reaches (IsFree p.men) men.last b a
     reaches = takes_bare men.last pawn b a (IsPastKings men) (IsFree p.men) is.reaches
@@ -150,7 +150,7 @@ module _ (facts : Facts) (telling : Telling) (c : ℕ) (men : ShelfMen) (first :
     men_are_so =
         one_left q.men (placed p.men b a (officer_of side kind)) left (are_left d flips left (other_side side) q has_left) takes_so
         ∙ ap (λ (s : Side). placed p.men b a (officer_of s kind)) (sym is.mine)
-        ∙ ap (λ (x : Placement). placed x b a (officer_of men.last.side kind)) (sym (left_so men.last men.one a there.one_there))
+        ∙ ap (λ (x : Placement). placed x b a (officer_of men.last.side kind)) (sym (left_so men.last men.first a there.one_there))
 
     turn : q.side ≡ other_side p.side
     turn = has_left.side_is ∙ ap other_side (sym has.side_is)

@@ -1,6 +1,6 @@
 -- The quiet moves of three men lead to the men after quiet steps, and to all of them that are positions; and where no move zeroes.
 use Rattle.std.proofs.Common.{arith, ◌≡◌, ◌≢◌, ℕ, ◌<◌, ◌⊎◌, Bool, false, Some, refl, sym, ap, ◌∙◌, subst, inl, inr}
-use Rattle.egt_steps.specs.Prelude.{bit_at, king_of, Reaches, Reaches-free, other_side, sides_differ, IsFree, IsHeld}
+use Rattle.egt_steps.specs.Prelude.{bit_at, king_of, Reaches, Reaches-free, other_side, sides_differ, IsFree, IsOccupiedBy}
 use Rattle.egt_steps.specs.Prelude.{one_man, Setup, P, Man, Side, White, Black, IsListed, AllStand, HasStand, IsOff}
 use Rattle.egt_steps.specs.Prelude.{list_of, IsMovedStand, ShelfMen, Stand, Zeroes, Leads, Move}
 use Rattle.egt_steps.specs.Prelude.{king_of_men, with_king, Facts, IsPastKings, IsQuietAlone, NoneZeroes, stand_alone}
@@ -9,7 +9,7 @@ use Rattle.egt_steps.proofs.QuietSteps.{Following, king_piece, stayed, steps, we
 use Rattle.egt_steps.proofs.Still.{KeepsClass}
 use Rattle.egt_steps.proofs.Takings.{no_king_taken, taking_reaches}
 
-module _ (facts : Facts) (keeps : KeepsClass) (follow : Following) (c : ℕ) (class_in : c < 36) (men : ShelfMen) (side : Side) (passed : Bool) (s : ℕ) (p : Setup) (has : HasStand c false (stand_alone men s) side passed p) where
+module _ (facts : Facts) (keeps : KeepsClass) (follow : Following) (c : ℕ) (class_in : c < 36) (men : ShelfMen) (side : Side) (targeted : Bool) (s : ℕ) (p : Setup) (has : HasStand c false (stand_alone men s) side targeted p) where
   abbrev here : Stand
   here = stand_alone men s
 
@@ -21,13 +21,13 @@ module _ (facts : Facts) (keeps : KeepsClass) (follow : Following) (c : ℕ) (cl
   king_moves White k = record {
     white = sym (went men.white k men.white refl);
     black = sym (stayed men.white k men.black apart.2.0);
-    next = ap (λ t. Some (men.last, t)) (sym (stayed men.white k s apart.2.1.0));
+    first = ap (λ t. Some (men.last, t)) (sym (stayed men.white k s apart.2.1.0));
     last = refl;
   }
   king_moves Black k = record {
     white = sym (stayed men.black k men.white (λ e. apart.2.0 (sym e)));
     black = sym (went men.black k men.black refl);
-    next = ap (λ t. Some (men.last, t)) (sym (stayed men.black k s apart.3.2.0));
+    first = ap (λ t. Some (men.last, t)) (sym (stayed men.black k s apart.3.2.0));
     last = refl;
   }
 
@@ -40,11 +40,11 @@ module _ (facts : Facts) (keeps : KeepsClass) (follow : Following) (c : ℕ) (cl
 
   pub comes : (q : Setup) (stand : Stand) → IsQuietAlone men side s stand → HasStand c false stand (other_side side) false q → (m : Move) × Leads p m q × ¬ Zeroes p m
   comes q stand (inl (k, beside, is)) there =
-      steps facts keeps follow c class_in here side passed p has (king_of side) (king_of_men men side) (king_listed side) refl (king_piece side) (IsOff (list_of here)) (λ u off other. off) k
+      steps facts keeps follow c class_in here side targeted p has (king_of side) (king_of_men men side) (king_listed side) refl (king_piece side) (IsOff (list_of here)) (λ u off other. off) k
       (king_reaches (λ u. bit_at 0 u ≡ 0) (IsOff (list_of here)) (king_of side) (king_of_men men side) k refl beside.1) (stand_alone (with_king men side k) s) (king_moves side k) q
       (subst (λ (x : Stand). HasStand c false x (other_side side) false q) is there)
   comes q stand (inr (of, piece, t, t_in, reaches, is)) there =
-      steps facts keeps follow c class_in here side passed p has men.last s (inr (inr (inl (refl, refl)))) of piece (IsPastKings men) (λ u past other. ((λ e. past.0 (sym e)), ((λ e. past.1 (sym e)), ((λ e. other (sym e)), tt)))) t reaches
+      steps facts keeps follow c class_in here side targeted p has men.last s (inr (inr (inl (refl, refl)))) of piece (IsPastKings men) (λ u past other. ((λ e. past.0 (sym e)), ((λ e. past.1 (sym e)), ((λ e. other (sym e)), tt)))) t reaches
       (stand_alone men t) (man_moves t) q (subst (λ (x : Stand). HasStand c false x (other_side side) false q) is there)
 
   module _ (q : Setup) (m : Move) (leads : Leads p m q) where
@@ -56,7 +56,7 @@ module _ (facts : Facts) (keeps : KeepsClass) (follow : Following) (c : ℕ) (cl
     Mover x = ((king_of x ≡ leads.man) × (king_of_men men x ≡ m.from)) ⊎ ((men.last ≡ leads.man) × (s ≡ m.from))
 
     mover : Mover side
-    mover = of_man ((follow.listed c here side passed p m.from leads.man has).0 leads.stands)
+    mover = of_man ((follow.listed c here side targeted p m.from leads.man has).0 leads.stands)
       where
         some_king : (x : Side) → king_of x ≡ leads.man → king_of_men men x ≡ m.from → Mover side
         some_king x is at = subst Mover (ap (λ (man : Man). man.side) is ∙ own) (inl (is, at))
@@ -70,10 +70,10 @@ module _ (facts : Facts) (keeps : KeepsClass) (follow : Following) (c : ℕ) (cl
     pub goes : ¬ Zeroes p m → (stand : Stand) × IsQuietAlone men side s stand × HasStand c false stand (other_side side) false q
     goes keeps_count = elim mover [
       | inl k ↦
-          let w = went_to facts keeps follow c class_in here side passed p has q m leads keeps_count (king_of side) (king_of_men men side) k.0 k.1 (stand_alone (with_king men side m.to) s) (king_moves side m.to) in
+          let w = went_to facts keeps follow c class_in here side targeted p has q m leads keeps_count (king_of side) (king_of_men men side) k.0 k.1 (stand_alone (with_king men side m.to) s) (king_moves side m.to) in
           (stand_alone (with_king men side m.to) s, inl (m.to, (w.on_board, king_reaches (IsOff (list_of here)) (λ u. bit_at 0 u ≡ 0) (king_of side) (king_of_men men side) m.to refl w.reaches), refl), w.there)
       | inr k ↦
-          let w = went_to facts keeps follow c class_in here side passed p has q m leads keeps_count men.last s k.0 k.1 (stand_alone men m.to) (man_moves m.to) in
+          let w = went_to facts keeps follow c class_in here side targeted p has q m leads keeps_count men.last s k.0 k.1 (stand_alone men m.to) (man_moves m.to) in
           let past = Reaches-free (IsOff (list_of here)) (IsPastKings men) men.last s m.to (λ u u_in o. ((λ e. o.0 (sym e)), (λ e. o.1.0 (sym e)))) w.reaches in
           (stand_alone men m.to, inr (w.own, w.piece, m.to, w.on_board, past, refl), w.there)
     ]
@@ -88,7 +88,7 @@ module _ (facts : Facts) (keeps : KeepsClass) (follow : Following) (c : ℕ) (cl
         | inr k ↦ none.own (ap (λ (x : Man). x.side) k.0 ∙ own) (ap (λ (x : Man). x.kind) (k.0 ∙ same) ∙ pawn)
       ]
 
-      module _ (held : IsHeld p.men m.to (other_side p.side)) where
+      module _ (held : IsOccupiedBy p.men m.to (other_side p.side)) where
         reached : (man : Man) (from : ℕ) → man ≡ leads.man → from ≡ m.from → Reaches (IsFree p.men) man from m.to
         reached man from is at = subst (λ (x : Man). Reaches (IsFree p.men) x from m.to) (sym is) (subst (λ u. Reaches (IsFree p.men) leads.man u m.to) (sym at) (taking_reaches p leads.man m.from m.to held leads.goes))
 
@@ -110,5 +110,5 @@ module _ (facts : Facts) (keeps : KeepsClass) (follow : Following) (c : ℕ) (cl
         nobody_taken (inr (inr (inr never))) = absurd never
 
       pub none_zeroes : ¬ Zeroes p m
-      none_zeroes (inl held) = nobody_taken held ((follow.listed c here side passed p m.to held.man has).0 held.stands)
+      none_zeroes (inl held) = nobody_taken held ((follow.listed c here side targeted p m.to held.man has).0 held.stands)
       none_zeroes (inr pawn) = no_pawn pawn.man (one_man p.men m.from leads.man pawn.man leads.stands pawn.stands) pawn.pawn

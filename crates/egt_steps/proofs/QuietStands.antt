@@ -7,7 +7,7 @@ use Rattle.egt_steps.proofs.Fanned.{king_reaches}
 use Rattle.egt_steps.proofs.QuietSteps.{Following, king_piece, stayed, steps, went, went_to}
 use Rattle.egt_steps.proofs.Still.{KeepsClass}
 
-module _ (facts : Facts) (keeps : KeepsClass) (follow : Following) (c : ℕ) (class_in : c < 36) (men : ShelfMen) (side : Side) (passed : Bool) (a b : ℕ) (p : Setup) (has : HasStand c false (stand_on men a b) side passed p) where
+module _ (facts : Facts) (keeps : KeepsClass) (follow : Following) (c : ℕ) (class_in : c < 36) (men : ShelfMen) (side : Side) (targeted : Bool) (a b : ℕ) (p : Setup) (has : HasStand c false (stand_on men a b) side targeted p) where
   abbrev pub here : Stand
   here = stand_on men a b
 
@@ -40,7 +40,7 @@ module _ (facts : Facts) (keeps : KeepsClass) (follow : Following) (c : ℕ) (cl
   white_moves k = record {
     white = sym (went men.white k men.white refl);
     black = sym (stayed men.white k men.black black_not_white);
-    next = ap (λ s. Some (men.one, s)) (sym (stayed men.white k a one_not_white));
+    first = ap (λ s. Some (men.first, s)) (sym (stayed men.white k a one_not_white));
     last = ap (λ s. Some (men.last, s)) (sym (stayed men.white k b last_not_white));
   }
 
@@ -48,7 +48,7 @@ module _ (facts : Facts) (keeps : KeepsClass) (follow : Following) (c : ℕ) (cl
   black_moves k = record {
     white = sym (stayed men.black k men.white (λ e. black_not_white (sym e)));
     black = sym (went men.black k men.black refl);
-    next = ap (λ s. Some (men.one, s)) (sym (stayed men.black k a one_not_black));
+    first = ap (λ s. Some (men.first, s)) (sym (stayed men.black k a one_not_black));
     last = ap (λ s. Some (men.last, s)) (sym (stayed men.black k b last_not_black));
   }
 
@@ -56,7 +56,7 @@ module _ (facts : Facts) (keeps : KeepsClass) (follow : Following) (c : ℕ) (cl
   one_moves t = record {
     white = sym (stayed a t men.white (λ e. one_not_white (sym e)));
     black = sym (stayed a t men.black (λ e. one_not_black (sym e)));
-    next = ap (λ s. Some (men.one, s)) (sym (went a t a refl));
+    first = ap (λ s. Some (men.first, s)) (sym (went a t a refl));
     last = ap (λ s. Some (men.last, s)) (sym (stayed a t b last_not_one));
   }
 
@@ -64,7 +64,7 @@ module _ (facts : Facts) (keeps : KeepsClass) (follow : Following) (c : ℕ) (cl
   last_moves t = record {
     white = sym (stayed b t men.white (λ e. last_not_white (sym e)));
     black = sym (stayed b t men.black (λ e. last_not_black (sym e)));
-    next = ap (λ s. Some (men.one, s)) (sym (stayed b t a (λ e. last_not_one (sym e))));
+    first = ap (λ s. Some (men.first, s)) (sym (stayed b t a (λ e. last_not_one (sym e))));
     last = ap (λ s. Some (men.last, s)) (sym (went b t b refl));
   }
 
@@ -80,14 +80,14 @@ module _ (facts : Facts) (keeps : KeepsClass) (follow : Following) (c : ℕ) (cl
 
   pub comes : (q : Setup) (stand : Stand) → IsQuietStand men side a b stand → HasStand c false stand (other_side side) false q → (m : Move) × Leads p m q × ¬ Zeroes p m
   comes q stand (inl (k, beside, is)) there =
-      steps facts keeps follow c class_in here side passed p has (king_of side) (king_of_men men side) (king_listed side) refl (king_piece side) (IsOff (list_of here)) (λ u off other. off) k
+      steps facts keeps follow c class_in here side targeted p has (king_of side) (king_of_men men side) (king_listed side) refl (king_piece side) (IsOff (list_of here)) (λ u off other. off) k
       (king_reaches (λ u. bit_at 0 u ≡ 0) (IsOff (list_of here)) (king_of side) (king_of_men men side) k refl beside.1) (stand_on (with_king men side k) a b) (king_moves side k) q
       (subst (λ (s : Stand). HasStand c false s (other_side side) false q) is there)
   comes q stand (inr (inl (of, piece, t, t_in, reaches, is))) there =
-      steps facts keeps follow c class_in here side passed p has men.one a (inr (inr (inl (refl, refl)))) of piece (IsClear men b) (λ u clear other. ((λ e. clear.0 (sym e)), ((λ e. clear.1 (sym e)), ((λ e. other (sym e)), ((λ e. clear.2 (sym e)), tt))))) t reaches
+      steps facts keeps follow c class_in here side targeted p has men.first a (inr (inr (inl (refl, refl)))) of piece (IsClear men b) (λ u clear other. ((λ e. clear.0 (sym e)), ((λ e. clear.1 (sym e)), ((λ e. other (sym e)), ((λ e. clear.2 (sym e)), tt))))) t reaches
       (stand_on men t b) (one_moves t) q (subst (λ (s : Stand). HasStand c false s (other_side side) false q) is there)
   comes q stand (inr (inr (of, piece, t, t_in, reaches, is))) there =
-      steps facts keeps follow c class_in here side passed p has men.last b (inr (inr (inr (inl (refl, refl))))) of piece (IsClear men a) (λ u clear other. ((λ e. clear.0 (sym e)), ((λ e. clear.1 (sym e)), ((λ e. clear.2 (sym e)), ((λ e. other (sym e)), tt))))) t reaches
+      steps facts keeps follow c class_in here side targeted p has men.last b (inr (inr (inr (inl (refl, refl))))) of piece (IsClear men a) (λ u clear other. ((λ e. clear.0 (sym e)), ((λ e. clear.1 (sym e)), ((λ e. clear.2 (sym e)), ((λ e. other (sym e)), tt))))) t reaches
       (stand_on men a t) (last_moves t) q (subst (λ (s : Stand). HasStand c false s (other_side side) false q) is there)
 
   module _ (q : Setup) (m : Move) (leads : Leads p m q) (keeps_count : ¬ Zeroes p m) where
@@ -97,31 +97,31 @@ module _ (facts : Facts) (keeps : KeepsClass) (follow : Following) (c : ℕ) (cl
     -- that king goes, so that it is his side's move
     by_king : (s : Side) → king_of s ≡ leads.man → king_of_men men s ≡ m.from → Result side
     by_king s is at =
-        let w = went_to facts keeps follow c class_in here side passed p has q m leads keeps_count (king_of s) (king_of_men men s) is at (stand_on (with_king men s m.to) a b) (king_moves s m.to) in
+        let w = went_to facts keeps follow c class_in here side targeted p has q m leads keeps_count (king_of s) (king_of_men men s) is at (stand_on (with_king men s m.to) a b) (king_moves s m.to) in
         subst Result w.own (
           stand_on (with_king men s m.to) a b,
           inl (m.to, (w.on_board, king_reaches (IsOff (list_of here)) (λ u. bit_at 0 u ≡ 0) (king_of s) (king_of_men men s) m.to refl w.reaches), refl),
           w.there,
         )
 
-    one_goes : men.one ≡ leads.man → a ≡ m.from → Result side
+    one_goes : men.first ≡ leads.man → a ≡ m.from → Result side
     one_goes is at =
-        let w = went_to facts keeps follow c class_in here side passed p has q m leads keeps_count men.one a is at (stand_on men m.to b) (one_moves m.to) in (
+        let w = went_to facts keeps follow c class_in here side targeted p has q m leads keeps_count men.first a is at (stand_on men m.to b) (one_moves m.to) in (
           stand_on men m.to b,
-          inr (inl (w.own, w.piece, m.to, w.on_board, Reaches-free (IsOff (list_of here)) (IsClear men b) men.one a m.to (λ u u_in o. ((λ e. o.0 (sym e)), (λ e. o.1.0 (sym e)), (λ e. o.1.1.1.0 (sym e)))) w.reaches, refl)),
+          inr (inl (w.own, w.piece, m.to, w.on_board, Reaches-free (IsOff (list_of here)) (IsClear men b) men.first a m.to (λ u u_in o. ((λ e. o.0 (sym e)), (λ e. o.1.0 (sym e)), (λ e. o.1.1.1.0 (sym e)))) w.reaches, refl)),
           w.there,
         )
 
     last_goes : men.last ≡ leads.man → b ≡ m.from → Result side
     last_goes is at =
-        let w = went_to facts keeps follow c class_in here side passed p has q m leads keeps_count men.last b is at (stand_on men a m.to) (last_moves m.to) in (
+        let w = went_to facts keeps follow c class_in here side targeted p has q m leads keeps_count men.last b is at (stand_on men a m.to) (last_moves m.to) in (
           stand_on men a m.to,
           inr (inr (w.own, w.piece, m.to, w.on_board, Reaches-free (IsOff (list_of here)) (IsClear men a) men.last b m.to (λ u u_in o. ((λ e. o.0 (sym e)), (λ e. o.1.0 (sym e)), (λ e. o.1.1.0 (sym e)))) w.reaches, refl)),
           w.there,
         )
 
     pub goes : Result side
-    goes = of_man ((follow.listed c here side passed p m.from leads.man has).0 leads.stands)
+    goes = of_man ((follow.listed c here side targeted p m.from leads.man has).0 leads.stands)
       where
         of_man : IsListed (list_of here) leads.man m.from → Result side
         of_man (inl k) = by_king White k.0 k.1

@@ -11,10 +11,10 @@ use Rattle.egt_steps.proofs.Still.{KeepsClass, is_moved}
 
 -- how stands follow moves, by the law of egt_index
 pub record Following : Type 0 where
-  pub listed : (c : ℕ) (stand : Stand) (side : Side) (passed : Bool) (p : Setup) (s : ℕ) (man : Man) → HasStand c false stand side passed p → Stands p.men s man ↔ IsListed (list_of stand) man s
-  pub free : (c : ℕ) (stand : Stand) (side : Side) (passed : Bool) (p : Setup) (s : ℕ) → HasStand c false stand side passed p → IsFree p.men s ↔ IsOff (list_of stand) s
-  pub moved : (c from to : ℕ) (p q : Setup) (stand after : Stand) (side : Side) (passed : Bool) → HasStand c false stand side passed p → IsMovedStand from to stand after → IsMoved c p from to q → HasStand c false after (other_side side) false q
-  pub back : (c from to : ℕ) (p q : Setup) (man : Man) (stand after : Stand) (side : Side) (passed : Bool) → c < 36 → to < 64 → to ≢ from → Stands p.men from man → HasStand c false stand side passed p → IsMovedStand from to stand after
+  pub listed : (c : ℕ) (stand : Stand) (side : Side) (targeted : Bool) (p : Setup) (s : ℕ) (man : Man) → HasStand c false stand side targeted p → Stands p.men s man ↔ IsListed (list_of stand) man s
+  pub free : (c : ℕ) (stand : Stand) (side : Side) (targeted : Bool) (p : Setup) (s : ℕ) → HasStand c false stand side targeted p → IsFree p.men s ↔ IsOff (list_of stand) s
+  pub moved : (c from to : ℕ) (p q : Setup) (stand after : Stand) (side : Side) (targeted : Bool) → HasStand c false stand side targeted p → IsMovedStand from to stand after → IsMoved c p from to q → HasStand c false after (other_side side) false q
+  pub back : (c from to : ℕ) (p q : Setup) (man : Man) (stand after : Stand) (side : Side) (targeted : Bool) → c < 36 → to < 64 → to ≢ from → Stands p.men from man → HasStand c false stand side targeted p → IsMovedStand from to stand after
       → HasStand c false after (other_side side) false q → IsMoved c p from to q
   pub quiet_moved : (c : ℕ) (p q : Setup) (m : Move) → IsAdmissible p → Leads p m q → ¬ Zeroes p m → IsMoved c p m.from m.to q
 
@@ -41,19 +41,19 @@ pub record Went (c : ℕ) (here : Stand) (side : Side) (man : Man) (from to : �
   pub reaches : Reaches (IsOff (list_of here)) man from to
   pub there : HasStand c false after (other_side side) false q
 
-module _ (facts : Facts) (keeps : KeepsClass) (follow : Following) (c : ℕ) (class_in : c < 36) (here : Stand) (side : Side) (passed : Bool) (p : Setup) (has : HasStand c false here side passed p) where
+module _ (facts : Facts) (keeps : KeepsClass) (follow : Following) (c : ℕ) (class_in : c < 36) (here : Stand) (side : Side) (targeted : Bool) (p : Setup) (has : HasStand c false here side targeted p) where
   stands : (s : ℕ) (man : Man) → IsListed (list_of here) man s → Stands p.men s man
-  stands s man listed = (follow.listed c here side passed p s man has).1 listed
+  stands s man listed = (follow.listed c here side targeted p s man has).1 listed
 
   -- ---- a step of a man to where a position has him
 
   module _ (man : Man) (from : ℕ) (listed : IsListed (list_of here) man from) (of : man.side ≡ side) (piece : man.kind ≢ P) (F : ℕ → Type 0) (clear : (u : ℕ) → F u → u ≢ from → IsOff (list_of here) u)
       (to : ℕ) (reaches : Reaches F man from to) (after : Stand) (moves : IsMovedStand from to here after) (q : Setup) (there : HasStand c false after (other_side side) false q) where
     gone : IsMoved c p from to q
-    gone = follow.back c from to p q man here after side passed class_in (Reaches-on_board F man from to reaches) (departs F man from to reaches).0 (stands from man listed) has moves there
+    gone = follow.back c from to p q man here after side targeted class_in (Reaches-on_board F man from to reaches) (departs F man from to reaches).0 (stands from man listed) has moves there
 
     past_free : Reaches (IsFree p.men) man from to
-    past_free = Reaches-free (λ u. (u ≢ from) × F u) (IsFree p.men) man from to (λ u u_in is. (follow.free c here side passed p u has).1 (clear u is.1 is.0)) (departs F man from to reaches).1
+    past_free = Reaches-free (λ u. (u ≢ from) × F u) (IsFree p.men) man from to (λ u u_in is. (follow.free c here side targeted p u has).1 (clear u is.1 is.0)) (departs F man from to reaches).1
 
     safe : ¬ IsInCheck (map.insert (map.remove p.men from) to man) p.side
     safe check =
@@ -92,7 +92,7 @@ module _ (facts : Facts) (keeps : KeepsClass) (follow : Following) (c : ℕ) (cl
         on_board = moved.on_board;
         own = ap (λ (x : Man). x.side) is ∙ leads.mine ∙ has.side_is;
         piece = piece_is;
-        reaches = Reaches-free (IsFree p.men) (IsOff (list_of here)) man from m.to (λ u u_in free. (follow.free c here side passed p u has).0 free)
+        reaches = Reaches-free (IsFree p.men) (IsOff (list_of here)) man from m.to (λ u u_in free. (follow.free c here side targeted p u has).0 free)
             (reached (subst (λ (x : Man). Goes p x from m.to) (sym is) (subst (λ s. Goes p leads.man s m.to) (sym at) leads.goes)));
-        there = follow.moved c from m.to p q here after side passed has moves (subst (λ s. IsMoved c p s m.to q) (sym at) moved);
+        there = follow.moved c from m.to p q here after side targeted has moves (subst (λ s. IsMoved c p s m.to q) (sym at) moved);
       }

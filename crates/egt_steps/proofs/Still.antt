@@ -1,7 +1,7 @@
 -- A move that does not zero takes one man to a free square, and changes nothing else on the board.
 use Rattle.std.proofs.Common.{◌≡◌, ◌≢◌, ℕ, ◌+◌, ◌/◌, if◌then◌else◌, ◌&&◌, Bool, true, false, Option, Some, None, refl}
 use Rattle.std.proofs.Common.{ap, ◌∙◌, inl, inr, ◌⊎◌, subst, ◌||◌, arith}
-use Rattle.egt_steps.specs.Prelude.{Kind, P, Man, other_side, Placement, Stands, IsFree, get-insert_same, IsHeld}
+use Rattle.egt_steps.specs.Prelude.{Kind, P, Man, other_side, Placement, Stands, IsFree, get-insert_same, IsOccupiedBy}
 use Rattle.egt_steps.specs.Prelude.{one_man, Setup, IsAdmissible, ahead, IsOf, IsMoved, Zeroes, IsPawnOn, Captures}
 use Rattle.egt_steps.specs.Prelude.{Goes, Leads, men_left, is_target, is_two_ranks, IsLegal, plain, passed, is_pawn}
 use Rattle.egt_steps.specs.Prelude.{FitsPromotion, Move, IsLegalTarget, IsQuietTarget}
@@ -57,7 +57,7 @@ module _ (p : Setup) (from t : ℕ) (man : Man) (stands : Stands p.men from man)
   piece_plain piece m is to legal = piece_promo p legal.0 m legal.1 (λ pawn. piece (ap (λ (x : Man). x.kind) (man_is legal.0 m is legal.1) ∙ pawn))
 
   -- a piece's move to a square where no enemy stands
-  pub quiet_piece : man.kind ≢ P → ¬ IsHeld p.men t (other_side p.side) → IsLegalTarget p from t → IsQuietTarget p false from t
+  pub quiet_piece : man.kind ≢ P → ¬ IsOccupiedBy p.men t (other_side p.side) → IsLegalTarget p from t → IsQuietTarget p false from t
   quiet_piece piece free target = record {
     legal = plain_legal (piece_plain piece) target;
     only = λ m is to legal. same_move m is to (piece_plain piece m is to legal);

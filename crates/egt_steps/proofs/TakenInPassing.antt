@@ -1,20 +1,19 @@
 -- The captures in passing lead to the three men who are left, and to all positions of them.
 use Rattle.std.proofs.Common.{◌≡◌, ◌≢◌, ℕ, ◌<◌, ◌&&◌, if◌then◌else◌, Bool, true, false, Option, Some, None, IfSome}
 use Rattle.std.proofs.Common.{refl, sym, ap, ◌∙◌, subst, inl, inr, arith}
-use Rattle.egt_steps.specs.Prelude.{is_some, cases_eq, eq-eqb, IsInCheck, king_of, decided_held, Reaches, other_side}
-use Rattle.egt_steps.specs.Prelude.{ahead, pawn_of, Placement, Stands, IsFree, IsHeld, get-remove_other}
-use Rattle.egt_steps.specs.Prelude.{get-remove_same, one_man, Setup, rank_of, IsTarget, target_rank, Kind, P, K, Man}
-use Rattle.egt_steps.specs.Prelude.{Side, White, Black, side_twice, sides_differ, HasStand, ShelfMen, Stand, Goes}
-use Rattle.egt_steps.specs.Prelude.{Leads, after, is_target, men_after, men_left, FitsPromotion, IsOfficer, arriving}
-use Rattle.egt_steps.specs.Prelude.{is_pawn, promotes, Move, not_free, target_is, Facts, IsOfFourKinds}
-use Rattle.egt_steps.specs.Prelude.{IsPassingCapture, IsPassingFrom, stand_in, IsClassOf, IsPastKings, Left, left_of}
-use Rattle.egt_steps.specs.Prelude.{stand_left}
+use Rattle.egt_steps.specs.Prelude.{is_some, king_of, Reaches, pawn_of, one_man, arriving, promotes, not_free, stand_in}
+use Rattle.egt_steps.specs.Prelude.{cases_eq, IsTarget, HasStand, ShelfMen, men_left, IsOfficer, target_is, IsClassOf}
+use Rattle.egt_steps.specs.Prelude.{eq-eqb, ahead, Stands, IsFree, Setup, rank_of, White, Black, Stand, is_pawn, left_of}
+use Rattle.egt_steps.specs.Prelude.{IsInCheck, other_side, Placement, Kind, side_twice, is_target, men_after, stand_left}
+use Rattle.egt_steps.specs.Prelude.{decided_held, IsOccupiedBy, target_rank, K, sides_differ, IsPassingFrom, IsPastKings}
+use Rattle.egt_steps.specs.Prelude.{get-remove_other, get-remove_same, P, FitsPromotion, IsOfFourKinds, IsPassingCapture}
+use Rattle.egt_steps.specs.Prelude.{Man, Side, Goes, Leads, after, Move, Facts, Left}
 use Rattle.std.specs.FinMap as placement
 use Rattle.egt_steps.proofs.PawnAdvances.{none_of}
 use Rattle.egt_steps.proofs.PawnCaptures.{takes_bare, takes_unpassed}
 use Rattle.egt_steps.proofs.Still.{no_promotion}
 use Rattle.egt_steps.proofs.Takings.{AreLeft, Telling, are_left, arrives, empties, not_promoting, one_left, placed, stands_left, stays}
-use Rattle.egt_steps.proofs.TwoNonKings.{AreTwo, are_in, who}
+use Rattle.egt_steps.proofs.MenListed.{AreTwo, are_in, who}
 use Rattle.egt_moves.proofs.SettledMoves.{advances_from}
 
 -- a target is on no last rank
@@ -29,7 +28,7 @@ some_of : (o : Option ℕ) → is_some o ≡ true → (t : ℕ) × (o ≡ Some t
 some_of o e = grind arith
 
 module _ (facts : Facts) (telling : Telling) (c : ℕ) (men : ShelfMen) (first : Bool) (side : Side) (a b : ℕ) (p : Setup) (pawn : men.last.kind ≡ P) (has : HasStand c false (stand_in first men a b) side true p) where
-  there : AreTwo p.men men.white men.black men.one a men.last b
+  there : AreTwo p.men men.white men.black men.first a men.last b
   there = are_in c men first side true a b p has
 
   -- the square that the first man has just passed
@@ -42,7 +41,7 @@ module _ (facts : Facts) (telling : Telling) (c : ℕ) (men : ShelfMen) (first :
       target : p.target ≡ Some to
       is : IsTarget p.men p.side to
       back : ahead (other_side p.side) to ≡ a
-      enemy : pawn_of (other_side p.side) ≡ men.one
+      enemy : pawn_of (other_side p.side) ≡ men.first
 
     set : IsSet
     set = by_target (some_of p.target has.target_is)
@@ -61,8 +60,8 @@ module _ (facts : Facts) (telling : Telling) (c : ℕ) (men : ShelfMen) (first :
             is : IsTarget p.men p.side t
             is = target_is p t has.admissible e
 
-            setter : (ahead (other_side p.side) t ≡ a) × (pawn_of (other_side p.side) ≡ men.one)
-            setter = elim (who p.men men.white men.black men.one a men.last b there _ _ is.advanced) [
+            setter : (ahead (other_side p.side) t ≡ a) × (pawn_of (other_side p.side) ≡ men.first)
+            setter = elim (who p.men men.white men.black men.first a men.last b there _ _ is.advanced) [
               | inl h ↦ absurd (no_king White h.1)
               | inr rest ↦ elim rest [
                 | inl h ↦ absurd (no_king Black h.1)
@@ -76,7 +75,7 @@ module _ (facts : Facts) (telling : Telling) (c : ℕ) (men : ShelfMen) (first :
             here : t ≡ to
             here = sym (ahead_back p.side t is.rank) ∙ ap (ahead p.side) setter.0 ∙ ap (λ (s : Side). ahead s a) has.side_is
 
-    theirs : men.one.side ≡ other_side side
+    theirs : men.first.side ≡ other_side side
     theirs = ap (λ (x : Man). x.side) (sym set.enemy) ∙ ap other_side has.side_is
 
     -- ---- the men left
@@ -223,13 +222,13 @@ four_kinds p q b m leads from_is = elim (decided_held p.men m.to (other_side p.s
     officer : (o : Option Kind) → m.promo ≡ o → IfSome o IsOfficer
     officer o e = grind arith
 
-    by_promotion : (o : Option Kind) → m.promo ≡ o → IsHeld p.men m.to (other_side p.side) → IsOfFourKinds p b m
+    by_promotion : (o : Option Kind) → m.promo ≡ o → IsOccupiedBy p.men m.to (other_side p.side) → IsOfFourKinds p b m
     by_promotion h0 e held = grind (arith, officer)
 
-    advancing : ¬ IsHeld p.men m.to (other_side p.side) → p.target ≢ Some m.to → IsOfFourKinds p b m
+    advancing : ¬ IsOccupiedBy p.men m.to (other_side p.side) → p.target ≢ Some m.to → IsOfFourKinds p b m
     advancing free apart = inl (record { from = from_is; quiet = λ captures. elim captures [ inl held ↦ free held | inr passing ↦ apart passing.1 ]; promo_is = refl }, officer m.promo refl)
 
-    by_target : (o : Option ℕ) → p.target ≡ o → ¬ IsHeld p.men m.to (other_side p.side) → IsOfFourKinds p b m
+    by_target : (o : Option ℕ) → p.target ≡ o → ¬ IsOccupiedBy p.men m.to (other_side p.side) → IsOfFourKinds p b m
     by_target None e free = advancing free (λ is. let both : None ≡ Some m.to = sym e ∙ is in cc)
     by_target (Some t) e free = elim (cases_eq t m.to) [
       | inl here ↦ inr (inr (inr (record { from = from_is; target = e ∙ ap Some here })))

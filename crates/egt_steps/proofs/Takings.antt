@@ -1,18 +1,17 @@
 -- The captures from a position that promote no pawn and are not in passing lead to the three men who are left, and to all positions of them.
 use Rattle.std.proofs.Common.{◌≡◌, ◌≢◌, ℕ, ◌+◌, ◌/◌, ◌<◌, ◌⊎◌, ◌↔◌, ◌&&◌, if◌then◌else◌, Bool, true, false, List, []}
 use Rattle.std.proofs.Common.{◌∷◌, map, Option, Some, None, arith, refl, sym, ap, ◌∙◌, subst, inl, inr}
-use Rattle.egt_steps.specs.Prelude.{bit_at, is_some, option_map, and_parts, cases_eq, eqb_tells, HasBeside, IsInCheck}
-use Rattle.egt_steps.specs.Prelude.{king_of, Reaches, Reaches-free, Reaches-on_board, other_side, ahead, last_rank}
-use Rattle.egt_steps.specs.Prelude.{Placement, Stands, IsFree, IsHeld, one_man, same_men, get-insert_same}
-use Rattle.egt_steps.specs.Prelude.{get-insert_other, get-remove_same, get-remove_other, Setup, IsAdmissible, rank_of}
-use Rattle.egt_steps.specs.Prelude.{turned_man, Kind, P, K, Man, Side, White, Black, Reaches-target, side_twice}
-use Rattle.egt_steps.specs.Prelude.{AreNonKings, AreCounted, IsListed, AllStand, HasStand, IsOff, list_of, men_among}
-use Rattle.egt_steps.specs.Prelude.{ShelfMen, Stand, all_there, free_of, counted_turned, turned_back, Goes, Leads}
-use Rattle.egt_steps.specs.Prelude.{after, is_two_ranks, men_after, passed, plain, takes_in_passing, FitsPromotion}
-use Rattle.egt_steps.specs.Prelude.{arriving, is_pawn, promotes, Move, not_two, pawn_told, takes_forward_of}
-use Rattle.egt_steps.specs.Prelude.{two_forward, two_ranks_told, not_passing, IsBesideKing, king_of_men, stand_on}
-use Rattle.egt_steps.specs.Prelude.{with_king, Facts, IsClassOf, IsPastKings, IsPlainCapture, IsTaken, Left, left_of}
-use Rattle.egt_steps.specs.Prelude.{stand_left, sides_differ}
+use Rattle.egt_steps.specs.Prelude.{bit_at, Stands, IsFree, Setup, K, White, Black, IsOff, Stand, Leads, passed, left_of}
+use Rattle.egt_steps.specs.Prelude.{is_some, ahead, IsListed, AllStand, HasStand, ShelfMen, arriving, promotes, stand_on}
+use Rattle.egt_steps.specs.Prelude.{option_map, eqb_tells, other_side, turned_man, not_passing, king_of_men, IsPastKings}
+use Rattle.egt_steps.specs.Prelude.{and_parts, IsOccupiedBy, IsAdmissible, FitsPromotion, two_ranks_told, IsPlainCapture}
+use Rattle.egt_steps.specs.Prelude.{cases_eq, same_men, men_among, all_there, men_after, pawn_told, with_king, IsClassOf}
+use Rattle.egt_steps.specs.Prelude.{HasBeside, IsInCheck, last_rank, Placement, Kind, side_twice, AreCounted, stand_left}
+use Rattle.egt_steps.specs.Prelude.{king_of, Reaches, one_man, rank_of, P, list_of, free_of, is_pawn, not_two, IsTaken}
+use Rattle.egt_steps.specs.Prelude.{Reaches-free, Reaches-on_board, get-insert_other, get-remove_other, takes_in_passing}
+use Rattle.egt_steps.specs.Prelude.{get-insert_same, get-remove_same, Reaches-target, counted_turned, takes_forward_of}
+use Rattle.egt_steps.specs.Prelude.{Man, AreNonKings, turned_back, is_two_ranks, two_forward, IsBesideKing, sides_differ}
+use Rattle.egt_steps.specs.Prelude.{Side, Goes, after, plain, Move, Facts, Left}
 use Rattle.egt_index.proofs.ByMen.{no_target}
 use Rattle.egt_steps.proofs.Fanned.{king_reaches}
 use Rattle.egt_steps.proofs.Passed.{departs}
@@ -21,8 +20,8 @@ use Rattle.std.specs.FinMap as placement
 
 -- the men of a stand, and those beside the kings, by the laws of egt_index and egt_class
 pub record Telling : Type 0 where
-  pub listed : (c : ℕ) (stand : Stand) (side : Side) (passed : Bool) (p : Setup) (s : ℕ) (man : Man) → HasStand c false stand side passed p → Stands p.men s man ↔ IsListed (list_of stand) man s
-  pub free : (c : ℕ) (stand : Stand) (side : Side) (passed : Bool) (p : Setup) (s : ℕ) → HasStand c false stand side passed p → IsFree p.men s ↔ IsOff (list_of stand) s
+  pub listed : (c : ℕ) (stand : Stand) (side : Side) (targeted : Bool) (p : Setup) (s : ℕ) (man : Man) → HasStand c false stand side targeted p → Stands p.men s man ↔ IsListed (list_of stand) man s
+  pub free : (c : ℕ) (stand : Stand) (side : Side) (targeted : Bool) (p : Setup) (s : ℕ) → HasStand c false stand side targeted p → IsFree p.men s ↔ IsOff (list_of stand) s
   pub counted : (p : Setup) (one other : Option (Man × ℕ)) → IsAdmissible p → HasBeside p.men one other → AreNonKings p (option_map (λ e. e.0) one) (option_map (λ e. e.0) other)
 
 -- ---- three men
@@ -123,7 +122,7 @@ module _ (men : Placement) (from to : ℕ) (man : Man) where
 
 -- ---- a man takes where he attacks, a pawn among others
 
-module _ (p : Setup) (man : Man) (from to : ℕ) (held : IsHeld p.men to (other_side p.side)) where
+module _ (p : Setup) (man : Man) (from to : ℕ) (held : IsOccupiedBy p.men to (other_side p.side)) where
   -- a pawn takes one rank ahead, so that none passes a square
   none_passed : Reaches (IsFree p.men) man from to → passed man from to ≡ None
   none_passed reaches = by_test (is_pawn man.kind && is_two_ranks from to) refl
@@ -135,7 +134,7 @@ module _ (p : Setup) (man : Man) (from to : ℕ) (held : IsHeld p.men to (other_
   not_in_passing : IsAdmissible p → takes_in_passing p man to ≡ false
   not_in_passing ok = grind (arith, not_passing)
 
-  taking_goes : Reaches (IsFree p.men) man from to → ¬ IsHeld p.men to p.side → Goes p man from to
+  taking_goes : Reaches (IsFree p.men) man from to → ¬ IsOccupiedBy p.men to p.side → Goes p man from to
   taking_goes reaches not_own = grind (arith, is_pawn, pawn_told, no_pawn_is)
 
   -- who takes a man attacks him
@@ -143,7 +142,7 @@ module _ (p : Setup) (man : Man) (from to : ℕ) (held : IsHeld p.men to (other_
   taking_reaches h = grind arith
 
 -- the side that waits is not in check, so that no king is taken
-pub no_king_taken : (p q : Setup) (m : Move) → IsAdmissible p → Leads p m q → (held : IsHeld p.men m.to (other_side p.side)) → (s : Side) → king_of s ≡ held.man → ⊥
+pub no_king_taken : (p q : Setup) (m : Move) → IsAdmissible p → Leads p m q → (held : IsOccupiedBy p.men m.to (other_side p.side)) → (s : Side) → king_of s ≡ held.man → ⊥
 no_king_taken p q m ok leads held s is = grind (arith, side_twice)
 
 -- a pawn does not stay one on its last rank
@@ -153,8 +152,8 @@ within_ranks side to low high e = grind arith
 pub not_promoting : (man : Man) (to : ℕ) → (man.kind ≡ P → (0 < rank_of to) × (rank_of to < 7)) → promotes man to ≡ false
 not_promoting man to fits = grind (arith, is_pawn, pawn_told, eqb_tells, within_ranks)
 
-module _ (facts : Facts) (telling : Telling) (c : ℕ) (men : ShelfMen) (one_other : men.one.kind ≢ K) (last_other : men.last.kind ≢ K)
-    (side : Side) (passed : Bool) (a b : ℕ) (p : Setup) (has : HasStand c false (stand_on men a b) side passed p) where
+module _ (facts : Facts) (telling : Telling) (c : ℕ) (men : ShelfMen) (one_other : men.first.kind ≢ K) (last_other : men.last.kind ≢ K)
+    (side : Side) (targeted : Bool) (a b : ℕ) (p : Setup) (has : HasStand c false (stand_on men a b) side targeted p) where
   abbrev pub here : Stand
   here = stand_on men a b
 
@@ -191,17 +190,17 @@ module _ (facts : Facts) (telling : Telling) (c : ℕ) (men : ShelfMen) (one_oth
   black_stands : Stands p.men men.black (king_of Black)
   black_stands = apart.3.1
 
-  one_stands : Stands p.men a men.one
+  one_stands : Stands p.men a men.first
   one_stands = apart.3.3.1
 
   last_stands : Stands p.men b men.last
   last_stands = apart.3.3.3.1
 
   free_of_all : (s : ℕ) → s ≢ men.white → s ≢ men.black → s ≢ a → s ≢ b → IsFree p.men s
-  free_of_all s off_white off_black off_one off_last = (telling.free c here side passed p s has).1 ((λ e. off_white (sym e)), ((λ e. off_black (sym e)), ((λ e. off_one (sym e)), ((λ e. off_last (sym e)), tt))))
+  free_of_all s off_white off_black off_one off_last = (telling.free c here side targeted p s has).1 ((λ e. off_white (sym e)), ((λ e. off_black (sym e)), ((λ e. off_one (sym e)), ((λ e. off_last (sym e)), tt))))
 
   off : (s : ℕ) → IsFree p.men s → IsOff (list_of here) s
-  off s free = (telling.free c here side passed p s has).0 free
+  off s free = (telling.free c here side targeted p s has).0 free
 
   -- ---- who is left
 
@@ -243,11 +242,11 @@ module _ (facts : Facts) (telling : Telling) (c : ℕ) (men : ShelfMen) (one_oth
   king_takes_one : AreLeft (placed p.men (king_of_men men side) a (king_of side)) (left_of (with_king men side a) men.last b)
   king_takes_one = king_leaves side a b men.last one_not_white one_not_black last_not_white last_not_black last_not_one last_stands free_of_all
 
-  king_takes_last : AreLeft (placed p.men (king_of_men men side) b (king_of side)) (left_of (with_king men side b) men.one a)
-  king_takes_last = king_leaves side b a men.one last_not_white last_not_black one_not_white one_not_black one_not_last one_stands (λ u w k l o. free_of_all u w k o l)
+  king_takes_last : AreLeft (placed p.men (king_of_men men side) b (king_of side)) (left_of (with_king men side b) men.first a)
+  king_takes_last = king_leaves side b a men.first last_not_white last_not_black one_not_white one_not_black one_not_last one_stands (λ u w k l o. free_of_all u w k o l)
 
-  one_takes : AreLeft (placed p.men a b men.one) (left_of men men.one b)
-  one_takes = man_leaves a b men.one one_not_white one_not_black last_not_white last_not_black free_of_all
+  one_takes : AreLeft (placed p.men a b men.first) (left_of men men.first b)
+  one_takes = man_leaves a b men.first one_not_white one_not_black last_not_white last_not_black free_of_all
 
   last_takes : AreLeft (placed p.men b a men.last) (left_of men men.last a)
   last_takes = man_leaves b a men.last last_not_white last_not_black one_not_white one_not_black (λ u w k l o. free_of_all u w k o l)
@@ -286,7 +285,7 @@ module _ (facts : Facts) (telling : Telling) (c : ℕ) (men : ShelfMen) (one_oth
     from = king_of_men men side;
     to = a;
     man = king_of side;
-    taken = men.one;
+    taken = men.first;
     stands = king_stands;
     there = one_stands;
     own = refl;
@@ -309,20 +308,20 @@ module _ (facts : Facts) (telling : Telling) (c : ℕ) (men : ShelfMen) (one_oth
   taking left (inr (inr (inl (own, theirs, reaches, is)))) = subst Taking (sym is) (record {
     from = a;
     to = b;
-    man = men.one;
+    man = men.first;
     taken = men.last;
     stands = one_stands;
     there = last_stands;
     own = own;
     theirs = theirs;
-    reaches = past_all men.one a b reaches free_of_all;
+    reaches = past_all men.first a b reaches free_of_all;
     leaves = one_takes;
   })
   taking left (inr (inr (inr (own, theirs, reaches, is)))) = subst Taking (sym is) (record {
     from = b;
     to = a;
     man = men.last;
-    taken = men.one;
+    taken = men.first;
     stands = last_stands;
     there = one_stands;
     own = own;
@@ -337,7 +336,7 @@ module _ (facts : Facts) (telling : Telling) (c : ℕ) (men : ShelfMen) (one_oth
       t : Taking left
       t = taking left is
 
-      held : IsHeld p.men t.to (other_side p.side)
+      held : IsOccupiedBy p.men t.to (other_side p.side)
       held = record { man = t.taken; stands = t.there; theirs = t.theirs ∙ ap other_side mine }
 
       stays_so : q.men ≡ placed p.men t.from t.to t.man
@@ -366,7 +365,7 @@ module _ (facts : Facts) (telling : Telling) (c : ℕ) (men : ShelfMen) (one_oth
         stands = t.stands;
         mine = t.own ∙ mine;
         goes = taking_goes p t.man t.from t.to held t.reaches
-            (λ (h : IsHeld p.men t.to p.side). sides_differ side (mine ∙ sym h.theirs ∙ ap (λ (x : Man). x.side) (one_man p.men t.to h.man t.taken h.stands t.there) ∙ t.theirs));
+            (λ (h : IsOccupiedBy p.men t.to p.side). sides_differ side (mine ∙ sym h.theirs ∙ ap (λ (x : Man). x.side) (one_man p.men t.to h.man t.taken h.stands t.there) ∙ t.theirs));
         promotion = subst (λ (b : Bool). FitsPromotion b None) (sym (not_promoting t.man t.to fits)) tt;
         becomes = λ i. record { men = placed_there i; side = turn i; target = target i };
         safe = λ check. there.admissible.quiet (subst (λ (s : Side). IsInCheck q.men s) (sym (ap other_side turn ∙ side_twice p.side)) check);
@@ -380,13 +379,13 @@ module _ (facts : Facts) (telling : Telling) (c : ℕ) (men : ShelfMen) (one_oth
 
     -- the king of the side to move, the first man beside the kings or the last
     abbrev pub Mover : Type 0
-    Mover = ((king_of side ≡ leads.man) × (king_of_men men side ≡ m.from)) ⊎ ((men.one ≡ leads.man) × (a ≡ m.from)) ⊎ ((men.last ≡ leads.man) × (b ≡ m.from))
+    Mover = ((king_of side ≡ leads.man) × (king_of_men men side ≡ m.from)) ⊎ ((men.first ≡ leads.man) × (a ≡ m.from)) ⊎ ((men.last ≡ leads.man) × (b ≡ m.from))
 
     some_king : (s : Side) → king_of s ≡ leads.man → king_of_men men s ≡ m.from → Mover
     some_king s is h = grind (arith, own)
 
     mover : Mover
-    mover = of_man ((telling.listed c here side passed p m.from leads.man has).0 leads.stands)
+    mover = of_man ((telling.listed c here side targeted p m.from leads.man has).0 leads.stands)
       where
         of_man : IsListed (list_of here) leads.man m.from → Mover
         of_man (inl k) = some_king White k.0 k.1
@@ -395,7 +394,7 @@ module _ (facts : Facts) (telling : Telling) (c : ℕ) (men : ShelfMen) (one_oth
         of_man (inr (inr (inr (inl k)))) = inr (inr k)
         of_man (inr (inr (inr (inr none)))) = absurd none
 
-    held : IsHeld p.men m.to (other_side p.side)
+    held : IsOccupiedBy p.men m.to (other_side p.side)
     held = plain_capture.0
 
     attacks : Reaches (IsFree p.men) leads.man m.from m.to
@@ -409,10 +408,10 @@ module _ (facts : Facts) (telling : Telling) (c : ℕ) (men : ShelfMen) (one_oth
 
     -- the first man beside the kings or the last
     abbrev pub Victim : Type 0
-    Victim = ((men.one.side ≡ other_side side) × (a ≡ m.to)) ⊎ ((men.last.side ≡ other_side side) × (b ≡ m.to))
+    Victim = ((men.first.side ≡ other_side side) × (a ≡ m.to)) ⊎ ((men.last.side ≡ other_side side) × (b ≡ m.to))
 
     victim : Victim
-    victim = of_man ((telling.listed c here side passed p m.to held.man has).0 held.stands)
+    victim = of_man ((telling.listed c here side targeted p m.to held.man has).0 held.stands)
       where
         of_man : IsListed (list_of here) held.man m.to → Victim
         of_man (inl k) = absurd (no_king_taken p q m has.admissible leads held White k.0)
@@ -455,14 +454,14 @@ module _ (facts : Facts) (telling : Telling) (c : ℕ) (men : ShelfMen) (one_oth
         result (left_of (with_king men side a) men.last b) (inl (enemy, near a is at there, refl)) last_other
         (left_so (left_of (with_king men side a) men.last b) (king_of side) (king_of_men men side) a is at there king_takes_one)
     by_king is at (inr (enemy, there)) =
-        result (left_of (with_king men side b) men.one a) (inr (inl (enemy, near b is at there, refl))) one_other
-        (left_so (left_of (with_king men side b) men.one a) (king_of side) (king_of_men men side) b is at there king_takes_last)
+        result (left_of (with_king men side b) men.first a) (inr (inl (enemy, near b is at there, refl))) one_other
+        (left_so (left_of (with_king men side b) men.first a) (king_of side) (king_of_men men side) b is at there king_takes_last)
 
-    by_one : men.one ≡ leads.man → a ≡ m.from → Victim → Result
+    by_one : men.first ≡ leads.man → a ≡ m.from → Victim → Result
     by_one is at (inl (enemy, there)) = absurd (sides_differ side (sym own ∙ ap (λ (x : Man). x.side) (sym is) ∙ enemy))
     by_one is at (inr (enemy, there)) =
-        result (left_of men men.one b) (inr (inr (inl (ap (λ (x : Man). x.side) is ∙ own, enemy, past men.one a b is at there, refl)))) one_other
-        (left_so (left_of men men.one b) men.one a b is at there one_takes)
+        result (left_of men men.first b) (inr (inr (inl (ap (λ (x : Man). x.side) is ∙ own, enemy, past men.first a b is at there, refl)))) one_other
+        (left_so (left_of men men.first b) men.first a b is at there one_takes)
 
     by_last : men.last ≡ leads.man → b ≡ m.from → Victim → Result
     by_last is at (inl (enemy, there)) =

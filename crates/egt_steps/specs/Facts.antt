@@ -1,4 +1,4 @@
--- What holds of play, images, classes and indexes, by the laws of the crates below.
+-- Laws of play, images, classes and indexes, by the laws of the crates below.
 use Rattle.std.specs.Prelude.{◌≡◌, ℕ, ◌<◌, ◌⊎◌, ◌↔◌, Bool, Option, IsTrue}
 use Rattle.egt_moves.specs.Prelude.{Contains, AreImages, SettlesTo, Setup, IsAdmissible, Value, HasValue, chess, Zeroes}
 use Rattle.egt_moves.specs.Prelude.{JudgedOver, ZeroingJudgedOver, HasReach, ReachJudgedOver, Leads, IsCheckmate}

@@ -18,8 +18,8 @@ AreTwoRanksApart s t = (rank_of t ≡ rank_of s + 2) ⊎ (rank_of s ≡ rank_of 
 -- from b to t the pawn of that side advances by two squares, to beside the first man, a pawn of the other side, who may
 -- take it in passing
 pub record LeavesTarget (men : ShelfMen) (side : Side) (a b t : ℕ) : Type 0 where
-  pub pawn : men.one.kind ≡ P
-  pub theirs : men.one.side ≡ other_side side
+  pub pawn : men.first.kind ≡ P
+  pub theirs : men.first.side ≡ other_side side
   pub two : AreTwoRanksApart b t
   pub beside : IsBeside a t
 
@@ -37,8 +37,8 @@ AreLeapCodes c first men side a b code =
 pub record IsPassingCapture (men : ShelfMen) (side : Side) (a b : ℕ) : Type 0 where
   pub pawn : men.last.kind ≡ P
   pub mine : men.last.side ≡ side
-  pub other_pawn : men.one.kind ≡ P
-  pub theirs : men.one.side ≡ other_side side
+  pub other_pawn : men.first.kind ≡ P
+  pub theirs : men.first.side ≡ other_side side
   pub reaches : Reaches (IsPastKings men) men.last b (ahead side a)
 
 -- a move of the man on b to the target

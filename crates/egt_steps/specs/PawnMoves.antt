@@ -1,6 +1,6 @@
 -- The men after the moves of a pawn who stands beside the kings as the last of two men.
 use Rattle.std.specs.Prelude.{◌≡◌, ℕ, ◌<◌, if◌then◌else◌, Bool, true, false, [], ◌∷◌, Option, Some}
-use Rattle.egt_moves.specs.Prelude.{king_of, Reaches, other_side, Advances, IsHeld, Setup, Captures, FitsPromotion}
+use Rattle.egt_moves.specs.Prelude.{king_of, Reaches, other_side, Advances, IsOccupiedBy, Setup, Captures, FitsPromotion}
 use Rattle.egt_moves.specs.Prelude.{IsOfficer, arriving, promotes}
 use Rattle.egt_index.specs.Prelude.{turned_man, material_of, IsOf, AreNonKings, men_in_order, swapped}
 use Rattle.egt_board.specs.declared.man.Kind.{Kind}
@@ -25,7 +25,7 @@ abbrev pub stand_two : (flips : Bool) → ShelfMen → (next last : Man × ℕ) 
 stand_two flips men next last = record {
   white = if flips then men.black else men.white;
   black = if flips then men.white else men.black;
-  next = Some (turned_man flips next.0, next.1);
+  first = Some (turned_man flips next.0, next.1);
   last = Some (turned_man flips last.0, last.1);
 }
 
@@ -42,22 +42,22 @@ IsClassAfter true d flips one man = IsClassOfTwo d flips man one
 
 -- he stands on t, and the first one on a
 abbrev pub stand_after : (before flips : Bool) → ShelfMen → (a : ℕ) → Man → (t : ℕ) → Stand
-stand_after false flips men a man t = stand_two flips men (men.one, a) (man, t)
-stand_after true flips men a man t = stand_two flips men (man, t) (men.one, a)
+stand_after false flips men a man t = stand_two flips men (men.first, a) (man, t)
+stand_after true flips men a man t = stand_two flips men (man, t) (men.first, a)
 
 -- the men of that class, these two beside the kings
 abbrev pub men_two : (flips : Bool) → ShelfMen → (one last : Man) → ShelfMen
 men_two flips men one last = record {
   white = if flips then men.black else men.white;
   black = if flips then men.white else men.black;
-  one = turned_man flips one;
+  first = turned_man flips one;
   on = men.on;
   last = turned_man flips last;
 }
 
 abbrev pub men_after : (before flips : Bool) → ShelfMen → Man → ShelfMen
-men_after false flips men man = men_two flips men men.one man
-men_after true flips men man = men_two flips men man men.one
+men_after false flips men man = men_two flips men men.first man
+men_after true flips men man = men_two flips men man men.first
 
 -- the last man, a pawn of that side on b, advances to t, and is promoted so on the last rank
 pub record IsAdvance (men : ShelfMen) (side : Side) (a b : ℕ) (promo : Option Kind) (t : ℕ) : Type 0 where
@@ -81,7 +81,7 @@ AreAdvancedCodes d before flips men side promo a b code =
 pub record IsPromotingCapture (men : ShelfMen) (side : Side) (kind : Kind) (a b : ℕ) : Type 0 where
   pub pawn : men.last.kind ≡ P
   pub mine : men.last.side ≡ side
-  pub theirs : men.one.side ≡ other_side side
+  pub theirs : men.first.side ≡ other_side side
   pub reaches : Reaches (IsPastKings men) men.last b a
   pub last : promotes men.last a ≡ true
   pub officer : IsOfficer kind
@@ -89,7 +89,7 @@ pub record IsPromotingCapture (men : ShelfMen) (side : Side) (kind : Kind) (a b 
 -- a move that is such a capture
 pub record IsPromotingCaptureFrom (p : Setup) (b : ℕ) (kind : Kind) (m : Move) : Type 0 where
   pub from : m.from ≡ b
-  pub takes : IsHeld p.men m.to (other_side p.side)
+  pub takes : IsOccupiedBy p.men m.to (other_side p.side)
   pub promo_is : m.promo ≡ Some kind
 
 -- the pawn's side's man of that kind

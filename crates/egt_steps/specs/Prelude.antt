@@ -13,7 +13,7 @@ unfoldable pub use Rattle.egt_board.specs.Images.{count_of}
 unfoldable pub use Rattle.egt_board.specs.Listed.{men_of}
 pub use Rattle.egt_board.specs.Man.{other_side}
 pub use Rattle.egt_board.specs.Pawn.{Advances, HasPawnBeside, IsBeside, ahead, forward, last_rank, pawn_of}
-pub use Rattle.egt_board.specs.Placement.{IsFree, IsHeld, Placement, Stands, get-insert_other, get-insert_same}
+pub use Rattle.egt_board.specs.Placement.{IsFree, IsOccupiedBy, Placement, Stands, get-insert_other, get-insert_same}
 pub use Rattle.egt_board.specs.Placement.{get-remove_other, get-remove_same, one_man, same_men}
 pub use Rattle.egt_board.specs.Settled.{IsSettled, SettlesTo}
 pub use Rattle.egt_board.specs.Setup.{IsAdmissible, Setup}
@@ -29,7 +29,7 @@ pub use Rattle.egt_board.specs.declared.man.Side.TheVariants.{Black, White}
 pub use Rattle.egt_board.specs.declared.step.Step.{Step}
 pub use Rattle.egt_board.specs.declared.step.Way.{Way}
 pub use Rattle.egt_board.specs.declared.step.Way.TheVariants.{Down, Still, Up}
-pub use Rattle.egt_class.proofs.Agreeing.{all_agree}
+pub use Rattle.egt_class.proofs.CountsAgree.{all_agree}
 pub use Rattle.egt_class.proofs.ClassTests.{covered, either, smaller}
 pub use Rattle.egt_class.proofs.NonKings.{OneKing}
 pub use Rattle.egt_class.proofs.PairTable.{one_king_in}
@@ -41,7 +41,7 @@ pub use Rattle.egt_index.proofs.After.{all_apart, all_there}
 pub use Rattle.egt_index.proofs.FrameMen.{free_off, men_are}
 pub use Rattle.egt_index.proofs.Listing.{AreApart, get_here, get_later, listed, listed_stands}
 pub use Rattle.egt_index.proofs.Setups.{apart_all, free_of}
-pub use Rattle.egt_index.proofs.Standing.{counted_turned, turned_back}
+pub use Rattle.egt_index.proofs.MenPlaced.{counted_turned, turned_back}
 pub use Rattle.egt_index.proofs.ToldMen.{no_target, untargeted_settled}
 pub use Rattle.egt_index.specs.Index.{IsIndex}
 pub use Rattle.egt_index.specs.Picked.{AreCounted}
@@ -51,7 +51,7 @@ pub use Rattle.egt_index.specs.Went.{IsMovedStand, moved_entry, moved_square}
 pub use Rattle.egt_index.specs.declared.shelf_codes.ShelfMen.{ShelfMen}
 pub use Rattle.egt_index.specs.declared.stand.Stand.{Stand}
 pub use Rattle.egt_moves.proofs.Admissible.{not_two, pawn_told, takes_forward_of, two_forward, two_ranks_told}
-pub use Rattle.egt_moves.proofs.After.{arriving_side, may_become, not_free, target_is}
+pub use Rattle.egt_moves.proofs.MenAfter.{arriving_side, may_become, not_free, target_is}
 pub use Rattle.egt_moves.proofs.SafeGoals.{not_passing}
 pub use Rattle.egt_moves.specs.Chess.{IsPawnOn, Zeroes}
 pub use Rattle.egt_moves.specs.Exchange.{Captures, Exchanges}

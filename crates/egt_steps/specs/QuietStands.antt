@@ -16,7 +16,7 @@ IsClear men other u = (u ≢ men.white) × (u ≢ men.black) × (u ≢ other)
 abbrev pub IsQuietStand : ShelfMen → Side → (a b : ℕ) → Stand → Type 0
 IsQuietStand men side a b stand =
     ((k : ℕ) × IsBesideKing men side k × (stand ≡ stand_on (with_king men side k) a b))
-    ⊎ ((men.one.side ≡ side) × (men.one.kind ≢ P) × (t : ℕ) × (t < 64) × Reaches (IsClear men b) men.one a t × (stand ≡ stand_on men t b))
+    ⊎ ((men.first.side ≡ side) × (men.first.kind ≢ P) × (t : ℕ) × (t < 64) × Reaches (IsClear men b) men.first a t × (stand ≡ stand_on men t b))
     ⊎ ((men.last.side ≡ side) × (men.last.kind ≢ P) × (t : ℕ) × (t < 64) × Reaches (IsClear men a) men.last b t × (stand ≡ stand_on men a t))
 
 -- the codes of the men after such a step, wherever turns take them

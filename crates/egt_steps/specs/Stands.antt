@@ -8,7 +8,7 @@ use Rattle.egt_index.specs.declared.stand.Stand.{Stand}
 
 -- the men with the first one on the square
 abbrev pub men_on : ShelfMen → ℕ → ShelfMen
-men_on men a = record { white = men.white; black = men.black; one = men.one; on = a; last = men.last }
+men_on men a = record { white = men.white; black = men.black; first = men.first; on = a; last = men.last }
 
 -- the men with the first and the last one on these squares
 abbrev pub stand_on : ShelfMen → (a b : ℕ) → Stand
@@ -16,8 +16,8 @@ stand_on men a b = stand_with (men_on men a) b
 
 -- the men with that side's king on the square
 abbrev pub with_king : ShelfMen → Side → ℕ → ShelfMen
-with_king men White k = record { white = k; black = men.black; one = men.one; on = men.on; last = men.last }
-with_king men Black k = record { white = men.white; black = k; one = men.one; on = men.on; last = men.last }
+with_king men White k = record { white = k; black = men.black; first = men.first; on = men.on; last = men.last }
+with_king men Black k = record { white = men.white; black = k; first = men.first; on = men.on; last = men.last }
 
 -- the square of that side's king
 abbrev pub king_of_men : ShelfMen → Side → ℕ

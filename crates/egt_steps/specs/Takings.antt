@@ -2,7 +2,7 @@
 use Rattle.std.specs.Prelude.{◌≡◌, ◌≢◌, ℕ, ◌<◌, ◌⊎◌, Bool, if◌then◌else◌, [], ◌∷◌, Some, None}
 use Rattle.egt_index.specs.Prelude.{king_of, Reaches, other_side, Setup, turned_man, material_of, IsOf, AreNonKings}
 use Rattle.egt_index.specs.Prelude.{men_in_order}
-use Rattle.egt_board.specs.Prelude.{IsHeld}
+use Rattle.egt_board.specs.Prelude.{IsOccupiedBy}
 use Rattle.egt_board.specs.declared.man.Man.{Man}
 use Rattle.egt_board.specs.declared.man.Side.{Side}
 use Rattle.egt_board.specs.declared.man.Side.TheVariants.{White, Black}
@@ -13,7 +13,7 @@ use Rattle.egt_steps.specs.Stands.{IsBesideKing, with_king}
 
 -- the move takes the man of the other side who stands where it arrives, and promotes nothing
 abbrev pub IsPlainCapture : Setup → Move → Type 0
-IsPlainCapture p m = IsHeld p.men m.to (other_side p.side) × (m.promo ≡ None)
+IsPlainCapture p m = IsOccupiedBy p.men m.to (other_side p.side) × (m.promo ≡ None)
 
 -- who is left beside the kings after a capture, and where they stand
 pub record Left : Type 0 where
@@ -31,7 +31,7 @@ abbrev pub stand_left : Bool → Left → Stand
 stand_left flips left = record {
   white = if flips then left.black else left.white;
   black = if flips then left.white else left.black;
-  next = Some (turned_man flips left.man, left.square);
+  first = Some (turned_man flips left.man, left.square);
   last = None;
 }
 
@@ -43,10 +43,10 @@ IsPastKings men u = (u ≢ men.white) × (u ≢ men.black)
 -- the first
 abbrev pub IsTaken : ShelfMen → Side → (a b : ℕ) → Left → Type 0
 IsTaken men side a b left =
-    ((men.one.side ≡ other_side side) × IsBesideKing men side a × (left ≡ left_of (with_king men side a) men.last b))
-    ⊎ ((men.last.side ≡ other_side side) × IsBesideKing men side b × (left ≡ left_of (with_king men side b) men.one a))
-    ⊎ ((men.one.side ≡ side) × (men.last.side ≡ other_side side) × Reaches (IsPastKings men) men.one a b × (left ≡ left_of men men.one b))
-    ⊎ ((men.last.side ≡ side) × (men.one.side ≡ other_side side) × Reaches (IsPastKings men) men.last b a × (left ≡ left_of men men.last a))
+    ((men.first.side ≡ other_side side) × IsBesideKing men side a × (left ≡ left_of (with_king men side a) men.last b))
+    ⊎ ((men.last.side ≡ other_side side) × IsBesideKing men side b × (left ≡ left_of (with_king men side b) men.first a))
+    ⊎ ((men.first.side ≡ side) × (men.last.side ≡ other_side side) × Reaches (IsPastKings men) men.first a b × (left ≡ left_of men men.first b))
+    ⊎ ((men.last.side ≡ side) × (men.first.side ≡ other_side side) × Reaches (IsPastKings men) men.last b a × (left ≡ left_of men men.last a))
 
 -- the class of three men with this one, who is its own in colours exchanged where `flips`
 pub record IsClassOf (d : ℕ) (flips : Bool) (man : Man) : Type 0 where

@@ -1,4 +1,4 @@
-//! What one move changes: the laws of the crates below that rules and games rest on, and where each kind of move leads,
+//! Effects of one move: the laws of the crates below that rules and games rest on, and where each kind of move leads,
 //! by the men on their squares. The checker stands on it.
 #![tactic(auto)]
 

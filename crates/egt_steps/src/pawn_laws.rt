@@ -1,8 +1,8 @@
 //! Where the moves of pawns lead, by the men on their squares. These functions do nothing: a caller calls one to know
 //! what it ensures.
 ghost use Rattle.std.specs.Prelude.{◌≡◌, ◌≢◌, ◌<◌, ◌↔◌, ℕ, Bool, true, false, IsTrue, Option, Some, None};
-ghost use Rattle.egt_steps.specs.Prelude.{other_side, ahead, IsHeld, SettlesTo, Setup, Kind, P, K, Side, HasStand};
-ghost use Rattle.egt_steps.specs.Prelude.{ShelfMen, Stand, Captures, Leads, arriving, Move, IsOfFourKinds};
+ghost use Rattle.egt_steps.specs.Prelude.{other_side, ahead, IsOccupiedBy, SettlesTo, Setup, Kind, P, K, Side};
+ghost use Rattle.egt_steps.specs.Prelude.{ShelfMen, Stand, Captures, Leads, arriving, Move, IsOfFourKinds, HasStand};
 ghost use Rattle.egt_steps.specs.Prelude.{IsPassingCapture, IsPassingFrom, LeavesTarget, IsAdvance, IsAdvanceFrom};
 ghost use Rattle.egt_steps.specs.Prelude.{IsClassAfter, IsPromotingCapture, IsPromotingCaptureFrom, officer_of};
 ghost use Rattle.egt_steps.specs.Prelude.{stand_after, stand_in, IsClassOf, left_of, stand_left};
@@ -14,18 +14,18 @@ use egt_class::laws::men_beside_are_counted;
 /// The advances of the last man beside the kings, a pawn, lead to the men after them, and to all positions of them. One
 /// by two squares leaves a target where the first man is a pawn who stands ready to take in passing.
 pub fn advances_lead_to_the_men_after()
-    ensures goes { (c : ℕ) (men : ShelfMen) (first : Bool) (side : Side) (passed : Bool) (a b : ℕ) (p q : Setup)
-        (m : Move) → c < 36 → men.one.kind ≢ K → men.last.kind ≡ P →
-        HasStand c false (stand_in first men a b) side passed p → Leads p m q → m.from ≡ b → ¬ Captures p m →
+    ensures goes { (c : ℕ) (men : ShelfMen) (first : Bool) (side : Side) (targeted : Bool) (a b : ℕ) (p q : Setup)
+        (m : Move) → c < 36 → men.first.kind ≢ K → men.last.kind ≡ P →
+        HasStand c false (stand_in first men a b) side targeted p → Leads p m q → m.from ≡ b → ¬ Captures p m →
         IsAdvance men side a b m.promo m.to ×
-        ((d : ℕ) (before flips : Bool) → IsClassAfter before d flips men.one (arriving men.last m.promo) →
+        ((d : ℕ) (before flips : Bool) → IsClassAfter before d flips men.first (arriving men.last m.promo) →
         (left : Bool) × (IsTrue left ↔ LeavesTarget men side a b m.to) × (r : Setup) × SettlesTo q r ×
         HasStand d flips (stand_after before flips men a (arriving men.last m.promo) m.to) (other_side side) left r) }
-    ensures comes { (c : ℕ) (men : ShelfMen) (first : Bool) (side : Side) (passed : Bool) (a b : ℕ) (p : Setup) →
-        c < 36 → men.one.kind ≢ K → men.last.kind ≡ P →
-        HasStand c false (stand_in first men a b) side passed p → (promo : Option Kind) (t : ℕ) →
+    ensures comes { (c : ℕ) (men : ShelfMen) (first : Bool) (side : Side) (targeted : Bool) (a b : ℕ) (p : Setup) →
+        c < 36 → men.first.kind ≢ K → men.last.kind ≡ P →
+        HasStand c false (stand_in first men a b) side targeted p → (promo : Option Kind) (t : ℕ) →
         IsAdvance men side a b promo t → (d : ℕ) (before flips : Bool) →
-        IsClassAfter before d flips men.one (arriving men.last promo) →
+        IsClassAfter before d flips men.first (arriving men.last promo) →
         (left : Bool) → (IsTrue left ↔ LeavesTarget men side a b t) → (r : Setup) →
         HasStand d flips (stand_after before flips men a (arriving men.last promo) t) (other_side side) left r →
         (m : Move) × (q : Setup) × Leads p m q × SettlesTo q r × IsAdvanceFrom p b promo m × (m.to ≡ t) }
@@ -37,15 +37,15 @@ pub fn advances_lead_to_the_men_after()
 /// The captures by which the last man beside the kings, a pawn, is promoted lead to the three men who are left, and to
 /// all positions of them.
 pub fn promoting_captures_lead_to_three_men()
-    ensures goes { (c : ℕ) (men : ShelfMen) (first : Bool) (side : Side) (passed : Bool) (a b : ℕ) (p q : Setup)
-        (m : Move) (kind : Kind) → c < 36 → men.one.kind ≢ K → men.last.kind ≡ P →
-        HasStand c false (stand_in first men a b) side passed p → Leads p m q → m.from ≡ b →
-        IsHeld p.men m.to (other_side p.side) → m.promo ≡ Some kind →
+    ensures goes { (c : ℕ) (men : ShelfMen) (first : Bool) (side : Side) (targeted : Bool) (a b : ℕ) (p q : Setup)
+        (m : Move) (kind : Kind) → c < 36 → men.first.kind ≢ K → men.last.kind ≡ P →
+        HasStand c false (stand_in first men a b) side targeted p → Leads p m q → m.from ≡ b →
+        IsOccupiedBy p.men m.to (other_side p.side) → m.promo ≡ Some kind →
         IsPromotingCapture men side kind a b × ((d : ℕ) (flips : Bool) → IsClassOf d flips (officer_of side kind) →
         HasStand d flips (stand_left flips (left_of men (officer_of side kind) a)) (other_side side) false q) }
-    ensures comes { (c : ℕ) (men : ShelfMen) (first : Bool) (side : Side) (passed : Bool) (a b : ℕ) (p : Setup)
-        (kind : Kind) → c < 36 → men.one.kind ≢ K → men.last.kind ≡ P →
-        HasStand c false (stand_in first men a b) side passed p → IsPromotingCapture men side kind a b →
+    ensures comes { (c : ℕ) (men : ShelfMen) (first : Bool) (side : Side) (targeted : Bool) (a b : ℕ) (p : Setup)
+        (kind : Kind) → c < 36 → men.first.kind ≢ K → men.last.kind ≡ P →
+        HasStand c false (stand_in first men a b) side targeted p → IsPromotingCapture men side kind a b →
         (d : ℕ) (flips : Bool) → IsClassOf d flips (officer_of side kind) →
         (q : Setup) → HasStand d flips (stand_left flips (left_of men (officer_of side kind) a))
         (other_side side) false q → (m : Move) × Leads p m q × IsPromotingCaptureFrom p b kind m }
@@ -59,12 +59,12 @@ pub fn promoting_captures_lead_to_three_men()
 /// all positions of them.
 pub fn captures_in_passing_lead_to_three_men()
     ensures goes { (c : ℕ) (men : ShelfMen) (first : Bool) (side : Side) (a b : ℕ) (p q : Setup) (m : Move) → c < 36 →
-        men.one.kind ≢ K → men.last.kind ≡ P →
+        men.first.kind ≢ K → men.last.kind ≡ P →
         HasStand c false (stand_in first men a b) side true p → Leads p m q → IsPassingFrom p b m →
         IsPassingCapture men side a b × ((d : ℕ) (flips : Bool) → IsClassOf d flips men.last →
         HasStand d flips (stand_left flips (left_of men men.last (ahead side a))) (other_side side) false q) }
     ensures comes { (c : ℕ) (men : ShelfMen) (first : Bool) (side : Side) (a b : ℕ) (p : Setup) → c < 36 →
-        men.one.kind ≢ K → men.last.kind ≡ P →
+        men.first.kind ≢ K → men.last.kind ≡ P →
         HasStand c false (stand_in first men a b) side true p → IsPassingCapture men side a b → (d : ℕ) (flips : Bool) →
         IsClassOf d flips men.last →
         (q : Setup) → HasStand d flips (stand_left flips (left_of men men.last (ahead side a)))

@@ -1,4 +1,4 @@
--- What was read of positions stays when entries of others are put.
+-- Readings of positions stay when entries of others are put.
 use Rattle.std.proofs.Common.{◌≡◌, ℕ, ◌/◌, ◌%◌, ◌<◌, Bool, true, false, eqb, List, [], length, Option, Some, None}
 use Rattle.std.proofs.Common.{IfSome, sym, ap, ◌∙◌, inl, inr, slice_index_or, arith}
 use Rattle.egt_sweep.specs.FillPrelude.{other_side, turned_side, turned_square, Side, IsInEitherOrder}
@@ -18,14 +18,14 @@ side_same side = grind arith
 side_other : (side : Side) → turned_side true side ≡ other_side side
 side_other side = grind arith
 
-pub read_of_kings : (passed : Bool) (c code : ℕ) (stand : Stand) (side : Side) (w b : ℕ) (s : Side) → IsSomeTurnedCodeWith passed c code false stand side → IsOfKings c w b s code → TurnsTo c stand.white stand.black side w b s
-read_of_kings passed c code stand side w b s read of = record { turn = read.turn; below = read.is.below; keeps = read.is.keeps; takes = takes read.seen }
+pub read_of_kings : (targeted : Bool) (c code : ℕ) (stand : Stand) (side : Side) (w b : ℕ) (s : Side) → IsSomeTurnedCodeWith targeted c code false stand side → IsOfKings c w b s code → TurnsTo c stand.white stand.black side w b s
+read_of_kings targeted c code stand side w b s read of = record { turn = read.turn; below = read.is.below; keeps = read.is.keeps; takes = takes read.seen }
   where
     kings : ((turned_by read.turn read.after).white ≡ of.stand.white) × ((turned_by read.turn read.after).black ≡ of.stand.black)
-    kings = kings_told c code passed of.passed (turned_by read.turn read.after) of.stand (turned_side (eqb (read.turn / 8) 1) side) s read.is.tells of.tells
+    kings = kings_told c code targeted of.targeted (turned_by read.turn read.after) of.stand (turned_side (eqb (read.turn / 8) 1) side) s read.is.tells of.tells
 
     sides : turned_side (eqb (read.turn / 8) 1) side ≡ s
-    sides = side_told c code passed of.passed (turned_by read.turn read.after) of.stand (turned_side (eqb (read.turn / 8) 1) side) s read.is.tells of.tells
+    sides = side_told c code targeted of.targeted (turned_by read.turn read.after) of.stand (turned_side (eqb (read.turn / 8) 1) side) s read.is.tells of.tells
 
     white : w ≡ turned_square (read.turn % 8) (eqb (read.turn / 8) 1) read.after.white
     white = sym (kings.0 ∙ of.white_is)
@@ -67,10 +67,10 @@ module _ (part : Part) (white black : ℕ) (side : Side) (old new : TableValue) 
   ]
 
   -- the greatest score of positions whose kings no turn takes there
-  pub read_stays : (column : Column) (passed : Bool) (low high : ℕ) (stand : Stand) (s : Side) → ¬ TurnsTo old.class stand.white stand.black s white black side
-      → IsRaised low (λ code. IsSomeTurnedCodeWith passed old.class code false stand s) (column_score old column) high → IsRaised low (λ code. IsSomeTurnedCodeWith passed old.class code false stand s) (column_score new column) high
-  read_stays column passed low high stand s apart = raised_worth low high (λ code. IsSomeTurnedCodeWith passed old.class code false stand s) (column_score old column) (column_score new column)
-      (λ code is. score_stays column code (λ of. apart (read_of_kings passed old.class code stand s white black side is of)))
+  pub read_stays : (column : Column) (targeted : Bool) (low high : ℕ) (stand : Stand) (s : Side) → ¬ TurnsTo old.class stand.white stand.black s white black side
+      → IsRaised low (λ code. IsSomeTurnedCodeWith targeted old.class code false stand s) (column_score old column) high → IsRaised low (λ code. IsSomeTurnedCodeWith targeted old.class code false stand s) (column_score new column) high
+  read_stays column targeted low high stand s apart = raised_worth low high (λ code. IsSomeTurnedCodeWith targeted old.class code false stand s) (column_score old column) (column_score new column)
+      (λ code is. score_stays column code (λ of. apart (read_of_kings targeted old.class code stand s white black side is of)))
 
   kept_stays : (men : ShelfMen) (s : Side) (key : Option BlockKey) (block : List (List ℕ)) → IfSome key (λ k. ¬ TurnsTo old.class k.white k.black s white black side)
       → IsKept old.class (column_score old) men s key block → IsKept old.class (column_score new) men s key block

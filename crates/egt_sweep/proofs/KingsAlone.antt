@@ -5,10 +5,9 @@ use Rattle.egt_blocks.specs.Prelude.{material_of, materials}
 use Rattle.egt_board.specs.Prelude.{HasNoPawn}
 use Rattle.egt_graph.specs.Prelude.{IsAlike}
 use Rattle.egt_index.specs.Prelude.{has_pawns}
-use Rattle.egt_sweep.specs.Prelude.{is_some, list_any, flat_map, option_to_list, Setup, IsAdmissible, IsOf, Zeroes}
-use Rattle.egt_sweep.specs.Prelude.{Leads, size_of, played, passing_below, Move, moves_of, Metric, Mate, Zeroing}
-use Rattle.egt_sweep.specs.Prelude.{Tables, Laws, position_at, index_in, leads_on, connects, exits_from, exits_at}
-use Rattle.egt_sweep.specs.Prelude.{class_game}
+use Rattle.egt_sweep.specs.Prelude.{is_some, list_any, flat_map, Setup, moves_of, index_in, leads_on, connects, exits_at}
+use Rattle.egt_sweep.specs.Prelude.{option_to_list, IsAdmissible, passing_below, position_at, exits_from, class_game}
+use Rattle.egt_sweep.specs.Prelude.{IsOf, Zeroes, Leads, size_of, played, Move, Metric, Mate, Zeroing, Tables, Laws}
 use Rattle.egt_sweep.specs.Nodes.{connects_from, is_number}
 use Rattle.egt_sweep.proofs.Linked.{goes_is, position_is}
 use Rattle.egt_sweep.proofs.Members.{In, in_contains}

@@ -25,13 +25,13 @@ pub mod Linked
 pub mod Putting
 pub mod Staying
 pub mod Collecting
-pub mod Standing
+pub mod NodeTests
 pub mod Backward
 pub mod OutOfClass
 pub mod Members
-pub mod Agreeing
+pub mod GraphAgrees
 pub mod MateRanks
-pub mod Stepping
+pub mod GameSteps
 pub mod OwnColumn
 pub mod Shown
 pub mod ZeroRanks

@@ -1,15 +1,14 @@
 -- The functions of the graph tell what the relations say: positions, indexes, moves that go on.
 use Rattle.std.proofs.Common.{◌≡◌, ℕ, ◌<◌, ◌≤◌, ◌↔◌, ◌&&◌, not, Bool, true, false, List, [], ◌∷◌, Option, Some, None}
 use Rattle.std.proofs.Common.{refl, sym, ap, ◌∙◌, subst, inl, inr, arith}
-use Rattle.egt_sweep.specs.Prelude.{⊎_elim, false≢true, and_parts, not-true, eqb-true, eq-eqb, cases_lt}
-use Rattle.egt_sweep.specs.Prelude.{Any-from_list_any, list_any-from_Any, Contains, is_some, Decided, tells, tells_so}
-use Rattle.egt_sweep.specs.Prelude.{tells_where, settled_form, IsTurn, decided_turn, AreImages, SettlesTo, Setup}
-use Rattle.egt_sweep.specs.Prelude.{IsAdmissible, material_of, SpellsBy, Spells, decided_spelled, IsIndex, IsVoid}
-use Rattle.egt_sweep.specs.Prelude.{size_of, passing_below, passing_has, passing_passes, passing_is_below}
-use Rattle.egt_sweep.specs.Prelude.{first_is_least, Laws, Zeroes, decided_zeroes, Leads, moves_of, played, Move, Metric}
-use Rattle.egt_sweep.specs.Prelude.{Mate, Zeroing, IsAt, GoesOn, Connects, spelled_by, spelled, is_turned, first_of}
-use Rattle.egt_sweep.specs.Prelude.{index_in, is_number, has_index, kept_if, position_at, goes_on, leads_on}
-use Rattle.egt_sweep.specs.Prelude.{connects_from, connects}
+use Rattle.egt_sweep.specs.Prelude.{⊎_elim, passing_below, passing_passes, first_is_least, decided_zeroes, connects_from}
+use Rattle.egt_sweep.specs.Prelude.{false≢true, and_parts, tells, AreImages, SettlesTo, spelled_by, is_turned, is_number}
+use Rattle.egt_sweep.specs.Prelude.{not-true, eqb-true, cases_lt, Contains, tells_so, SpellsBy, moves_of, has_index}
+use Rattle.egt_sweep.specs.Prelude.{eq-eqb, IsTurn, Spells, IsVoid, Zeroes, played, Zeroing, spelled, kept_if, goes_on}
+use Rattle.egt_sweep.specs.Prelude.{Any-from_list_any, list_any-from_Any, tells_where, decided_spelled, passing_is_below}
+use Rattle.egt_sweep.specs.Prelude.{is_some, Decided, IsIndex, size_of, Connects, first_of, index_in, leads_on, connects}
+use Rattle.egt_sweep.specs.Prelude.{settled_form, decided_turn, IsAdmissible, material_of, passing_has, position_at}
+use Rattle.egt_sweep.specs.Prelude.{Setup, Laws, Leads, Move, Metric, Mate, IsAt, GoesOn}
 
 module _ (laws : Laws) where
   -- ---- what a code spells

@@ -6,7 +6,7 @@ use Rattle.egt_sweep.specs.Prelude.{Win, Loss, Draw, HasValue, IsMatedWithin, Ma
 use Rattle.egt_sweep.specs.Prelude.{CannotMateWithin, chess, is_lost_before, is_won_before, mated_within, mates_within}
 use Rattle.egt_sweep.specs.Prelude.{HasRank, SomeAbove, Exit, Mate, Tables, HasTrueValuesBelow, IsAboveLimit}
 use Rattle.egt_sweep.specs.Prelude.{SomeAboveLimit, class_game, IsAt, Laws, exit_of, Plies}
-use Rattle.egt_sweep.proofs.Agreeing.{GoesBySteps, agree}
+use Rattle.egt_sweep.proofs.GraphAgrees.{GoesBySteps, agree}
 use Rattle.egt_sweep.proofs.Linked.{node_at}
 use Rattle.egt_sweep.proofs.Members.{either}
 use Rattle.egt_sweep.proofs.Shown.{mates_left}

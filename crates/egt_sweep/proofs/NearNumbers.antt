@@ -11,7 +11,7 @@ use Rattle.egt_sweep.proofs.Linked.{node_at}
 use Rattle.egt_sweep.proofs.Members.{In, any_in, in_any, either, or_left, or_right}
 use Rattle.egt_sweep.proofs.NearEntries.{near_found, near_shown, near_of_entry, slice_near}
 use Rattle.egt_sweep.proofs.OutOfClass.{shown_is}
-use Rattle.egt_sweep.proofs.Stepping.{ShowsLeft, Telling, edge_step, exit_step, mated_is, on_index, on_or_off, step_edge, step_exit}
+use Rattle.egt_sweep.proofs.GameSteps.{ShowsLeft, Telling, edge_step, exit_step, mated_is, on_index, on_or_off, step_edge, step_exit}
 
 -- what holds of the nearest mates
 pub record Reaching : Type 0 where

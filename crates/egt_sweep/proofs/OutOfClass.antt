@@ -1,4 +1,4 @@
--- What is told of where the moves that leave a class lead.
+-- Positions to which the moves that leave a class lead.
 use Rattle.std.proofs.Common.{◌≡◌, ◌≢◌, ℕ, zero, suc, ◌-◌, ◌/◌, ◌%◌, ◌<◌, ◌≤◌, Bool, true, false, List, if◌then◌else◌}
 use Rattle.std.proofs.Common.{Option, Some, None, IsSome, IfSome, eqb, refl, sym, ap, ◌∙◌, subst, inl, inr, arith}
 use Rattle.egt_sweep.specs.Prelude.{⊎_elim, cases_eq, eqb-true, eq-eqb, Contains, is_some, option_map, Setup}

@@ -33,13 +33,13 @@ right_at_stays part old new At i score zeroing mended other = of_part part mende
           end = λ zero. end_stays Reach old new At i m other (right.end zero);
         }
 
-module _ (part : Part) (mid new : TableValue) (shelves : Shelf) (are : AreShelvesOf shelves.passed mid.class shelves.men shelves.number)
+module _ (part : Part) (mid new : TableValue) (shelves : Shelf) (are : AreShelvesOf shelves.targeted mid.class shelves.men shelves.number)
     (numbers : (n : ℕ) → n < size_of mid.class → number_of mid.class (code_of mid.class n) ≡ n) where
-  pub row_is : (x : ℕ) → x < kind_digits shelves.men.one.kind → IsShelf mid.class (shelf_at shelves x)
+  pub row_is : (x : ℕ) → x < kind_digits shelves.men.first.kind → IsShelf mid.class (shelf_at shelves x)
   row_is x x_in = record { of = (are x x_in).0; within = (are x x_in).1 }
 
-  module _ (d : ℕ) (d_in : d < kind_digits shelves.men.one.kind) (mended : IsMendedAt part (IsCodeOf mid.class (shelf_at shelves d)) mid new) where
-    not_code : (x y : ℕ) → x < kind_digits shelves.men.one.kind → x ≢ d → y < kind_digits shelves.men.last.kind → ¬ IsCodeOf mid.class (shelf_at shelves d) (code_of mid.class (number_in mid.class (shelves.number + x) shelves.side y))
+  module _ (d : ℕ) (d_in : d < kind_digits shelves.men.first.kind) (mended : IsMendedAt part (IsCodeOf mid.class (shelf_at shelves d)) mid new) where
+    not_code : (x y : ℕ) → x < kind_digits shelves.men.first.kind → x ≢ d → y < kind_digits shelves.men.last.kind → ¬ IsCodeOf mid.class (shelf_at shelves d) (code_of mid.class (number_in mid.class (shelves.number + x) shelves.side y))
     not_code x y x_in other y_in of =
         let c = mid.class in
         let here = row_is x x_in in
@@ -51,7 +51,7 @@ module _ (part : Part) (mid new : TableValue) (shelves : Shelf) (are : AreShelve
         (subst (λ p. (shelves.number + x) * (2 * p) + side_number shelves.side + 2 * y ≡ (shelves.number + d) * (2 * p) + side_number shelves.side + 2 * of.0) wide number) in
         other (omega (arith, shelf))
 
-    pub right_stays : (x : ℕ) → x < kind_digits shelves.men.one.kind → x ≢ d → (scores zeroing : List ℕ) → IsRightRow part mid (shelf_at shelves x) scores zeroing → IsRightRow part new (shelf_at shelves x) scores zeroing
+    pub right_stays : (x : ℕ) → x < kind_digits shelves.men.first.kind → x ≢ d → (scores zeroing : List ℕ) → IsRightRow part mid (shelf_at shelves x) scores zeroing → IsRightRow part new (shelf_at shelves x) scores zeroing
     right_stays x x_in other scores zeroing right y y_in =
         subst (λ c. column_score new (column_of part) (code_of c (number_in c (shelves.number + x) shelves.side y)) ≢ 0 → IsRightAtOf part new (code_of c (number_in c (shelves.number + x) shelves.side y)) (slice_index scores (y + kind_less shelves.men.last.kind)) (slice_index zeroing (y + kind_less shelves.men.last.kind))) (sym mended.class)
         (λ some.
@@ -63,12 +63,12 @@ module _ (part : Part) (mid new : TableValue) (shelves : Shelf) (are : AreShelve
         ] in
         right_at_stays part mid new (IsCodeOf mid.class (shelf_at shelves d)) code (slice_index scores (y + kind_less shelves.men.last.kind)) (slice_index zeroing (y + kind_less shelves.men.last.kind)) mended apart (right y y_in (λ e. some (kept ∙ e))))
 
-    pub ended_stays : (x : ℕ) → x < kind_digits shelves.men.one.kind → x ≢ d → (set : SquareSet) → AreEnded part mid (shelf_at shelves x) set → AreEnded part new (shelf_at shelves x) set
+    pub ended_stays : (x : ℕ) → x < kind_digits shelves.men.first.kind → x ≢ d → (set : SquareSet) → AreEnded part mid (shelf_at shelves x) set → AreEnded part new (shelf_at shelves x) set
     ended_stays x x_in other set ended y y_in has =
         subst (λ c. IsRightEndOf part new (code_of c (number_in c (shelves.number + x) shelves.side y))) (sym mended.class) (end_stays part mid new (IsCodeOf mid.class (shelf_at shelves d)) (code_of mid.class (number_in mid.class (shelves.number + x) shelves.side y)) mended (not_code x y x_in other y_in) (ended y y_in has))
 
     -- one row more is put
-    module _ (old : TableValue) (row : Shelf) (same : row ≡ shelf_at shelves d) (ended : List SquareSet) (long : length ended ≡ 64) (place : ℕ) (at : place ≡ d + kind_less shelves.men.one.kind) (set : SquareSet) (scores zeroing : List (List ℕ)) where
+    module _ (old : TableValue) (row : Shelf) (same : row ≡ shelf_at shelves d) (ended : List SquareSet) (long : length ended ≡ 64) (place : ℕ) (at : place ≡ d + kind_less shelves.men.first.kind) (set : SquareSet) (scores zeroing : List (List ℕ)) where
       pub more_mended : IsMendedAt part (IsCodeIn old.class shelves) old mid → IsMendedAt part (IsCodeIn old.class shelves) old new
       more_mended before = mended_after part (IsCodeIn old.class shelves) (IsCodeOf mid.class (shelf_at shelves d)) old mid new before mended
           (λ i of. (d, d_in, subst (λ c. IsCodeOf c (shelf_at shelves d) i) before.class of))
@@ -76,41 +76,41 @@ module _ (part : Part) (mid new : TableValue) (shelves : Shelf) (are : AreShelve
       pub more_ended : AllEnded part mid shelves ended → AreEnded part new row set → AllEnded part new shelves (slice_set ended place set)
       more_ended before here x x_in = elim (cases_eq x d) [
         | inl is ↦
-            let there : x + kind_less shelves.men.one.kind ≡ place = omega (arith, is, at) in
-            let on_board = square_in shelves.men.one.kind x x_in in
-            let stands : slice_index_or (slice_set ended place set) (x + kind_less shelves.men.one.kind) no_squares ≡ set =
+            let there : x + kind_less shelves.men.first.kind ≡ place = omega (arith, is, at) in
+            let on_board = square_in shelves.men.first.kind x x_in in
+            let stands : slice_index_or (slice_set ended place set) (x + kind_less shelves.men.first.kind) no_squares ≡ set =
             ap (λ k. slice_index_or (slice_set ended place set) k no_squares) there ∙ get_or-set_same ended place set no_squares (omega (arith, there, on_board, long)) in
             subst (λ (s : SquareSet). AreEnded part new (shelf_at shelves x) s) (sym stands)
             (subst (λ k. AreEnded part new (shelf_at shelves k) set) (sym is) (subst (λ (r : Shelf). AreEnded part new r set) same here))
         | inr other ↦
-            let apart : x + kind_less shelves.men.one.kind ≢ place = λ e. other (omega (arith, e, at)) in
-            subst (λ (s : SquareSet). AreEnded part new (shelf_at shelves x) s) (sym (get_or-set_other ended place (x + kind_less shelves.men.one.kind) set no_squares apart))
-            (ended_stays x x_in other (slice_index_or ended (x + kind_less shelves.men.one.kind) no_squares) (before x x_in))
+            let apart : x + kind_less shelves.men.first.kind ≢ place = λ e. other (omega (arith, e, at)) in
+            subst (λ (s : SquareSet). AreEnded part new (shelf_at shelves x) s) (sym (get_or-set_other ended place (x + kind_less shelves.men.first.kind) set no_squares apart))
+            (ended_stays x x_in other (slice_index_or ended (x + kind_less shelves.men.first.kind) no_squares) (before x x_in))
       ]
 
       pub more_right : AreRightRows part mid shelves scores zeroing d → IsRightRow part new row (slice_index_or scores place []) (slice_index_or zeroing place []) → AreRightRows part new shelves scores zeroing (d + 1)
       more_right before here x under = elim (cases_eq x d) [
         | inl is ↦
-            let there : place ≡ x + kind_less shelves.men.one.kind = omega (arith, is, at) in
+            let there : place ≡ x + kind_less shelves.men.first.kind = omega (arith, is, at) in
             subst (λ k. IsRightRow part new (shelf_at shelves x) (slice_index_or scores k []) (slice_index_or zeroing k [])) there
             (subst (λ k. IsRightRow part new (shelf_at shelves k) (slice_index_or scores place []) (slice_index_or zeroing place [])) (sym is)
             (subst (λ (r : Shelf). IsRightRow part new r (slice_index_or scores place []) (slice_index_or zeroing place [])) same here))
         | inr other ↦
-            right_stays x (omega (arith, under, other, d_in)) other (slice_index_or scores (x + kind_less shelves.men.one.kind) []) (slice_index_or zeroing (x + kind_less shelves.men.one.kind) []) (before x (omega (arith, under, other)))
+            right_stays x (omega (arith, under, other, d_in)) other (slice_index_or scores (x + kind_less shelves.men.first.kind) []) (slice_index_or zeroing (x + kind_less shelves.men.first.kind) []) (before x (omega (arith, under, other)))
       ]
 
 -- the shelf of a digit
-pub shelf_same : (shelves : Shelf) (n : ℕ) (m : ShelfMen) (d on : ℕ) → n ≡ d → m ≡ men_on shelves.men on → on ≡ d + kind_less shelves.men.one.kind
-    → ◌≡◌ {A = Shelf} (record { number = shelves.number + n; men = m; side = shelves.side; passed = shelves.passed }) (shelf_at shelves d)
+pub shelf_same : (shelves : Shelf) (n : ℕ) (m : ShelfMen) (d on : ℕ) → n ≡ d → m ≡ men_on shelves.men on → on ≡ d + kind_less shelves.men.first.kind
+    → ◌≡◌ {A = Shelf} (record { number = shelves.number + n; men = m; side = shelves.side; targeted = shelves.targeted }) (shelf_at shelves d)
 shelf_same shelves n m d on same is at = grind (arith, men_on)
 
 -- ---- shelves stay right while entries elsewhere are put
 
 module _ (part : Part) (old new : TableValue) (At : ℕ → Type 0) (mended : IsMendedAt part At old new) (shelves : Shelf)
-    (apart : (x y : ℕ) → x < kind_digits shelves.men.one.kind → y < kind_digits shelves.men.last.kind → ¬ At (code_of old.class (number_in old.class (shelves.number + x) shelves.side y))) where
-  pub rows_stay : (scores zeroing : List (List ℕ)) → AreRightRows part old shelves scores zeroing (kind_digits shelves.men.one.kind) → AreRightRows part new shelves scores zeroing (kind_digits shelves.men.one.kind)
+    (apart : (x y : ℕ) → x < kind_digits shelves.men.first.kind → y < kind_digits shelves.men.last.kind → ¬ At (code_of old.class (number_in old.class (shelves.number + x) shelves.side y))) where
+  pub rows_stay : (scores zeroing : List (List ℕ)) → AreRightRows part old shelves scores zeroing (kind_digits shelves.men.first.kind) → AreRightRows part new shelves scores zeroing (kind_digits shelves.men.first.kind)
   rows_stay scores zeroing right x x_in y y_in =
-      let a = x + kind_less shelves.men.one.kind in
+      let a = x + kind_less shelves.men.first.kind in
       let b = y + kind_less shelves.men.last.kind in
       subst (λ c. column_score new (column_of part) (code_of c (number_in c (shelves.number + x) shelves.side y)) ≢ 0 → IsRightAtOf part new (code_of c (number_in c (shelves.number + x) shelves.side y)) (slice_index (slice_index_or scores a []) b) (slice_index (slice_index_or zeroing a []) b)) (sym mended.class)
       (λ some.

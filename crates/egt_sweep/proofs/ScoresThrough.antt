@@ -4,7 +4,7 @@ use Rattle.egt_sweep.specs.FillPrelude.{other_side, Man, Side, IsSomeTurnedCodeW
 use Rattle.egt_sweep.specs.FillPrelude.{Column, AreLeapCodes, AreStepCodes, stand_after, AreQuietCodes, IsQuietStand}
 use Rattle.egt_sweep.specs.FillPrelude.{IsBesideKing, with_king, men_swapped, AreAllScores, AreMoveScores, AreZeroingMoves}
 use Rattle.egt_sweep.specs.FillPrelude.{ArePawnScores, AreRaisedByPawns, IsRaisedByPawn, AreAllReachScores, AreAllScoresOf}
-use Rattle.egt_sweep.specs.FillPrelude.{AreReachScores, column_score, Children, FourMen, Part, Values, Reach, Promotions}
+use Rattle.egt_sweep.specs.FillPrelude.{AreReachScores, column_score, Children, FourMenTables, Part, Values, Reach, Promotions}
 use Rattle.egt_sweep.specs.FillPrelude.{IsMended, IsOfKings, ReadsKings, TurnsTo}
 use Rattle.egt_table.specs.declared.column.Column.TheVariants as columns
 use Rattle.egt_sweep.proofs.KeptThrough.{raised_worth, read_of_kings, score_stays}
@@ -19,10 +19,10 @@ HasKings men side stand =
 
 -- the code tells of some men with such kings, wherever turns take them
 record IsReadFor (c : ℕ) (men : ShelfMen) (side : Side) (code : ℕ) : Type 0 where
-  pub passed : Bool
+  pub targeted : Bool
   pub stand : Stand
   pub kings : HasKings men side stand
-  pub is : IsSomeTurnedCodeWith passed c code false stand (other_side side)
+  pub is : IsSomeTurnedCodeWith targeted c code false stand (other_side side)
 
 -- the scores of such codes are the old table's
 record AreReadAlike (old new : TableValue) (men : ShelfMen) (side : Side) : Type 0 where
@@ -50,15 +50,15 @@ reads_kings c code men side white black s read of = elim read.kings [
 ]
   where
     turns : TurnsTo c read.stand.white read.stand.black (other_side side) white black s
-    turns = read_of_kings read.passed c code read.stand (other_side side) white black s read.is of
+    turns = read_of_kings read.targeted c code read.stand (other_side side) white black s read.is of
 
 -- ---- scores of moves, by another table of the class
 
 module _ (own next : TableValue) (children : Children) (men : ShelfMen) (side : Side) (alike : AreReadAlike own next men side) where
-  abbrev before : FourMen
+  abbrev before : FourMenTables
   before = record { own = own; children = children }
 
-  abbrev after : FourMen
+  abbrev after : FourMenTables
   after = record { own = next; children = children }
 
   raised : (column : Column) (In : ℕ → ℕ → Type 0) (high : ℕ) → ((code : ℕ) → In own.class code → IsReadFor own.class men side code)
@@ -67,17 +67,17 @@ module _ (own next : TableValue) (children : Children) (men : ShelfMen) (side : 
       (raised_worth 0 high (In own.class) (column_score own column) (column_score next column) (λ code at. alike.same column code (read code at)) is)
 
   quiet : (column : Column) (a b high : ℕ) → IsRaised 0 (AreQuietCodes own.class men side a b) (column_score own column) high → IsRaised 0 (AreQuietCodes next.class men side a b) (column_score next column) high
-  quiet column a b high = raised column (λ c. AreQuietCodes c men side a b) high (λ code is. record { passed = false; stand = is.0; kings = quiet_kings men side a b is.0 is.1; is = is.2 })
+  quiet column a b high = raised column (λ c. AreQuietCodes c men side a b) high (λ code is. record { targeted = false; stand = is.0; kings = quiet_kings men side a b is.0 is.1; is = is.2 })
 
   -- the men may be named in the other order
   module _ (column : Column) (first : Bool) (at : ShelfMen) (a b : ℕ) (white : at.white ≡ men.white) (black : at.black ≡ men.black) where
     stepped : (high : ℕ) → IsRaised 0 (AreStepCodes own.class first at side a b) (column_score own column) high → IsRaised 0 (AreStepCodes next.class first at side a b) (column_score next column) high
     stepped high = raised column (λ c. AreStepCodes c first at side a b) high
-        (λ code is. record { passed = false; stand = stand_after first false at a at.last is.0; kings = pawn_kings first men at side a at.last is.0 white black; is = is.3 })
+        (λ code is. record { targeted = false; stand = stand_after first false at a at.last is.0; kings = pawn_kings first men at side a at.last is.0 white black; is = is.3 })
 
     leapt : (high : ℕ) → IsRaised 0 (AreLeapCodes own.class first at side a b) (column_score own column) high → IsRaised 0 (AreLeapCodes next.class first at side a b) (column_score next column) high
     leapt high = raised column (λ c. AreLeapCodes c first at side a b) high
-        (λ code is. record { passed = true; stand = stand_after first false at a at.last is.0; kings = pawn_kings first men at side a at.last is.0 white black; is = is.3 })
+        (λ code is. record { targeted = true; stand = stand_after first false at a at.last is.0; kings = pawn_kings first men at side a at.last is.0 white black; is = is.3 })
 
     pawn : (kinds : Promotions) (score : ℕ) → ArePawnScores column own first kinds at side a b score → ArePawnScores column next first kinds at side a b score
     pawn kinds score is = record {
@@ -139,7 +139,7 @@ module _ (own next : TableValue) (children : Children) (men : ShelfMen) (side : 
     is = is.is;
   }
 
-  all_values : (passed : Bool) (a b mate zeroing : ℕ) → AreAllScores passed before men side a b mate zeroing → AreAllScores passed after men side a b mate zeroing
+  all_values : (targeted : Bool) (a b mate zeroing : ℕ) → AreAllScores targeted before men side a b mate zeroing → AreAllScores targeted after men side a b mate zeroing
   all_values false a b mate zeroing is = moved a b mate zeroing is
   all_values true a b mate zeroing is = record {
     plain_mate = is.plain_mate;
@@ -151,7 +151,7 @@ module _ (own next : TableValue) (children : Children) (men : ShelfMen) (side : 
     zeroing_is = is.zeroing_is;
   }
 
-  all_reach : (passed : Bool) (a b reach : ℕ) → AreAllReachScores passed before men side a b reach → AreAllReachScores passed after men side a b reach
+  all_reach : (targeted : Bool) (a b reach : ℕ) → AreAllReachScores targeted before men side a b reach → AreAllReachScores targeted after men side a b reach
   all_reach false a b reach is = reached a b reach is
   all_reach true a b reach is = record {
     plain = is.plain;
@@ -161,24 +161,24 @@ module _ (own next : TableValue) (children : Children) (men : ShelfMen) (side : 
     is = is.is;
   }
 
-  all_scores : (part : Part) (passed : Bool) (a b score zeroing : ℕ) → AreAllScoresOf part passed before men side a b score zeroing → AreAllScoresOf part passed after men side a b score zeroing
-  all_scores Values passed a b score zeroing is = all_values passed a b score zeroing is
-  all_scores Reach passed a b score zeroing is = all_reach passed a b score is
+  all_scores : (part : Part) (targeted : Bool) (a b score zeroing : ℕ) → AreAllScoresOf part targeted before men side a b score zeroing → AreAllScoresOf part targeted after men side a b score zeroing
+  all_scores Values targeted a b score zeroing is = all_values targeted a b score zeroing is
+  all_scores Reach targeted a b score zeroing is = all_reach targeted a b score is
 
 -- the children's tables may be told by an equation
-scores_alike : (part : Part) (four next : FourMen) (men : ShelfMen) (side : Side) → next.children ≡ four.children → AreReadAlike four.own next.own men side
-    → (passed : Bool) (a b score zeroing : ℕ) → AreAllScoresOf part passed four men side a b score zeroing → AreAllScoresOf part passed next men side a b score zeroing
-scores_alike part four next men side children alike passed a b score zeroing is =
-    subst (λ c. AreAllScoresOf part passed (record { own = next.own; children = c }) men side a b score zeroing) (sym children)
-    (all_scores four.own next.own four.children men side alike part passed a b score zeroing is)
+scores_alike : (part : Part) (four next : FourMenTables) (men : ShelfMen) (side : Side) → next.children ≡ four.children → AreReadAlike four.own next.own men side
+    → (targeted : Bool) (a b score zeroing : ℕ) → AreAllScoresOf part targeted four men side a b score zeroing → AreAllScoresOf part targeted next men side a b score zeroing
+scores_alike part four next men side children alike targeted a b score zeroing is =
+    subst (λ c. AreAllScoresOf part targeted (record { own = next.own; children = c }) men side a b score zeroing) (sym children)
+    (all_scores four.own next.own four.children men side alike part targeted a b score zeroing is)
 
 -- ---- scores of all moves
 
 -- entries of kings that are not read were put
-pub scores_stay : (part : Part) (white black : ℕ) (s : Side) (four next : FourMen) → next.children ≡ four.children → IsMended part white black s four.own next.own
-    → (passed : Bool) (men : ShelfMen) (side : Side) → ¬ ReadsKings four.own.class men side white black s
-    → (a b score zeroing : ℕ) → AreAllScoresOf part passed four men side a b score zeroing → AreAllScoresOf part passed next men side a b score zeroing
-scores_stay part white black s four next children mended passed men side apart = scores_alike part four next men side children alike passed
+pub scores_stay : (part : Part) (white black : ℕ) (s : Side) (four next : FourMenTables) → next.children ≡ four.children → IsMended part white black s four.own next.own
+    → (targeted : Bool) (men : ShelfMen) (side : Side) → ¬ ReadsKings four.own.class men side white black s
+    → (a b score zeroing : ℕ) → AreAllScoresOf part targeted four men side a b score zeroing → AreAllScoresOf part targeted next men side a b score zeroing
+scores_stay part white black s four next children mended targeted men side apart = scores_alike part four next men side children alike targeted
   where
     alike : AreReadAlike four.own next.own men side
     alike = record {
@@ -187,9 +187,9 @@ scores_stay part white black s four next children mended passed men side apart =
     }
 
 -- the table is seen through another reference
-pub scores_same : (part : Part) (four next : FourMen) → next.own ≡ four.own → next.children ≡ four.children
-    → (passed : Bool) (men : ShelfMen) (side : Side) (a b score zeroing : ℕ) → AreAllScoresOf part passed four men side a b score zeroing → AreAllScoresOf part passed next men side a b score zeroing
-scores_same part four next own children passed men side = scores_alike part four next men side children alike passed
+pub scores_same : (part : Part) (four next : FourMenTables) → next.own ≡ four.own → next.children ≡ four.children
+    → (targeted : Bool) (men : ShelfMen) (side : Side) (a b score zeroing : ℕ) → AreAllScoresOf part targeted four men side a b score zeroing → AreAllScoresOf part targeted next men side a b score zeroing
+scores_same part four next own children targeted men side = scores_alike part four next men side children alike targeted
   where
     alike : AreReadAlike four.own next.own men side
     alike = record {

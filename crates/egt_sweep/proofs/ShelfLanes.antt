@@ -11,7 +11,7 @@ module _ (c : ℕ) (shelf : Shelf) (is : IsShelf c shelf) where
 
   pub of_kings : (digit : ℕ) → digit < kind_digits shelf.men.last.kind → IsOfKings c shelf.men.white shelf.men.black shelf.side (code_of c (number_in c shelf.number shelf.side digit))
   of_kings digit below = record {
-    passed = is.of.0.passed;
+    targeted = is.of.0.targeted;
     stand = stand_with shelf.men (digit + kind_less shelf.men.last.kind);
     tells = is.of.0.tells shelf.side digit below;
     white_is = refl;

@@ -1,11 +1,11 @@
--- What true tables show of positions is their value.
+-- True tables show the values of positions.
 use Rattle.std.proofs.Common.{◌≡◌, ◌≢◌, ℕ, ◌<◌, Bool, Option, Some, IfSome, IsSome, sym, ◌∙◌, subst, arith}
 use Rattle.egt_sweep.specs.Prelude.{⊎_elim, Contains, Setup, IsAdmissible, children_of, IsOf, IsIndex, Value, HasValue}
 use Rattle.egt_sweep.specs.Prelude.{chess, Leads, Move, Mate, Zeroing, TableValue, read_shown, Tables, beside, entry_at}
 use Rattle.egt_sweep.specs.Prelude.{HasReachChildren, HasTrueChildren, HasTrueValuesBelow, Laws, ShowsValues}
 use Rattle.egt_sweep.specs.Prelude.{shown_below}
 use Rattle.egt_sweep.proofs.OutOfClass.{shown_is, beside_other}
-use Rattle.egt_sweep.proofs.Stepping.{ShowsLeft}
+use Rattle.egt_sweep.proofs.GameSteps.{ShowsLeft}
 
 -- the position's value is known and shown
 abbrev pub IsShown : Tables → Setup → Type 0

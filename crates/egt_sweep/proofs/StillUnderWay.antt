@@ -3,7 +3,7 @@ use Rattle.std.proofs.Common.{◌≡◌, ◌≢◌, ◌∙◌, ℕ, ◌+◌, ◌
 use Rattle.std.proofs.Common.{slice_set, inl, inr, refl, ap, sym, subst, arith, true, false}
 use Rattle.egt_sweep.specs.FillPrelude.{cases_eq, get_or-set_other, get_or-set_same, length-set, Side, code_of, kind_digits}
 use Rattle.egt_sweep.specs.FillPrelude.{kind_less, number_in, ShelfMen, TableValue, AreShelvesOf, Children, Part, IsDueItem}
-use Rattle.egt_sweep.specs.FillPrelude.{AreSeen, IsItem, men_of, passed_shelves_of, shelves_of, IsMended, IsOfKings}
+use Rattle.egt_sweep.specs.FillPrelude.{AreSeen, IsItem, men_of, targeted_shelves_of, shelves_of, IsMended, IsOfKings}
 use Rattle.egt_sweep.specs.FillPrelude.{ReadsKings, AreDue, IsFresh, IsFreshItem, IsLookedAt, IsStamped, IsUnderWay, place_of, Filling}
 use Rattle.egt_sweep.specs.FillPrelude.{Item, Marks, Shelf}
 use Rattle.egt_sweep.proofs.DueThrough.{all_due_stay, scores_in_stay}
@@ -15,18 +15,18 @@ use Rattle.egt_sweep.proofs.ToldOnce.{kings_told, side_told}
 -- a code has one pair of kings and one side to move
 kings_once : (c code white black w b : ℕ) (side s : Side) → IsOfKings c white black side code → IsOfKings c w b s code → (white ≡ w) × (black ≡ b) × (side ≡ s)
 kings_once c code white black w b side s here there =
-    let both = kings_told c code here.passed there.passed here.stand there.stand side s here.tells there.tells in (
+    let both = kings_told c code here.targeted there.targeted here.stand there.stand side s here.tells there.tells in (
       sym here.white_is ∙ both.0 ∙ there.white_is,
       sym here.black_is ∙ both.1 ∙ there.black_is,
-      side_told c code here.passed there.passed here.stand there.stand side s here.tells there.tells,
+      side_told c code here.targeted there.targeted here.stand there.stand side s here.tells there.tells,
     )
 
 -- what was seen by the old table is due in the new one, unless it is read there
-seen_due : (part : Part) (white black : ℕ) (s : Side) (old new : TableValue) → IsMended part white black s old new → (passed : Bool) (children : Children) (men : ShelfMen) (first : ℕ) (side : Side) → ¬ ReadsKings old.class men side white black s
-    → AreSeen part passed old new children men first side → AreDue part passed new children men first side
-seen_due part white black s old new mended passed children men first side apart seen x y x_in y_in =
+seen_due : (part : Part) (white black : ℕ) (s : Side) (old new : TableValue) → IsMended part white black s old new → (targeted : Bool) (children : Children) (men : ShelfMen) (first : ℕ) (side : Side) → ¬ ReadsKings old.class men side white black s
+    → AreSeen part targeted old new children men first side → AreDue part targeted new children men first side
+seen_due part white black s old new mended targeted children men first side apart seen x y x_in y_in =
     let lane = seen x y x_in y_in in
-    (lane.0, lane.1, lane.2, scores_in_stay part white black s old new mended passed children men side apart (x + kind_less men.one.kind) (y + kind_less men.last.kind) lane.0 lane.1 lane.3)
+    (lane.0, lane.1, lane.2, scores_in_stay part white black s old new mended targeted children men side apart (x + kind_less men.first.kind) (y + kind_less men.last.kind) lane.0 lane.1 lane.3)
 
 module _ (f : Filling) (old new : TableValue) (items : List Item) (marks later : Marks) (i : ℕ) (next : Item) (below : f.class < 36) (class : old.class ≡ f.class)
     (under : IsUnderWay f old items marks) (i_in : i < length items) where
@@ -71,7 +71,7 @@ module _ (f : Filling) (old new : TableValue) (items : List Item) (marks later :
       others_kings same =
           let one = slice_index_or items k d in
           let two = slice_index_or items i next in
-          let place : place_of one ≡ place_of two = ap (λ (s : Side). place_of (record { first = one.first; white = one.white; black = one.black; side = s; looked = one.looked; ended = one.ended; passed_ended = one.passed_ended; leaving = one.leaving })) same.2
+          let place : place_of one ≡ place_of two = ap (λ (s : Side). place_of (record { first = one.first; white = one.white; black = one.black; side = s; looked = one.looked; ended = one.ended; targeted_ended = one.targeted_ended; leaving = one.leaving })) same.2
           ∙ (let white = same.0 in let black = same.1 in omega (arith, white, black)) in
           other (sym (under.placed k d k_in) ∙ ap (slice_index under.places) place ∙ under.placed i next i_in)
 
@@ -81,17 +81,17 @@ module _ (f : Filling) (old new : TableValue) (items : List Item) (marks later :
           let is = under.items_are k d k_in in
           let two = slice_index_or items i next in
           let At = IsOfKings old.class two.white two.black two.side in
-          let apart : (shelves : Shelf) → AreShelvesOf shelves.passed f.class shelves.men shelves.number → ¬ ((shelves.men.white ≡ two.white) × (shelves.men.black ≡ two.black) × (shelves.side ≡ two.side)) → (x y : ℕ) → x < kind_digits shelves.men.one.kind → y < kind_digits shelves.men.last.kind
+          let apart : (shelves : Shelf) → AreShelvesOf shelves.targeted f.class shelves.men shelves.number → ¬ ((shelves.men.white ≡ two.white) × (shelves.men.black ≡ two.black) × (shelves.side ≡ two.side)) → (x y : ℕ) → x < kind_digits shelves.men.first.kind → y < kind_digits shelves.men.last.kind
           → ¬ At (code_of old.class (number_in old.class (shelves.number + x) shelves.side y)) = λ shelves are unlike x y x_in y_in of.
           unlike (kings_once old.class (code_of old.class (number_in old.class (shelves.number + x) shelves.side y)) shelves.men.white shelves.men.black two.white two.black shelves.side two.side
-          (codes_in_kings old.class shelves (subst (λ c. AreShelvesOf shelves.passed c shelves.men shelves.number) (sym class) are) (code_of old.class (number_in old.class (shelves.number + x) shelves.side y)) (x, x_in, (y, y_in, refl))) of) in
+          (codes_in_kings old.class shelves (subst (λ c. AreShelvesOf shelves.targeted c shelves.men shelves.number) (sym class) are) (code_of old.class (number_in old.class (shelves.number + x) shelves.side y)) (x, x_in, (y, y_in, refl))) of) in
           record {
             room = is.room;
             leaving = is.leaving;
             plain = is.plain;
-            passed = is.passed;
+            targeted = is.targeted;
             ended = all_ended_stay f.part old new At look.mended (shelves_of f it) (apart (shelves_of f it) is.plain others_kings) it.ended is.ended;
-            passed_ended = λ some. all_ended_stay f.part old new At look.mended (passed_shelves_of f it) (apart (passed_shelves_of f it) (is.passed some) others_kings) it.passed_ended (is.passed_ended some);
+            targeted_ended = λ some. all_ended_stay f.part old new At look.mended (targeted_shelves_of f it) (apart (targeted_shelves_of f it) (is.targeted some) others_kings) it.targeted_ended (is.targeted_ended some);
           }
 
       stays_due : IsFreshItem f later (slice_index_or items k d) → IsDueItem f new (slice_index_or items k d)
@@ -112,14 +112,14 @@ module _ (f : Filling) (old new : TableValue) (items : List Item) (marks later :
     looked_due fresh = elim stamped [
       | inl same ↦ record {
         plain = subst (λ (t : TableValue). AreSeen f.part false t new f.children (men_of f next) next.first next.side) (sym same.0) look.seen.plain;
-        passed = λ some. subst (λ (t : TableValue). AreSeen f.part true t new f.children (men_of f next) (next.first + f.half) next.side) (sym same.0) (look.seen.passed some);
+        targeted = λ some. subst (λ (t : TableValue). AreSeen f.part true t new f.children (men_of f next) (next.first + f.half) next.side) (sym same.0) (look.seen.targeted some);
       }
       | inr new_stamp ↦
           let two = slice_index_or items i next in
           let apart = not_read (men_of f next) next.side next.looked (let e = look.looked in omega (arith, e)) (new_stamp.2 ∙ new_stamp.0) fresh in
           record {
             plain = seen_due f.part two.white two.black two.side old new look.mended false f.children (men_of f next) next.first next.side apart look.seen.plain;
-            passed = λ some. seen_due f.part two.white two.black two.side old new look.mended true f.children (men_of f next) (next.first + f.half) next.side apart (look.seen.passed some);
+            targeted = λ some. seen_due f.part two.white two.black two.side old new look.mended true f.children (men_of f next) (next.first + f.half) next.side apart (look.seen.targeted some);
           }
     ]
 

@@ -4,12 +4,12 @@ use Rattle.egt_sweep.specs.FillPrelude.{king_of, side_number, Man, Side, White, 
 use Rattle.egt_sweep.specs.FillPrelude.{has_target, men_bases, men_at, list_of, TellsMen, Stand, number_from-same}
 use Rattle.egt_sweep.specs.FillPrelude.{side_few, heads, tails}
 
-flag_few : (passed : Bool) → cond passed 1 0 < 2
-flag_few passed = grind arith
+flag_few : (targeted : Bool) → cond targeted 1 0 < 2
+flag_few targeted = grind arith
 
 -- the lowest digits
-ends_fit : (target : Bool) (side : Side) (passed : Bool) → AreDigits (2 ∷ cond target (2 ∷ []) []) (side_number side ∷ cond target (cond passed 1 0 ∷ []) [])
-ends_fit h0 side passed = grind (arith, side_few, flag_few)
+ends_fit : (target : Bool) (side : Side) (targeted : Bool) → AreDigits (2 ∷ cond target (2 ∷ []) []) (side_number side ∷ cond target (cond targeted 1 0 ∷ []) [])
+ends_fit h0 side targeted = grind (arith, side_few, flag_few)
 
 one_flag : (p q : Bool) → ◌≡◌ {A = ℕ} (cond p 1 0) (cond q 1 0) → p ≡ q
 one_flag p q e = grind arith
@@ -41,5 +41,5 @@ module _ (c code : ℕ) (p q : Bool) (s t : Stand) (side other : Side) (here : T
   same_flag : (b : Bool) → has_target (material_of c) ≡ b → p ≡ q
   same_flag h0 none = grind (arith, one_flag, heads, tails, side_number, both)
 
-  pub passed_told : p ≡ q
-  passed_told = same_flag (has_target (material_of c)) refl
+  pub targeted_told : p ≡ q
+  targeted_told = same_flag (has_target (material_of c)) refl

@@ -9,7 +9,7 @@ use Rattle.egt_sweep.specs.Prelude.{HasZeroing, ZeroesLosingWithin, ZeroesWinnin
 use Rattle.egt_sweep.specs.Prelude.{mated_within, mates_within, decided_within, HasRank, Exit, Mate, Zeroing}
 use Rattle.egt_sweep.specs.Prelude.{TableValue, Tables, HasTrueValuesBelow, IsWithinLimit, class_game, GoesOn, Laws}
 use Rattle.egt_sweep.specs.Prelude.{ShowsValues, index_in, exit_of, shown_below, Plies}
-use Rattle.egt_sweep.proofs.Agreeing.{GoesBySteps, agree}
+use Rattle.egt_sweep.proofs.GraphAgrees.{GoesBySteps, agree}
 use Rattle.egt_sweep.proofs.Linked.{index_is}
 use Rattle.egt_sweep.proofs.Members.{either, or_left, or_right}
 use Rattle.egt_sweep.proofs.Shown.{IsShown, own_value, step_value, zeroing_left}

@@ -1,4 +1,4 @@
--- What the builder answers.
+-- The builder's answer.
 use Rattle.std.specs.Prelude.{◌≡◌, ℕ, ◌<◌, ◌≤◌, ◌⊎◌, Bool, Some, None, IfSome, IsSome}
 use Rattle.egt_check.specs.Prelude.{Contains, Setup, IsAdmissible, children_of, IsOf, Value, Win, Loss, Draw, chess}
 use Rattle.egt_check.specs.Prelude.{HasReach, TableValue, longest, IsFirstLacking, IsFirstMissing, IsAccepted, Tables}

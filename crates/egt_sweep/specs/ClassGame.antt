@@ -10,8 +10,8 @@ use Rattle.egt_graph.specs.Prelude.{Graph, IsNode, IsGame, HasShortDistance}
 use Rattle.egt_table.specs.Prelude.{flat_map}
 use Rattle.egt_entries.specs.Prelude.{IsShort}
 use Rattle.egt_moves.specs.declared.chess_move.Move.{Move}
-use Rattle.egt_graph.specs.Passing.{passing_below, passing_has, passing_passes, passing_all, passing_ascends}
-use Rattle.egt_graph.specs.Passing.{passing_none}
+use Rattle.egt_graph.specs.Filtered.{passing_below, passing_has, passing_passes, passing_all, passing_ascends}
+use Rattle.egt_graph.specs.Filtered.{passing_none}
 use Rattle.egt_entries.specs.declared.metric.Metric.{Metric}
 use Rattle.egt_entries.specs.declared.metric.Metric.TheVariants.{Mate, Zeroing}
 use Rattle.egt_check.specs.Reading.{read_short}

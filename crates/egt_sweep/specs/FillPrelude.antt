@@ -19,7 +19,7 @@ pub use Rattle.egt_board.specs.declared.man.Side.TheVariants.{Black, White}
 pub use Rattle.egt_board.specs.declared.square_set.SquareSet.{SquareSet}
 pub use Rattle.egt_check.proofs.BlankKept.{blank_kept}
 pub use Rattle.egt_check.proofs.ByteJudged.{if_not, if_same}
-pub use Rattle.egt_check.proofs.Finding.{beside_other, beside_own}
+pub use Rattle.egt_check.proofs.TableFound.{beside_other, beside_own}
 pub use Rattle.egt_check.proofs.FoundTold.{told_at, told_none}
 pub use Rattle.egt_check.proofs.LaneRight.{right_lane}
 pub use Rattle.egt_check.proofs.NearReading.{near_at}
@@ -29,7 +29,7 @@ pub use Rattle.egt_check.specs.Alone.{AreThreeMen, IsToldTable, MayJudge}
 pub use Rattle.egt_check.specs.Blank.{AreBlank}
 pub use Rattle.egt_check.specs.Found.{IsPutIn, IsToldAt, TellColumn, TellsEntry, table_told, told}
 pub use Rattle.egt_check.specs.Given.{AreAlike, IsKnown}
-pub use Rattle.egt_check.specs.MoveScores.{AreAllScores, AreChildren, AreFourMen, AreMoveScores, AreTablesOf}
+pub use Rattle.egt_check.specs.MoveScores.{AreAllScores, AreChildren, AreFourMenTables, AreMoveScores, AreTablesOf}
 pub use Rattle.egt_check.specs.MoveScores.{AreZeroingMoves, HoldsExits}
 pub use Rattle.egt_check.specs.Pairs.{ArePairs}
 pub use Rattle.egt_check.specs.Parts.{IsOwnTable, column_of, four_in, table_in, tables_in}
@@ -40,7 +40,7 @@ pub use Rattle.egt_check.specs.RightRow.{IsRightAtOf, IsRightEnd, IsRightEndOf, 
 pub use Rattle.egt_check.specs.ScoreRows.{AreDrawnOrNone, CodeScores, HasNoVoidScore, IsDrawnIndex, IsLaneIn, IsMaskOf}
 pub use Rattle.egt_check.specs.Worth.{HasBytes, column_score, entry_score, score_at}
 pub use Rattle.egt_check.specs.declared.move_scores.Children.{Children}
-pub use Rattle.egt_check.specs.declared.move_scores.FourMen.{FourMen}
+pub use Rattle.egt_check.specs.declared.move_scores.FourMenTables.{FourMenTables}
 pub use Rattle.egt_check.specs.declared.part.Part.{Part}
 pub use Rattle.egt_check.specs.declared.part.Part.TheVariants.{Reach, Values}
 pub use Rattle.egt_check.specs.declared.pawn_scores.Promotions.{Promotions}
@@ -61,7 +61,7 @@ pub use Rattle.egt_sweep.specs.Ends.{AreOfEnd, IsEndScore}
 pub use Rattle.egt_sweep.specs.Filled.{IsDrawn, IsDrawnAt, IsReached, IsWithReach}
 pub use Rattle.egt_sweep.specs.Forgotten.{AreFewer, AreForgotten}
 pub use Rattle.egt_sweep.specs.Items.{AreBlockScores, AreItemScores, AreSeen, IsItem, IsRightItem, IsSameItem}
-pub use Rattle.egt_sweep.specs.Items.{IsSeenItem, men_of, passed_shelves_of, shelves_of}
+pub use Rattle.egt_sweep.specs.Items.{IsSeenItem, men_of, targeted_shelves_of, shelves_of}
 pub use Rattle.egt_sweep.specs.Lone.{IsDueRow, IsLoneFilling, IsLonePiece}
 pub use Rattle.egt_sweep.specs.Mended.{AllEnded, AreEnded, AreRightRows, IsCodeIn, IsCodeOf, IsLaneOf, IsMended}
 pub use Rattle.egt_sweep.specs.Mended.{IsMendedAt, IsOfKings, IsPutAt, IsRightRow, IsRowSeen, IsShelf, no_squares}
@@ -81,7 +81,7 @@ pub use Rattle.egt_sweep.specs.declared.lone_mending.LoneFilling.{LoneFilling}
 pub use Rattle.egt_sweep.specs.declared.mending.Mended.{Mended}
 pub use Rattle.egt_check.specs.declared.shelf.Shelf.{Shelf}
 pub use Rattle.egt_sweep.specs.declared.rounds.Visited.{Visited}
-pub use Rattle.egt_sweep.specs.declared.settling.Looks.{Looks}
+pub use Rattle.egt_sweep.specs.declared.put_due.Looks.{Looks}
 pub use Rattle.egt_sweep.specs.declared.stamps.Marks.{Marks}
 pub use Rattle.egt_index.proofs.Best.{turn_number}
 pub use Rattle.egt_index.proofs.Led.{eight}

@@ -1,4 +1,4 @@
--- What holds of play, images, classes and indexes, by the laws of the crates below.
+-- Laws of play, images, classes and indexes, by the laws of the crates below.
 use Rattle.std.specs.Prelude.{◌≡◌, ℕ, ◌<◌, ◌⊎◌, ◌↔◌, Bool, Some, None, IsSome}
 use Rattle.egt_check.specs.Prelude.{Contains, AreImages, IsSettled, SettlesTo, Setup, IsAdmissible, children_of, IsOf}
 use Rattle.egt_check.specs.Prelude.{Spells, IsIndex, IsVoid, Captures, Leads, IsLegal, StepAlike, Facts}

@@ -14,9 +14,9 @@ use Rattle.egt_table.specs.declared.column.Column.TheVariants as columns
 
 -- the code tells men of the class with the kings on these squares and that side to move
 pub record IsOfKings (c white black : ℕ) (side : Side) (code : ℕ) : Type 0 where
-  pub passed : Bool
+  pub targeted : Bool
   pub stand : Stand
-  pub tells : TellsMen passed c code stand side
+  pub tells : TellsMen targeted c code stand side
   pub white_is : stand.white ≡ white
   pub black_is : stand.black ≡ black
 
@@ -41,7 +41,7 @@ IsPutAt Reach t code score clock = column_score t columns.Reach code ≡ score
 
 -- the shelf's number is that of its men, of positions with a target where one was passed
 pub record IsShelf (c : ℕ) (shelf : Shelf) : Type 0 where
-  pub of : IsShelfOf shelf.passed c shelf.number shelf.men
+  pub of : IsShelfOf shelf.targeted c shelf.number shelf.men
   pub within : IsWithin c shelf.number
 
 -- the code is the shelf's with the last man on one of these squares
@@ -78,14 +78,14 @@ IsCodeOf c shelf code = (digit : ℕ) × (digit < kind_digits shelf.men.last.kin
 abbrev pub shelf_at : Shelf → ℕ → Shelf
 shelf_at shelves digit = record {
   number = shelves.number + digit;
-  men = men_on shelves.men (digit + kind_less shelves.men.one.kind);
+  men = men_on shelves.men (digit + kind_less shelves.men.first.kind);
   side = shelves.side;
-  passed = shelves.passed;
+  targeted = shelves.targeted;
 }
 
 -- the code is of one of the shelves of these men from this one on
 abbrev pub IsCodeIn : (c : ℕ) → Shelf → ℕ → Type 0
-IsCodeIn c shelves code = (x : ℕ) × (x < kind_digits shelves.men.one.kind) × IsCodeOf c (shelf_at shelves x) code
+IsCodeIn c shelves code = (x : ℕ) × (x < kind_digits shelves.men.first.kind) × IsCodeOf c (shelf_at shelves x) code
 
 -- no squares
 abbrev pub no_squares : SquareSet
@@ -93,9 +93,9 @@ no_squares = record { bits = 0 }
 
 -- in each of these shelves, by the first man's square, the entries tell checkmate or stalemate at these squares of the last one
 abbrev pub AllEnded : Part → TableValue → Shelf → List SquareSet → Type 0
-AllEnded part t shelves ended = (x : ℕ) → x < kind_digits shelves.men.one.kind → AreEnded part t (shelf_at shelves x) (slice_index_or ended (x + kind_less shelves.men.one.kind) no_squares)
+AllEnded part t shelves ended = (x : ℕ) → x < kind_digits shelves.men.first.kind → AreEnded part t (shelf_at shelves x) (slice_index_or ended (x + kind_less shelves.men.first.kind) no_squares)
 
 -- the entries of the first so many of them are due
 abbrev pub AreRightRows : Part → TableValue → Shelf → (scores zeroing : List (List ℕ)) → ℕ → Type 0
 AreRightRows part t shelves scores zeroing many = (x : ℕ) → x < many →
-    IsRightRow part t (shelf_at shelves x) (slice_index_or scores (x + kind_less shelves.men.one.kind) []) (slice_index_or zeroing (x + kind_less shelves.men.one.kind) [])
+    IsRightRow part t (shelf_at shelves x) (slice_index_or scores (x + kind_less shelves.men.first.kind) []) (slice_index_or zeroing (x + kind_less shelves.men.first.kind) [])

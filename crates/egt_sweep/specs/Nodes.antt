@@ -13,7 +13,7 @@ use Rattle.egt_table.specs.Prelude.{flat_map}
 use Rattle.egt_board.specs.DecidedTurns.{decided_turn}
 use Rattle.egt_moves.specs.declared.chess_move.Move.{Move}
 use Rattle.egt_graph.specs.declared.game.Exit.{Exit}
-use Rattle.egt_graph.specs.Passing.{passing_below}
+use Rattle.egt_graph.specs.Filtered.{passing_below}
 use Rattle.egt_entries.specs.declared.metric.Metric.{Metric}
 use Rattle.egt_entries.specs.declared.metric.Metric.TheVariants.{Mate, Zeroing}
 use Rattle.egt_graph.specs.declared.game.Exit.TheVariants as exits

@@ -1,4 +1,4 @@
--- What a game is played for, and what is known where moves leave it.
+-- The objective of a game, and what is known where moves leave it.
 use Rattle.std.specs.Prelude.{ℕ}
 use Rattle.std.proofs.Math.Bool.{Bool-set}
 use Rattle.std.proofs.Props.{props}

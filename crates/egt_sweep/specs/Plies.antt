@@ -1,8 +1,7 @@
--- What holds of forced mates, of zeroing moves and of images, by the laws of egt_moves.
+-- Laws of forced mates, of zeroing moves and of images, by the laws of egt_moves.
 use Rattle.std.specs.Prelude.{◌≡◌, ℕ, ◌≤◌, ◌⊎◌, ◌↔◌}
-use Rattle.egt_moves.specs.Prelude.{AreImages, Setup, IsAdmissible, Value, Win, Loss, HasValue, IsMatedWithin}
-use Rattle.egt_moves.specs.Prelude.{MatesWithin, AvoidsMateFor, CannotMateWithin, chess, ZeroesLosingWithin}
-use Rattle.egt_moves.specs.Prelude.{ZeroesWinningWithin}
+use Rattle.egt_moves.specs.Prelude.{AreImages, IsMatedWithin, CannotMateWithin, ZeroesLosingWithin, ZeroesWinningWithin}
+use Rattle.egt_moves.specs.Prelude.{Setup, IsAdmissible, Value, Win, Loss, HasValue, MatesWithin, AvoidsMateFor, chess}
 
 pub record Plies : Type 0 where
   pub more_mated : (m n : ℕ) (p : Setup) → m ≤ n → IsMatedWithin chess m p → IsMatedWithin chess n p

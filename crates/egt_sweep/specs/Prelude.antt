@@ -32,8 +32,8 @@ pub use Rattle.egt_entries.specs.declared.metric.Metric.{Metric}
 pub use Rattle.egt_entries.specs.declared.metric.Metric.TheVariants.{Mate, Zeroing}
 pub use Rattle.egt_graph.specs.Graph.{Graph, IsNode}
 pub use Rattle.egt_graph.specs.Near.{AreNears, HasNear, IsShort, SomeFar, is_near_exit, near_entry_of, near_within}
-pub use Rattle.egt_graph.specs.Passing.{first_is_least, passing_has, passing_is, passing_is_below, passing_passes}
-unfoldable pub use Rattle.egt_graph.specs.Passing.{passing_below}
+pub use Rattle.egt_graph.specs.Filtered.{first_is_least, passing_has, passing_is, passing_is_below, passing_passes}
+unfoldable pub use Rattle.egt_graph.specs.Filtered.{passing_below}
 pub use Rattle.egt_graph.specs.Value.{AreRanks, HasRank, IsWithin, SomeAbove, decided_within, entry_of, has_move}
 pub use Rattle.egt_graph.specs.Value.{is_empty, is_lost_before, is_won_before, mated_within, mates_within}
 pub use Rattle.egt_graph.specs.declared.game.Exit.{Exit}

@@ -1,9 +1,8 @@
 //! The items that looks begin with, one for each pair of kings' squares and side to move with entries of positions, and
 //! where the number of each stands.
 ghost use Rattle.std.specs.Prelude.{◌≡◌, ◌≢◌, ◌+◌, ◌*◌, ◌<◌, ◌≤◌, ℕ, false, true, IfOk, IfSome, length, slice_index_or};
-ghost use Rattle.egt_sweep.specs.FillPrelude.{All, AreShelvesOf, with_kings, IsOwnTable, AreMenOf, TableValue};
-ghost use Rattle.egt_sweep.specs.FillPrelude.{AreNumbered};
-ghost use Rattle.egt_sweep.specs.FillPrelude.{IsItem, no_squares, IsFilling};
+ghost use Rattle.egt_sweep.specs.FillPrelude.{All, AreMenOf, IsItem, no_squares};
+ghost use Rattle.egt_sweep.specs.FillPrelude.{AreShelvesOf, with_kings, IsOwnTable, TableValue, AreNumbered, IsFilling};
 
 use crate::filling::Filling;
 use crate::items::Item;
@@ -26,7 +25,7 @@ fn begin_at(f: &Filling, men: &ShelfMen, first: u32) -> bool
     requires men { AreMenOf f.now.class men.now }
     requires room { first + f.now.half < 4294967296 }
     ensures plain { result ≡ true → AreShelvesOf false f.now.class men.now first }
-    ensures passed { result ≡ true → f.now.half ≢ 0 → AreShelvesOf true f.now.class men.now (first + f.now.half) }
+    ensures targeted { result ≡ true → f.now.half ≢ 0 → AreShelvesOf true f.now.class men.now (first + f.now.half) }
 {
     if !begin_with(f.class, men, false, first) {
         return false;
@@ -73,7 +72,7 @@ fn item_of(
         side,
         looked: 0,
         ended: no_ends(),
-        passed_ended: no_ends(),
+        targeted_ended: no_ends(),
         leaving: Box::new(alloc, leaving)?,
     }))
 }

@@ -1,8 +1,7 @@
 //! Entries that are to be found, before any look: all positions are drawn in the part's columns, or dead.
 ghost use Rattle.std.specs.Prelude.{◌≡◌, ◌<◌, ℕ, None, length, IfErr, IfOk, IfSome};
-ghost use Rattle.egt_sweep.specs.FillPrelude.{IsVoid, size_of, IsTable, table_in, AreDrawnOrNone, HasNoVoidScore};
-ghost use Rattle.egt_sweep.specs.FillPrelude.{IsDrawnIndex};
-ghost use Rattle.egt_sweep.specs.FillPrelude.{HasBytes, IsDrawn, IsWithReach};
+ghost use Rattle.egt_sweep.specs.FillPrelude.{IsVoid, size_of, IsTable, HasBytes, IsDrawn};
+ghost use Rattle.egt_sweep.specs.FillPrelude.{table_in, AreDrawnOrNone, HasNoVoidScore, IsDrawnIndex, IsWithReach};
 ghost use Rattle.egt_check.specs.declared.part.Part.TheVariants as parts;
 
 use egt_check::found::Found;

@@ -1,9 +1,8 @@
 //! Whole tables whose entries are due with the kings on all squares: of those that were looked at they are, and of the
 //! rest all are of no position.
 ghost use Rattle.std.specs.Prelude.{◌≡◌, ◌+◌, ◌<◌, ℕ, true, Contains};
-ghost use Rattle.egt_sweep.specs.FillPrelude.{All, size_of, IsOwnTable, KeepsPart, AreAllJudged, IsDueItem};
-ghost use Rattle.egt_sweep.specs.FillPrelude.{tables_with};
-ghost use Rattle.egt_sweep.specs.FillPrelude.{IsFilling, Item};
+ghost use Rattle.egt_sweep.specs.FillPrelude.{All, size_of, Item};
+ghost use Rattle.egt_sweep.specs.FillPrelude.{IsOwnTable, KeepsPart, AreAllJudged, IsDueItem, tables_with, IsFilling};
 
 use crate::filling::Filling;
 use crate::items::Item;

@@ -1,4 +1,4 @@
-//! What the moves that leave a game are worth in it.
+//! Worth of the moves that leave a game.
 ghost use Rattle.std.specs.Prelude.{◌≡◌, ◌+◌, ◌++◌, ◌≤◌, ◌<◌, ℕ, Bool, Some, IsSome, IfSome};
 ghost use Rattle.egt_sweep.specs.Prelude.{option_to_list, array_vec_len, AreMenOf, Setup, IsAdmissible, IsOf, IsIndex};
 ghost use Rattle.egt_sweep.specs.Prelude.{Value, IsLegal, played, Mate, Shows, near_tables, read, table_at, entry_at};

@@ -1,4 +1,4 @@
-//! What a part of a class's table is filled by.
+//! The means by which a part of a class's table is filled.
 ghost use Rattle.std.specs.Prelude.{◌≡◌, IfSome};
 ghost use Rattle.egt_sweep.specs.FillPrelude.{IsFilling};
 

@@ -1,4 +1,4 @@
-//! What is kept of the kings on two squares with one side to move.
+//! Items: the kings on two squares with one side to move.
 
 use egt_board::{Side, Square, SquareSet};
 use egt_lanes::Block;
@@ -16,7 +16,7 @@ pub(crate) struct Item {
     /// The last man's squares at which there is no move, by the first man's.
     pub(crate) ended: [SquareSet; 64],
     /// The ends where there is a target.
-    pub(crate) passed_ended: [SquareSet; 64],
+    pub(crate) targeted_ended: [SquareSet; 64],
     /// The greatest scores of the moves that leave the class, but captures in passing.
     pub(crate) leaving: Box<Block>,
 }

@@ -1,4 +1,4 @@
-//! What looks keep for one another.
+//! Blocks that looks keep for one another.
 ghost use Rattle.std.specs.Prelude.{◌<◌, IfOk};
 ghost use Rattle.egt_sweep.specs.FillPrelude.{AreAllKept, AreBothKept, Filling, Side, TableValue};
 
@@ -20,8 +20,8 @@ pub(crate) struct Near {
 pub(crate) struct Scores {
     pub(crate) plain: Box<Block>,
     pub(crate) clocks: Box<Block>,
-    pub(crate) passed: Box<Block>,
-    pub(crate) passed_clocks: Box<Block>,
+    pub(crate) targeted: Box<Block>,
+    pub(crate) targeted_clocks: Box<Block>,
 }
 
 /// The blocks that are kept, by the side to move, and room for the scores of a look.
@@ -48,8 +48,8 @@ fn room(alloc: Global) -> Result<Scores, AllocError> {
     Ok(Scores {
         plain: Box::new(alloc, nothing())?,
         clocks: Box::new(alloc, nothing())?,
-        passed: Box::new(alloc, nothing())?,
-        passed_clocks: Box::new(alloc, nothing())?,
+        targeted: Box::new(alloc, nothing())?,
+        targeted_clocks: Box::new(alloc, nothing())?,
     })
 }
 

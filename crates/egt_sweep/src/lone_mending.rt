@@ -96,7 +96,7 @@ fn put_row(table: &mut Table, part: Part, wrong: &Wrong) -> bool
     true
 }
 
-/// Those of the squares at which the row's position is checkmate.
+/// The squares of these at which the row's position is checkmate.
 fn mated_lanes(class: Class, first: u32, squares: SquareSet) -> SquareSet
     requires { first + 126 < size_of class }
 {
@@ -116,8 +116,8 @@ fn mated_lanes(class: Class, first: u32, squares: SquareSet) -> SquareSet
 fn told_lanes(men: &ShelfMen, part: Part, side: Side) -> SquareSet {
     match part {
         Part::Values if !is_of(men.last, side) => {
-            let loose = beside_king(men, side).without(beside_king(men, side.other()));
-            SquareSet::ALL.without(loose)
+            let loose = beside_king(men, side).difference(beside_king(men, side.other()));
+            SquareSet::ALL.difference(loose)
         }
         _ => SquareSet::ALL,
     }
@@ -138,15 +138,15 @@ fn wrong_in(three: &ThreeMen, first: u32, side: Side, all: bool) -> Wrong
     let first = first_code(first, side);
     let moving = lanes_of(scores);
     let mated = if all {
-        mated_lanes(class, first, some.without(moving))
+        mated_lanes(class, first, some.difference(moving))
     } else {
         SquareSet::EMPTY
     };
-    let told = told_lanes(&three.men, three.part, side).common(moving);
+    let told = told_lanes(&three.men, three.part, side).intersection(moving);
     let put = chosen(mask_of(mated), Row::splat(255), due_in(three.part, scores));
     Wrong {
         first,
-        lanes: some.common(told).without(due).union(mated),
+        lanes: some.intersection(told).difference(due).union(mated),
         entries: told_row(column, put),
     }
 }
@@ -190,7 +190,7 @@ fn row_seen(
         men: ShelfMen {
             white,
             black,
-            one: f.man,
+            first: f.man,
             on: white,
             last: f.man,
         },

@@ -6,7 +6,7 @@ ghost use Rattle.egt_sweep.specs.declared.mending.Mended.TheVariants as mends;
 
 use crate::lone_mending::{Kings, LoneFilling, mend_lone_row};
 use crate::mending::Mended;
-use crate::settling::Looks;
+use crate::put_due::Looks;
 use egt_board::{Man, Square};
 use egt_check::pairs::MOST_PAIRS;
 use egt_class::Class;
@@ -66,7 +66,7 @@ fn look_at_rows(
 /// Puts what is due at all codes of the part, until all entries are: a round of looks at quiet steps follows one that
 /// put something, and one of looks at all moves one that did not. `None` where bytes do not tell that, and where so
 /// many rounds are too few.
-pub(crate) fn settle_rows(f: &LoneFilling, table: &mut Table, rounds: u32) -> Option<Looks>
+pub(crate) fn mend_lone_rows(f: &LoneFilling, table: &mut Table, rounds: u32) -> Option<Looks>
     requires filling { IsLoneFilling f.now table.old }
     ensures mended { IsMendedAt f.now.part (λ i. Unit {0}) table.old table.new }
     ensures few { IfSome result (λ looks. looks.taken ≤ rounds * looks.items) }

@@ -9,7 +9,7 @@ use crate::items::Item;
 use crate::kept::{Near, Scores};
 use crate::mending::{Mended, mend_shelves};
 use egt_blocks::blocks::nothing;
-use egt_check::block_judging::{part_scores, raise_part_passed};
+use egt_check::block_judging::{part_scores, raise_part_passing};
 use egt_check::found::Found;
 use egt_check::move_scores::{Moves, beside_found, passing_captures};
 use egt_check::part::column_of;
@@ -60,9 +60,14 @@ fn item_scores(
     if !passing_captures(&f.children, column_of(f.part), men, side, &mut passing) {
         return false;
     }
-    *out.passed = *out.plain;
-    *out.passed_clocks = *out.clocks;
-    raise_part_passed(&moves, &passing, &mut out.passed, &mut out.passed_clocks);
+    *out.targeted = *out.plain;
+    *out.targeted_clocks = *out.clocks;
+    raise_part_passing(
+        &moves,
+        &passing,
+        &mut out.targeted,
+        &mut out.targeted_clocks,
+    );
     true
 }
 
@@ -100,7 +105,7 @@ fn mend_item(
         number: item.first,
         men: *men,
         side: item.side,
-        passed: false,
+        targeted: false,
     };
     let lower = mend_shelves(
         table,
@@ -113,19 +118,19 @@ fn mend_item(
     if f.half == 0 {
         return lower;
     }
-    let passed = Shelf {
+    let targeted = Shelf {
         number: item.first + f.half,
         men: *men,
         side: item.side,
-        passed: true,
+        targeted: true,
     };
     let upper = mend_shelves(
         table,
         f.part,
-        &passed,
-        &scores.passed,
-        &scores.passed_clocks,
-        &mut item.passed_ended,
+        &targeted,
+        &scores.targeted,
+        &scores.targeted_clocks,
+        &mut item.targeted_ended,
     );
     together(lower, upper)
 }

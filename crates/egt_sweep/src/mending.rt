@@ -1,11 +1,10 @@
 //! Entries that are put where they are not due to the greatest scores of the moves.
 ghost use Rattle.std.specs.Prelude.{◌≡◌, ◌≢◌, ◌+◌, ◌*◌, ◌<◌, ◌==◌, if◌then◌else◌, ℕ, true, slice_index};
-ghost use Rattle.egt_sweep.specs.FillPrelude.{bit_at, Has, code_of, kind_digits, kind_less, AreMenOf, number_in};
-ghost use Rattle.egt_sweep.specs.FillPrelude.{size_of};
-ghost use Rattle.egt_sweep.specs.FillPrelude.{AreShelvesOf, HasColumn, column_of, table_in, Zeroing, IsToldAt};
-ghost use Rattle.egt_sweep.specs.FillPrelude.{IsRightEndOf};
-ghost use Rattle.egt_sweep.specs.FillPrelude.{IsMaskOf, HasBytes, score_at, AllEnded, AreEnded, AreRightRows, IsCodeIn};
-ghost use Rattle.egt_sweep.specs.FillPrelude.{IsCodeOf, IsLaneOf, IsMendedAt, IsPutAt, IsRightRow, IsRowSeen, IsShelf};
+ghost use Rattle.egt_sweep.specs.FillPrelude.{bit_at, IsPutAt, IsShelf};
+ghost use Rattle.egt_sweep.specs.FillPrelude.{Has, kind_digits, AreShelvesOf, IsRightEndOf, AreRightRows, IsMendedAt};
+ghost use Rattle.egt_sweep.specs.FillPrelude.{code_of, size_of, Zeroing, AreEnded, IsCodeIn, IsCodeOf, IsLaneOf};
+ghost use Rattle.egt_sweep.specs.FillPrelude.{kind_less, number_in, HasColumn, column_of, IsRightRow, IsRowSeen};
+ghost use Rattle.egt_sweep.specs.FillPrelude.{AreMenOf, table_in, IsToldAt, IsMaskOf, HasBytes, score_at, AllEnded};
 ghost use Rattle.egt_check.specs.declared.part.Part.TheVariants as parts;
 ghost use Rattle.egt_sweep.specs.declared.mending.Mended.TheVariants as mends;
 
@@ -75,7 +74,7 @@ fn wrong_clocks(table: &Found, part: Part, shelf: &Shelf, clocks: Row) -> Square
                 &shelf.men,
                 shelf.number,
                 shelf.side,
-                shelf.passed,
+                shelf.targeted,
             );
             lanes_of(unlike(own, clocks, Row::splat(1)))
         }
@@ -169,15 +168,18 @@ fn row_seen(
         &shelf.men,
         shelf.number,
         shelf.side,
-        shelf.passed,
+        shelf.targeted,
     );
     // Each comparison of rows becomes a set at once: LLVM takes one that it keeps across a branch apart, square by
     // square.
     let there = lanes_of(own);
-    let moving = there.common(lanes_of(scores));
+    let moving = there.intersection(lanes_of(scores));
     let mates = lanes_of(unlike(own, due_in(part, scores), Row::splat(1)));
     let wrong = mates.union(wrong_clocks(table, part, shelf, due(zeroing)));
-    (wrong.common(moving), there.without(moving).without(ended))
+    (
+        wrong.intersection(moving),
+        there.difference(moving).difference(ended),
+    )
 }
 
 /// Puts what is due to the greatest scores of the moves at the shelf's codes that are indexes. Where there is no move,
@@ -207,7 +209,7 @@ pub(crate) fn mend_row(
     }
     let seen = ended.union(ends);
     // What was seen to have no move has none.
-    if !lanes.common(seen).is_empty() {
+    if !lanes.intersection(seen).is_empty() {
         return Mended::Untold;
     }
     if !see_ends(table, part, shelf, ends) {
@@ -247,25 +249,30 @@ pub(crate) fn mend_shelves(
     ensures mended { IsMendedAt part (IsCodeIn table.old.class shelves.now) table.old table.new }
     ensures due { result ≡ mends.Due → table.new ≡ table.old }
     ensures shelves { result ≢ mends.Untold →
-        AreShelvesOf shelves.now.passed table.old.class shelves.now.men shelves.now.number }
+        AreShelvesOf shelves.now.targeted table.old.class shelves.now.men shelves.now.number }
     ensures ended { result ≢ mends.Untold → AllEnded part table.new shelves.now ended.new }
     ensures right { result ≢ mends.Untold →
-        AreRightRows part table.new shelves.now scores.now zeroing.now (kind_digits shelves.now.men.one.kind) }
+        AreRightRows part table.new shelves.now scores.now zeroing.now (kind_digits shelves.now.men.first.kind) }
 {
     numbers_stand_for_codes();
-    if !begin_with(table.class(), &shelves.men, shelves.passed, shelves.number) {
+    if !begin_with(
+        table.class(),
+        &shelves.men,
+        shelves.targeted,
+        shelves.number,
+    ) {
         return Mended::Untold;
     }
-    let from = first_square(shelves.men.one);
+    let from = first_square(shelves.men.first);
     let mut found = Mended::Due;
-    for digit in 0..digits_of(shelves.men.one) {
+    for digit in 0..digits_of(shelves.men.first) {
         let square = from + digit;
         let row = usize::from(square);
         let shelf = Shelf {
             number: shelves.number + u32::from(digit),
             men: men_on(&shelves.men, Square::at(square)),
             side: shelves.side,
-            passed: shelves.passed,
+            targeted: shelves.targeted,
         };
         let mut here = ended[row];
         let row_found = mend_row(table, part, &shelf, scores[row], zeroing[row], &mut here);

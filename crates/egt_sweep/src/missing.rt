@@ -1,4 +1,4 @@
-//! What a game over a class lacks.
+//! Tables that a game over a class lacks.
 use egt_class::Class;
 
 /// The class, the least of the children, has no table in the library.

@@ -1,4 +1,4 @@
-//! What a game over a class is played for.
+//! The objective of a game over a class.
 ghost use Rattle.std.specs.Prelude.{◌≡◌};
 
 use egt_check::Metric;

@@ -1,4 +1,4 @@
-//! What the ranks of games mean. These functions do nothing: a caller calls one to know what it ensures.
+//! The meaning of the ranks of games. These functions do nothing: a caller calls one to know what it ensures.
 ghost use Rattle.std.specs.Prelude.{ℕ, ◌<◌, Option, IsTrue};
 ghost use Rattle.egt_sweep.specs.Prelude.{Setup, IsAdmissible, IsIndex, Value, HasValue, chess, HasReach, HasZeroing};
 ghost use Rattle.egt_sweep.specs.Prelude.{HasNear, SomeFar, decided_within, HasRank, SomeAbove, Mate, Zeroing};

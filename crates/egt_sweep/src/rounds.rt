@@ -145,7 +145,7 @@ fn round(
 
 /// Looks at items until nothing that one reads has changed since it was looked at: then all entries are due. How many
 /// looks were taken; `None` where entries are not told, and where so many rounds are too few.
-pub(crate) fn settle_items(
+pub(crate) fn mend_items(
     f: &Filling,
     table: &mut Found,
     items: &mut [Item],

@@ -1,8 +1,7 @@
 //! Stamps: for each pair of kings' squares and side to move, when entries of such positions last changed.
 ghost use Rattle.std.specs.Prelude.{◌≡◌, ◌<◌, ◌≤◌, ◌/◌, ◌%◌, ◌==◌, ℕ, false, length, slice_index, IfOk};
-ghost use Rattle.egt_sweep.specs.FillPrelude.{turned_square, Side, material_of, IsTurnWith, has_pawns, IsFresh};
-ghost use Rattle.egt_sweep.specs.FillPrelude.{stamp_place};
-ghost use Rattle.egt_sweep.specs.FillPrelude.{TurnsTo};
+ghost use Rattle.egt_sweep.specs.FillPrelude.{turned_square, material_of, IsTurnWith, has_pawns, IsFresh, stamp_place};
+ghost use Rattle.egt_sweep.specs.FillPrelude.{Side, TurnsTo};
 
 use crate::turns::turns_of;
 use egt_blocks::king_blocks::beside_king;

@@ -6,8 +6,8 @@ ghost use Rattle.egt_sweep.specs.FillPrelude.{IsLonePiece, IsReached};
 use crate::begun::{begun_values, drawn_column, with_drawn_reach};
 use crate::filling::filling_of;
 use crate::lone_mending::LoneFilling;
-use crate::lone_rounds::settle_rows;
-use crate::settling::{Looks, settle};
+use crate::lone_rounds::mend_lone_rows;
+use crate::put_due::{Looks, put_due};
 use egt_board::{Kind, Man};
 use egt_check::Library;
 use egt_check::laws::{kept_reaches_are_true, rules_are_kept_by_true_tables_alone};
@@ -84,7 +84,7 @@ fn values_by_rows(
         part: Part::Values,
         man,
     };
-    let Some(looks) = settle_rows(&f, &mut table, rounds) else {
+    let Some(looks) = mend_lone_rows(&f, &mut table, rounds) else {
         return Ok(None);
     };
     let _class = table.class();
@@ -119,7 +119,7 @@ pub fn filled_values(
     let Some(mut found) = begun_values(alloc, class)? else {
         return Ok(None);
     };
-    let Some(looks) = settle(alloc, &filling, &mut found, rounds)? else {
+    let Some(looks) = put_due(alloc, &filling, &mut found, rounds)? else {
         return Ok(None);
     };
     let table = found.into_table();
@@ -154,7 +154,7 @@ fn reach_by_rows(alloc: Global, table: Table, library: &Library, rounds: u32) ->
         part: Part::Reach,
         man,
     };
-    let told = settle_rows(&f, &mut table, rounds);
+    let told = mend_lone_rows(&f, &mut table, rounds);
     let _class = table.class();
     match told {
         Some(_looks) => Reached::Filled(table),
@@ -187,7 +187,7 @@ pub fn filled_reach(alloc: Global, table: Table, library: &Library, rounds: u32)
         Ok(found) => found,
         Err(table) => return Reached::NoMemory(table),
     };
-    let told = settle(alloc, &filling, &mut found, rounds);
+    let told = put_due(alloc, &filling, &mut found, rounds);
     let table = found.into_table();
     let _class = table.class();
     match told {

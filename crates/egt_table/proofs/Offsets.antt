@@ -1,12 +1,11 @@
 -- Where the numbers of a table's file stand, and that they determine the table.
 use Rattle.std.proofs.Common.{◌≡◌, ℕ, zero, suc, ◌+◌, ◌*◌, ◌^◌, ◌<◌, ◌≤◌, List, [], ◌∷◌, ◌++◌, length, drop, get_or}
 use Rattle.std.proofs.Common.{Option, Some, IsSome, refl, sym, ap, ◌∙◌, arith}
-use Rattle.egt_table.specs.Prelude.{flat_map, slice_get, drop-append-add, ext_get_or, little_number}
-use Rattle.egt_table.specs.Prelude.{little_number-reads_back, size_of, Column, Mate, Zeroing, Reach, bytes_of}
-use Rattle.egt_table.specs.Prelude.{column_bytes, columns_in, entries_bytes, field_bytes, header_fields, header_of}
-use Rattle.egt_table.specs.Prelude.{version_of, stated_version, EntriesFit, EntriesStand, HeaderStands, number_at}
-use Rattle.egt_table.specs.Prelude.{HasColumn, IsTable, TableValue, columns_of, entries_of, entries_or_none}
-use Rattle.egt_table.specs.Prelude.{reach_columns}
+use Rattle.egt_table.specs.Prelude.{flat_map, drop-append-add, little_number-reads_back, stated_version, entries_or_none}
+use Rattle.egt_table.specs.Prelude.{slice_get, Mate, header_of, number_at, HasColumn, TableValue, columns_of, entries_of}
+use Rattle.egt_table.specs.Prelude.{ext_get_or, little_number, column_bytes, entries_bytes, header_fields, reach_columns}
+use Rattle.egt_table.specs.Prelude.{size_of, columns_in, field_bytes, version_of, EntriesFit, EntriesStand, HeaderStands}
+use Rattle.egt_table.specs.Prelude.{Column, Zeroing, Reach, bytes_of, IsTable}
 use Rattle.egt_table.proofs.Answers.{header_of_length}
 use Rattle.egt_table.proofs.Entries.{entries_length}
 use Rattle.egt_table.proofs.Versions.{told_of_table, version_small}

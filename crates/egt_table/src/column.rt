@@ -1,4 +1,4 @@
-//! What a table tells of a position.
+//! Columns of a table, by what their entries tell of a position.
 
 /// A table has one entry a code in each of its columns. The first two are there in each table, the third in some. Files
 /// hold the columns in this order.

@@ -91,7 +91,7 @@ fn read_end<S: Source>(source: &mut S) -> Result<(), FileFault>
     Ok(())
 }
 
-/// Takes the columns off the source, with which it ends, into empty ones: two of `len` entries, the last of `reach_len`.
+/// Takes the columns off the source, which ends with them, into empty ones: two of `len` entries, one of `reach_len`.
 fn read_columns<S: Source>(
     source: &mut S,
     mate: &mut Vec<u16>,

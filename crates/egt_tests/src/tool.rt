@@ -1,4 +1,4 @@
-//! What the program prints, over streams in memory and folders of its own.
+//! The program's output, over streams in memory and folders of its own.
 mod build;
 mod files;
 mod list;

@@ -1,4 +1,4 @@
-//! What the program `egtb` does, as a function from its words and texts to its output.
+//! The program `egtb` as a function from its words and texts to its output.
 #![tactic(auto)]
 
 mod build;

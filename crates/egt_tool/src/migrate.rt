@@ -1,7 +1,7 @@
 //! The table of a class with the column of the nearest mates, in the place of one without.
 use crate::tool_fault::ToolFault;
 use egt_class::Class;
-use egt_commands::check::see_true;
+use egt_commands::check::require_true;
 use egt_commands::line::{entries_line, name_line};
 use egt_commands::loading::{load_below, read};
 use egt_commands::printer::print;
@@ -19,7 +19,7 @@ pub(crate) fn migrate_table<R: Files + AllocGlobal, O: Sink>(
 ) -> Result<(), ToolFault> {
     let library = load_below(rt, folder, class)?;
     let table = read(rt, folder, class)?;
-    see_true(class, &table, &library)?;
+    require_true(class, &table, &library)?;
     if table.has_reach() {
         return Ok(print(out, name_line(rt.alloc(), "kept", class)?.as_bytes())?);
     }

@@ -1,4 +1,4 @@
--- What a move that neither captures nor promotes does to the men, and taking it back.
+-- The men after a move that neither captures nor promotes, and taking it back.
 use Rattle.std.proofs.Common.{◌≡◌, ◌≢◌, ℕ, Option, Some, None, refl, sym, ap, ◌∙◌, inl, inr, arith}
 use Rattle.egt_unmoves.specs.Prelude.{cases_eq, eqb_tells, P, Man, other_side, ahead, Placement, Stands, IsFree}
 use Rattle.egt_unmoves.specs.Prelude.{one_man, same_men, get-insert_same, get-insert_other, get-remove_same}

@@ -2,7 +2,7 @@ pub mod Came
 pub mod Ways
 pub mod Quiet
 pub mod Went
-pub mod InOrder
+pub mod UnmoveList
 pub mod Pushing
 pub mod Men
 pub mod FiveMen

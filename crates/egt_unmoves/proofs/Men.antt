@@ -2,10 +2,10 @@
 use Rattle.std.proofs.Common.{◌≡◌, ◌≢◌, ℕ, ◌+◌, ◌*◌, ◌<◌, ◌≤◌, ◌↔◌, List, [], length, arith, refl, sym, ap, ◌∙◌, inl}
 use Rattle.std.proofs.Common.{inr, subst}
 use Rattle.egt_unmoves.specs.Prelude.{bit_at, cases_eq, bit_at-lt, Side, White, Black, Kind}
-use Rattle.egt_unmoves.specs.Prelude.{Man, SquareSet, other_side, king_of, Stands, IsHeld, one_man, Has, size_of}
+use Rattle.egt_unmoves.specs.Prelude.{Man, SquareSet, other_side, king_of, Stands, IsOccupiedBy, one_man, Has, size_of}
 use Rattle.egt_unmoves.specs.Prelude.{size_of-some, Setup, IsAdmissible, IsKingOn, most_goals, Unmove, ListsBelow}
 use Rattle.egt_unmoves.proofs.Came.{came}
-use Rattle.egt_unmoves.proofs.InOrder.{squares_within, target_place_small, ListsBelow-none, ListsBelow-skip}
+use Rattle.egt_unmoves.proofs.UnmoveList.{squares_within, target_place_small, ListsBelow-none, ListsBelow-skip}
 use Rattle.egt_board.proofs.Bits.{not_both}
 
 -- that side's king stands somewhere
@@ -18,10 +18,10 @@ pub record ListsMen (q : Setup) (now : List Unmove) (left : SquareSet) : Type 0 
   pub next : ℕ
   pub within : next ≤ 64
   pub listed : ListsBelow q (next * 128) now
-  pub left_is : (t : ℕ) → Has left t ↔ (IsHeld q.men t (other_side q.side) × (next ≤ t))
+  pub left_is : (t : ℕ) → Has left t ↔ (IsOccupiedBy q.men t (other_side q.side) × (next ≤ t))
   pub room : (k : ℕ) → IsKingOn q.men (other_side q.side) k → length now + 56 * size_of left ≤ 128 + 40 * bit_at left.bits k
 
-pub ListsMen-none : (q : Setup) (left : SquareSet) → ((t : ℕ) → Has left t ↔ IsHeld q.men t (other_side q.side)) → size_of left ≤ 3 → ListsMen q [] left
+pub ListsMen-none : (q : Setup) (left : SquareSet) → ((t : ℕ) → Has left t ↔ IsOccupiedBy q.men t (other_side q.side)) → size_of left ≤ 3 → ListsMen q [] left
 ListsMen-none q left held few = record {
   next = 0;
   within = omega arith;
@@ -87,10 +87,10 @@ ListsMen-more q now new left left' s man ok s_in has least gone others size stan
   room = λ k king. let all = (room_for q now left left' s man k ok has gone others size stands king (l.room k king)).0 in omega arith;
 }
   where
-    there : (t : ℕ) → Has left' t → IsHeld q.men t (other_side q.side) × (s + 1 ≤ t)
+    there : (t : ℕ) → Has left' t → IsOccupiedBy q.men t (other_side q.side) × (s + 1 ≤ t)
     there t h = grind (arith, cases_eq, not_both, bit_at)
 
-    back : (t : ℕ) → IsHeld q.men t (other_side q.side) × (s + 1 ≤ t) → Has left' t
+    back : (t : ℕ) → IsOccupiedBy q.men t (other_side q.side) × (s + 1 ≤ t) → Has left' t
     back t h = grind arith
 
 -- no man is left

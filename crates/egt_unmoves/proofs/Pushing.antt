@@ -8,7 +8,7 @@ use Rattle.egt_unmoves.specs.Prelude.{men_before, place_of, target_place, ListsB
 use Rattle.egt_unmoves.proofs.Came.{Came, came, before_is}
 use Rattle.egt_unmoves.proofs.FiveMen.{target_of}
 use Rattle.egt_unmoves.proofs.Went.{comes_went}
-use Rattle.egt_unmoves.proofs.InOrder.{squares_within, target_place_small, ListsBelow-push, ListsBelow-skip}
+use Rattle.egt_unmoves.proofs.UnmoveList.{squares_within, target_place_small, ListsBelow-push, ListsBelow-skip}
 use Rattle.egt_board.proofs.Bits.{not_both}
 
 -- a place tells the squares

@@ -8,7 +8,7 @@ use Rattle.egt_unmoves.specs.Prelude.{rank_of, square_if, square_of, KeepsPlay, 
 use Rattle.egt_unmoves.specs.Prelude.{turned_man, IsSetBy, Move, IsPawnOn, Leads, turned_move, ComesBy}
 use Rattle.std.specs.FinMap as map
 use Rattle.egt_unmoves.proofs.Came.{Came, came, not_free}
-use Rattle.egt_unmoves.proofs.InOrder.{squares_within}
+use Rattle.egt_unmoves.proofs.UnmoveList.{squares_within}
 use Rattle.egt_board.proofs.Images.{square_if-within}
 
 -- no two squares of the board become one

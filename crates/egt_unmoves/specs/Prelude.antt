@@ -12,7 +12,7 @@ pub use Rattle.egt_board.specs.Mirror.{square_by}
 pub use Rattle.egt_board.specs.MirrorLaws.{square_by-twice, square_by-within}
 pub use Rattle.egt_board.specs.Pawn.{Advances, HasNoPawn, HasPawnBeside, MayStand, ahead, farthest_advance, forward}
 pub use Rattle.egt_board.specs.Pawn.{home_rank, last_rank, pawn_of}
-pub use Rattle.egt_board.specs.Placement.{IsFree, IsHeld, Placement, Stands, get-insert_other, get-insert_same}
+pub use Rattle.egt_board.specs.Placement.{IsFree, IsOccupiedBy, Placement, Stands, get-insert_other, get-insert_same}
 pub use Rattle.egt_board.specs.Placement.{get-remove_other, get-remove_same, one_man, same_men}
 pub use Rattle.egt_board.specs.Safety.{IsKeptFrom}
 pub use Rattle.egt_board.specs.Settled.{IsSettled, SettlesTo}

@@ -1,4 +1,4 @@
-//! What holds of moves backwards. These functions do nothing: a caller calls one to know what it ensures.
+//! Laws of moves backwards. These functions do nothing: a caller calls one to know what it ensures.
 ghost use Rattle.std.specs.Prelude.{◌≡◌, ◌<◌, ℕ, Bool};
 ghost use Rattle.egt_unmoves.specs.Prelude.{AreImages, Setup, IsAdmissible, KeepsPlay, IsTurnedBy, Move, ComesBy};
 ghost use Rattle.egt_unmoves.specs.Prelude.{IsUnmove, Unmove};

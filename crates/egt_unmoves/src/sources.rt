@@ -40,7 +40,7 @@ fn quiet(position: &Position, left: &Board, man: Man) -> SquareSet
 {
     let king = position.king(position.side());
     left.shelter(king, man.side)
-        .without(attackers(left, man, king))
+        .difference(attackers(left, man, king))
 }
 
 /// The squares that the man on `to`, one of the side that waits, may have left. The board is the position's without
@@ -60,6 +60,6 @@ pub(crate) fn sources(position: &Position, left: &Board, man: Man, to: Square) -
         attackers(left, man, to)
     };
     reached
-        .without(position.board().occupied())
-        .common(quiet(position, left, man))
+        .difference(position.board().occupied())
+        .intersection(quiet(position, left, man))
 }

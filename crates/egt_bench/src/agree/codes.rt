@@ -1,5 +1,5 @@
-//! What codes spell (`docs/CLASSES.md`): digits are taken off one by one, and each image of the position is tried for a
-//! lesser code.
+//! Positions that codes spell (`docs/CLASSES.md`): digits are taken off one by one, and each image of the position is
+//! tried for a lesser code.
 use crate::agree::setup::Setup;
 use crate::agree::unmoves::is_settled_position;
 use arrayvec::ArrayVec;
@@ -36,7 +36,7 @@ struct Form {
 struct Placed {
     men: ArrayVec<(Man, u8), 4>,
     side: Side,
-    passed: bool,
+    targeted: bool,
 }
 
 /// The kind of a man beside the kings by its letter.
@@ -138,7 +138,7 @@ impl Form {
     /// The men that the code's digits put on squares, if it has no digits more.
     fn placed(&self, code: u32) -> Option<Placed> {
         let mut rest = code;
-        let passed = self.passing && taken_off(&mut rest, 2) == 1;
+        let targeted = self.passing && taken_off(&mut rest, 2) == 1;
         let side = if taken_off(&mut rest, 2) == 0 {
             Side::White
         } else {
@@ -150,7 +150,11 @@ impl Form {
             men.try_push((*man, self.square(*man, digit)?)).ok()?;
         }
         if rest == 0 {
-            Some(Placed { men, side, passed })
+            Some(Placed {
+                men,
+                side,
+                targeted,
+            })
         } else {
             None
         }
@@ -171,7 +175,9 @@ impl Form {
             .checked_mul(2)?
             .checked_add(u32::from(placed.side == Side::Black))?;
         if self.passing {
-            code = code.checked_mul(2)?.checked_add(u32::from(placed.passed))?;
+            code = code
+                .checked_mul(2)?
+                .checked_add(u32::from(placed.targeted))?;
         }
         Some(code)
     }
@@ -239,7 +245,7 @@ impl Placed {
         Placed {
             men,
             side: side_of(self.side),
-            passed: self.passed,
+            targeted: self.targeted,
         }
     }
 
@@ -247,7 +253,7 @@ impl Placed {
     fn target(&self) -> Option<u8> {
         let pawn = man(self.side.other(), Kind::P);
         for (man, square) in self.men.as_slice() {
-            if self.passed && *man == pawn {
+            if self.targeted && *man == pawn {
                 return match self.side {
                     Side::White => square.checked_add(8),
                     Side::Black => square.checked_sub(8),

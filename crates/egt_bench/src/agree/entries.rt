@@ -1,4 +1,4 @@
-//! What entries of tables say.
+//! Plain values of entries of tables.
 use crate::agree::steps::Step;
 use egt_check::Library;
 use egt_class::Class;

@@ -1,7 +1,7 @@
 //! Samples of all classes with no folder of tables: those of the first six classes are built.
 use crate::agree::damaged::{damaged_agrees, kings_damaged_agree};
 use crate::agree::games::{mate_game_agrees, zero_game_agrees};
-use crate::agree::samples::{Held, agree};
+use crate::agree::samples::{Compared, agree};
 use egt_check::Library;
 use egt_class::Class;
 use egt_sweep::build;
@@ -34,10 +34,10 @@ fn step(class: Class, few: u32, many: u32) -> u32 {
 /// Whether the class's indexes, moves, moves backwards and, where it has at most three men, entries are the plain ones.
 /// The steps are odd, so that either side moves, with a target and without.
 fn walks_agree(library: &Library, class: Class) -> bool {
-    agree(Held::Indexes, library, class, step(class, 7, 1_999)).is_ok()
-        && agree(Held::Moves, library, class, step(class, 5, 1_499)).is_ok()
-        && agree(Held::Unmoves, library, class, step(class, 17, 14_983)).is_ok()
-        && (class.number() >= FEW || agree(Held::Entries, library, class, 1).is_ok())
+    agree(Compared::Indexes, library, class, step(class, 7, 1_999)).is_ok()
+        && agree(Compared::Moves, library, class, step(class, 5, 1_499)).is_ok()
+        && agree(Compared::Unmoves, library, class, step(class, 17, 14_983)).is_ok()
+        && (class.number() >= FEW || agree(Compared::Entries, library, class, 1).is_ok())
 }
 
 /// Whether the class's games are the plain ones, as far as their children's tables are there.

@@ -1,4 +1,4 @@
-//! What is answered to whole inputs.
+//! Answers to whole inputs.
 use egt_check::Library;
 use egt_plain::shelf::{library_below, whole_library_below};
 use egt_probe::answer;
@@ -149,7 +149,7 @@ fn bytes_that_are_no_text(rt: HostRuntime) -> Result<(), Fail> {
     Ok(())
 }
 
-/// So many bytes `x`, then an end, and a line that is answered.
+/// A line of so many bytes `x`, and one that is answered.
 fn behind_long(
     alloc: Global,
     library: &Library,

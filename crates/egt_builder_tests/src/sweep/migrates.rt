@@ -15,7 +15,7 @@ use std::alloc::Global;
 use std::test::*;
 
 /// Sees that the table is true beside the library.
-fn see_true(table: &Table, library: &Library) -> Result<(), Fail>
+fn require_true(table: &Table, library: &Library) -> Result<(), Fail>
     ensures { OnOk result (IsAccepted (table_at library.now) table.now) }
 {
     match check(table, library) {
@@ -30,7 +30,7 @@ fn migrated(
     table: Table,
     library: &Library,
 ) -> Result<Result<Table, (Table, MigrateFault)>, Fail> {
-    see_true(&table, library)?;
+    require_true(&table, library)?;
     Ok(migrate(alloc, table, library))
 }
 

@@ -1,4 +1,4 @@
-//! What the checker answers to tables that are not true.
+//! The checker's answers to tables that are not true.
 use crate::kings::{table_with, whole_table_with};
 use crate::shelf::library_of;
 use crate::{PlainTables, table_of};

@@ -1,4 +1,4 @@
-//! What a library takes and gives.
+//! Tables put into a library and taken from it.
 use crate::PlainTables;
 use crate::kings::table_with;
 use crate::shelf::{entry_of, library_of, whole_library_of};

@@ -1,4 +1,4 @@
-//! What is read, and which fault other bytes have.
+//! Reading of files, and the fault that other bytes have.
 use super::has_kings;
 use crate::kings::{
     LENGTH, class, flip, kings_file, table_with, whole_kings_file, whole_table_with,

@@ -1,4 +1,4 @@
-//! What is written.
+//! The bytes of a file as written.
 use crate::kings::{LENGTH, kings_file, table_with, whole_kings_file};
 use crate::shelf::file_of;
 use egt_table::{Device, FailingSink, MemorySink, Sink, Table};

@@ -14,7 +14,7 @@ returns-in-Some c = λ t t_in.
 pub returns-in-None : goal.returns-in-None
 returns-in-None c = λ t t_in.
     let last = eqb (rank_of t) (last_rank c.args.side) in
-    let bit = bit_at c.without.result.bits t in
+    let bit = bit_at c.difference.result.bits t in
     let lasts = c.rank_squares-last.ensures t t_in ∙ ap (λ r. cond (eqb (rank_of t) r) 1 0) c.last_rank.ensures in
     subst (λ (o : Option Kind). (bit ≡ 1) ↔ FitsPromotion last o) (sym c.in-None.is)
-    (arrives_unpromoted last bit (c.without.ensures.squares t ∙ ap (λ all. min all (1 - bit_at c.rank_squares-last.result.bits t)) (bit_at_ones 64 t t_in) ∙ ap (λ n. min 1 (1 - n)) lasts))
+    (arrives_unpromoted last bit (c.difference.ensures.squares t ∙ ap (λ all. min all (1 - bit_at c.rank_squares-last.result.bits t)) (bit_at_ones 64 t t_in) ∙ ap (λ n. min 1 (1 - n)) lasts))

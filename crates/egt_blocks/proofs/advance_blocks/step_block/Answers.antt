@@ -16,7 +16,7 @@ returns-else-is_pawn_of g c = λ a b a_in b_in.
     let worth = g.S.ShelfScores.worth c.args.source.now c.args.column in
     let men = c.args.men.now in
     let side = c.args.side in
-    let other : men.one ≢ pawn_of (other_side side) = λ is. false≢true (sym c.if-is_pawn_of.false ∙ c.is_pawn_of-2.ensures.1 (is ∙ ap (λ (s : Side). pawn_of s) (sym c.other.ensures))) in
+    let other : men.first ≢ pawn_of (other_side side) = λ is. false≢true (sym c.if-is_pawn_of.false ∙ c.is_pawn_of-2.ensures.1 (is ∙ ap (λ (s : Side). pawn_of s) (sym c.other.ensures))) in
     let raised = at c.raise_advances.new.out a b in
     steps_alone number worth c.args.first men side a b other raised
     (all_advances number worth c.args.first false men side None a b (c.is_pawn_of.ensures.0 c.if-not-is_pawn_of.false) c.arrivals-arrivals.result.bits c.arrivals-arrivals.ensures men.last refl c.args.still.now (λ i u i_in u_in arrives. c.requires i u i_in u_in) a_in

@@ -20,14 +20,14 @@ returns-in-Some g c = λ told a b a_in b_in here.
     let worth = g.S.ShelfScores.worth c.args.source.now c.args.reading.now.column in
     let stand = stand_on c.args.men.now a b in
     let first = at c.turned_block.new.out a b in
-    let both = at c.raise.new.out a b in
-    home_by_two c.args.reading.now.passed number c.args.reading.now.flips stand c.args.reading.now.side c.home-first.result.0 c.in-Some.second (turns_home c.has_pawns.ensures c.class.ensures.is c.in-Some.is c.home-first.ensures) 0 first both worth
+    let both = at c.raise_to_max.new.out a b in
+    home_by_two c.args.reading.now.targeted number c.args.reading.now.flips stand c.args.reading.now.side c.home-first.result.0 c.in-Some.second (turns_home c.has_pawns.ensures c.class.ensures.is c.in-Some.is c.home-first.ensures) 0 first both worth
     (c.if-not-turned_block.ensures refl a b a_in b_in here)
-    (raised_max first (λ code. IsCodeAfter c.args.reading.now.passed number c.in-Some.second code stand c.args.reading.now.side) worth (at c.turned_block-told.new.out a b) both (c.turned_block-told.ensures told a b a_in b_in here) (c.raise.ensures a b a_in b_in))
+    (raised_max first (λ code. IsCodeAfter c.args.reading.now.targeted number c.in-Some.second code stand c.args.reading.now.side) worth (at c.turned_block-told.new.out a b) both (c.turned_block-told.ensures told a b a_in b_in here) (c.raise_to_max.ensures a b a_in b_in))
 
 pub returns-in-None : goal.returns-in-None
 returns-in-None g c = λ told a b a_in b_in here.
     let number = g.S.ShelfScores.number c.args.source.now in
     let worth = g.S.ShelfScores.worth c.args.source.now c.args.reading.now.column in
-    home_by_one c.args.reading.now.passed number c.args.reading.now.flips (stand_on c.args.men.now a b) c.args.reading.now.side c.home-first.result.0 (turns_home c.has_pawns.ensures c.class.ensures.is c.in-None.is c.home-first.ensures)
+    home_by_one c.args.reading.now.targeted number c.args.reading.now.flips (stand_on c.args.men.now a b) c.args.reading.now.side c.home-first.result.0 (turns_home c.has_pawns.ensures c.class.ensures.is c.in-None.is c.home-first.ensures)
     0 (at c.turned_block.new.out a b) worth (c.if-not-turned_block.ensures refl a b a_in b_in here)

@@ -11,7 +11,7 @@ loop-a-preserved g c = (
   λ a b a_in b_in here.
       let number = g.S.ShelfScores.number c.args.source.now in
       let worth = g.S.ShelfScores.worth c.args.source.now c.args.reading.now.column in
-      let After = λ (k w : ℕ). IsRaisedAfter c.args.reading.now.passed number worth c.args.turn (stand_on c.args.men.now k b) c.args.reading.now.side 0 w in
+      let After = λ (k w : ℕ). IsRaisedAfter c.args.reading.now.targeted number worth c.args.turn (stand_on c.args.men.now k b) c.args.reading.now.side 0 w in
       let n = c.loop-a.a in
       let out = c.loop-a.out in
       let row = c.row_after.result in
@@ -30,8 +30,8 @@ loop-a-preserved g c = (
 
 pub row_after-requires-clause-shelves : goal.row_after-requires-clause-shelves
 row_after-requires-clause-shelves g c =
-    subst (λ k. AreShelvesOf c.args.reading.now.passed k (turned_from c.args.men.now c.at-on.result c.args.turn) c.in-Some.first) c.class-class.ensures.is
-    (subst (λ (men : ShelfMen). AreShelvesOf c.args.reading.now.passed c.class-class.result men c.in-Some.first) c.turned_from-there.ensures c.in-Some.ensures.shelves)
+    subst (λ k. AreShelvesOf c.args.reading.now.targeted k (turned_from c.args.men.now c.at-on.result c.args.turn) c.in-Some.first) c.class-class.ensures.is
+    (subst (λ (men : ShelfMen). AreShelvesOf c.args.reading.now.targeted c.class-class.result men c.in-Some.first) c.turned_from-there.ensures c.in-Some.ensures.shelves)
 
 pub returns-then-are_void_after : goal.returns-then-are_void_after
 returns-then-are_void_after g c = λ told a b a_in b_in _.
@@ -41,8 +41,8 @@ returns-then-are_void_after g c = λ told a b a_in b_in _.
     let side = c.args.reading.now.side in
     let stand = stand_on c.args.men.now a b in
     let void =
-    subst (λ k. (passed : Bool) (code : ℕ) → IsTurnedCodeWith passed k turn code stand side → IsVoid k code) c.class-class.ensures.is
-    (λ passed code. c.are_void_after.ensures c.if-are_void_after.true passed code a b side a_in b_in) in
-    subst (IsRaisedAfter c.args.reading.now.passed number worth turn stand side 0) (sym (c.nothing.ensures a b a_in b_in))
-    (raised_by_zeros 0 (λ code. IsCodeAfter c.args.reading.now.passed number turn code stand side) worth
-    (λ code tells. c.requires.voids code (void c.args.reading.now.passed code (record { below = c.requires.turn; keeps = c.requires.keeps; tells = tells }))))
+    subst (λ k. (targeted : Bool) (code : ℕ) → IsTurnedCodeWith targeted k turn code stand side → IsVoid k code) c.class-class.ensures.is
+    (λ targeted code. c.are_void_after.ensures c.if-are_void_after.true targeted code a b side a_in b_in) in
+    subst (IsRaisedAfter c.args.reading.now.targeted number worth turn stand side 0) (sym (c.nothing.ensures a b a_in b_in))
+    (raised_by_zeros 0 (λ code. IsCodeAfter c.args.reading.now.targeted number turn code stand side) worth
+    (λ code tells. c.requires.voids code (void c.args.reading.now.targeted code (record { below = c.requires.turn; keeps = c.requires.keeps; tells = tells }))))

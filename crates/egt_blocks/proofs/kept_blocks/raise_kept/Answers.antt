@@ -8,4 +8,4 @@ returns-clause-raised g c = λ told a b a_in b_in.
     let number = g.S.ShelfScores.number c.args.source.now in
     let worth = g.S.ShelfScores.worth c.args.source.now c.args.column in
     let read = at (slice_index_or c.keep.new.blocks c.wide_place-place.result []) a b in
-    raised_max (at c.args.out.now a b) (λ code. IsSomeTurnedCode number code false (stand_on c.args.men.now a b) c.args.side) worth read (at c.raise.new.out a b) (c.keep.ensures.read c.if-not-keep.false a b a_in b_in) (c.raise.ensures a b a_in b_in)
+    raised_max (at c.args.out.now a b) (λ code. IsSomeTurnedCode number code false (stand_on c.args.men.now a b) c.args.side) worth read (at c.raise_to_max.new.out a b) (c.keep.ensures.read c.if-not-keep.false a b a_in b_in) (c.raise_to_max.ensures a b a_in b_in)

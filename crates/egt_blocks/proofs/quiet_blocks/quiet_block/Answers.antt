@@ -10,7 +10,7 @@ pub returns-then-not-is_own_piece-2-clause-raised : goal.returns-then-not-is_own
 returns-then-not-is_own_piece-2-clause-raised g c = λ told a b a_in b_in.
     let men = c.args.men.now in
     king_alone (g.S.ShelfScores.number c.args.source.now) (g.S.ShelfScores.worth c.args.source.now c.args.column) men c.args.side a b (at c.king_block.new.out a b) (c.king_block.ensures.raised c.if-not-king_block.false a b a_in b_in)
-    (λ own. no_piece men.one.kind (c.is_own_piece.ensures.no c.if-not-is_own_piece.true own) c.requires.one)
+    (λ own. no_piece men.first.kind (c.is_own_piece.ensures.no c.if-not-is_own_piece.true own) c.requires.one)
     (λ own. no_piece men.last.kind (c.is_own_piece-then-not-is_own_piece.ensures.no c.if-not-is_own_piece-2.true own) c.requires.last)
 
 pub returns-clause-raised : goal.returns-clause-raised

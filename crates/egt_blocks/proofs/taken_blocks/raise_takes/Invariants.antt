@@ -1,6 +1,6 @@
 use Rattle.std.specs.Prelude.{slice_index}
 use Rattle.egt_blocks.specs.Prelude.{RowsRaised}
-use Rattle.egt_blocks.proofs.Taking.{IsTake}
+use Rattle.egt_blocks.proofs.LastTaken.{IsTake}
 use Rattle.egt_blocks.proofs.taken_blocks.raise_takes.Given as goal
 
 abbrev pub invariant-loop-a : goal.invariant-loop-a

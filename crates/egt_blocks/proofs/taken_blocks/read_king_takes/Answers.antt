@@ -1,6 +1,6 @@
 use Rattle.std.proofs.Common.{arith, refl, subst, slice_index}
 use Rattle.egt_blocks.specs.Prelude.{set, other_side, ShelfMen, left_of, stand_left, IsRead}
-use Rattle.egt_blocks.proofs.Taking.{RowsTaken, taken_all, taken_more, taken_none}
+use Rattle.egt_blocks.proofs.LastTaken.{RowsTaken, taken_all, taken_more, taken_none}
 use Rattle.egt_blocks.proofs.taken_blocks.read_king_takes.Goals as goal
 
 pub loop-to-init : goal.loop-to-init
@@ -17,7 +17,7 @@ loop-to-preserved g c =
     let row = c.read_left.new.out in
     let more =
     taken_more number worth c.args.flips men side c.loop-to.rest c.pop_first.new.self c.loop-to.out to row (omega arith) c.in-Some.ensures.had c.in-Some.ensures.gone c.in-Some.ensures.others
-    (λ a a_in. subst (λ (m : ShelfMen). IsRead number worth c.args.flips (stand_left c.args.flips (left_of m m.one a)) (other_side side) (slice_index row a)) c.with_king-stepped.ensures (c.if-not-read_left.ensures refl a a_in))
+    (λ a a_in. subst (λ (m : ShelfMen). IsRead number worth c.args.flips (stand_left c.args.flips (left_of m m.first a)) (other_side side) (slice_index row a)) c.with_king-stepped.ensures (c.if-not-read_left.ensures refl a a_in))
     c.loop-to.invariant in
     subst (λ k. RowsTaken number worth c.args.flips men side c.pop_first.new.self (set c.loop-to.out k row)) (omega (arith, c.number.ensures.value, c.from.ensures)) more
 

@@ -1,4 +1,4 @@
-use Rattle.egt_blocks.proofs.Taking.{RowsTaken}
+use Rattle.egt_blocks.proofs.LastTaken.{RowsTaken}
 use Rattle.egt_blocks.proofs.taken_blocks.read_king_takes.Given as goal
 
 abbrev pub invariant-loop-to : goal.invariant-loop-to

@@ -1,6 +1,6 @@
 use Rattle.std.proofs.Common.{◌∙◌, refl, sym}
 use Rattle.egt_blocks.specs.Prelude.{false≢true, at}
-use Rattle.egt_blocks.proofs.Taking.{both_take, king_raised, king_takes}
+use Rattle.egt_blocks.proofs.LastTaken.{both_take, king_raised, king_takes}
 use Rattle.egt_blocks.proofs.taken_blocks.taken_block.Goals as goal
 
 pub returns-then-not-is_of-2 : goal.returns-then-not-is_of-2

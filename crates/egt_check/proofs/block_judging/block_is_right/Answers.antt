@@ -22,9 +22,9 @@ returns-then-half-eq0-clause-judged c = λ _ tables are.
     let part = c.args.moves.now.part in
     let side = c.args.moves.now.side in
     let lower : AreJudged part tables four.own men c.args.first side = λ x y x_in y_in.
-    let a = x + kind_less men.one.kind in
+    let a = x + kind_less men.first.kind in
     let b = y + kind_less men.last.kind in
-    let scores = c.part_scores.ensures.scores c.if-not-part_scores.false a b (square_in men.one.kind x x_in) (square_in men.last.kind y y_in) in
+    let scores = c.part_scores.ensures.scores c.if-not-part_scores.false a b (square_in men.first.kind x x_in) (square_in men.last.kind y y_in) in
     let lane = subst (λ (u : TableValue). IsRightLane part false u men side a b (code_of u.class (number_in u.class (c.args.first + x) side y)) (at c.part_scores.new.scores a b) (at c.part_scores.new.zeroing a b)) c.in-Some.ensures (c.shelves_are_right.ensures c.if-not-shelves_are_right.false x y x_in y_in) in
     c.entries_due_to_all_moves_are_right.ensures part tables four men side false a b (code_of four.own.class (number_in four.own.class (c.args.first + x) side y)) (at c.part_scores.new.scores a b) (at c.part_scores.new.zeroing a b)
     are c.requires.men.children.one c.requires.men.children.last lane scores in
@@ -39,17 +39,17 @@ returns-clause-judged c = λ told tables are.
     let side = c.args.moves.now.side in
     let scores = c.part_scores.ensures.scores c.if-not-part_scores.false in (
       λ x y x_in y_in.
-          let a = x + kind_less men.one.kind in
+          let a = x + kind_less men.first.kind in
           let b = y + kind_less men.last.kind in
           let lane = subst (λ (u : TableValue). IsRightLane part false u men side a b (code_of u.class (number_in u.class (c.args.first + x) side y)) (at c.part_scores.new.scores a b) (at c.part_scores.new.zeroing a b)) c.in-Some.ensures (c.shelves_are_right.ensures c.if-not-shelves_are_right.false x y x_in y_in) in
           c.entries_due_to_all_moves_are_right.ensures part tables four men side false a b (code_of four.own.class (number_in four.own.class (c.args.first + x) side y)) (at c.part_scores.new.scores a b) (at c.part_scores.new.zeroing a b)
-          are c.requires.men.children.one c.requires.men.children.last lane (scores a b (square_in men.one.kind x x_in) (square_in men.last.kind y y_in)),
+          are c.requires.men.children.one c.requires.men.children.last lane (scores a b (square_in men.first.kind x x_in) (square_in men.last.kind y y_in)),
       λ x y x_in y_in.
-          let a = x + kind_less men.one.kind in
+          let a = x + kind_less men.first.kind in
           let b = y + kind_less men.last.kind in
-          let a_in = square_in men.one.kind x x_in in
+          let a_in = square_in men.first.kind x x_in in
           let b_in = square_in men.last.kind y y_in in
-          let lane = subst (λ (u : TableValue). IsRightLane part true u men side a b (code_of u.class (number_in u.class (c.args.first + c.args.half + x) side y)) (at c.raise_part_passed.new.scores a b) (at c.raise_part_passed.new.zeroing a b)) c.in-Some.ensures (c.shelves_are_right-2.ensures told x y x_in y_in) in
-          c.entries_due_to_all_moves_are_right.ensures part tables four men side true a b (code_of four.own.class (number_in four.own.class (c.args.first + c.args.half + x) side y)) (at c.raise_part_passed.new.scores a b) (at c.raise_part_passed.new.zeroing a b)
-          are c.requires.men.children.one c.requires.men.children.last lane (c.raise_part_passed.ensures a b a_in b_in (scores a b a_in b_in)),
+          let lane = subst (λ (u : TableValue). IsRightLane part true u men side a b (code_of u.class (number_in u.class (c.args.first + c.args.half + x) side y)) (at c.raise_part_passing.new.scores a b) (at c.raise_part_passing.new.zeroing a b)) c.in-Some.ensures (c.shelves_are_right-2.ensures told x y x_in y_in) in
+          c.entries_due_to_all_moves_are_right.ensures part tables four men side true a b (code_of four.own.class (number_in four.own.class (c.args.first + c.args.half + x) side y)) (at c.raise_part_passing.new.scores a b) (at c.raise_part_passing.new.zeroing a b)
+          are c.requires.men.children.one c.requires.men.children.last lane (c.raise_part_passing.ensures a b a_in b_in (scores a b a_in b_in)),
     )

@@ -7,5 +7,5 @@ abbrev pub invariant-loop-digit : goal.invariant-loop-digit
 invariant-loop-digit l =
     let men = l.shelves.men in
     (x y : ℕ) → x < l.digit → y < kind_digits men.last.kind →
-    IsRightLane l.part l.shelves.passed l.table men l.shelves.side (x + kind_less men.one.kind) (y + kind_less men.last.kind) (code_of l.table.class (number_in l.table.class (l.shelves.number + x) l.shelves.side y))
-    (at l.scores (x + kind_less men.one.kind) (y + kind_less men.last.kind)) (at l.zeroing (x + kind_less men.one.kind) (y + kind_less men.last.kind))
+    IsRightLane l.part l.shelves.targeted l.table men l.shelves.side (x + kind_less men.first.kind) (y + kind_less men.last.kind) (code_of l.table.class (number_in l.table.class (l.shelves.number + x) l.shelves.side y))
+    (at l.scores (x + kind_less men.first.kind) (y + kind_less men.last.kind)) (at l.zeroing (x + kind_less men.first.kind) (y + kind_less men.last.kind))

@@ -6,7 +6,7 @@ use Rattle.egt_check.proofs.lone_judging.quiet_lanes.Goals as goal
 pub returns-then-not-is_of : goal.returns-then-not-is_of
 returns-then-not-is_of c = λ s s_in has. record {
   own = λ his. absurd (false≢true (sym c.if-not-is_of.true ∙ c.is_of.ensures.1 his));
-  other = λ theirs beside. let off = (lacked c.beside_king.result.bits _ s s_in (c.without.ensures.squares s)).0 has in let on = (c.beside_king.ensures s s_in).1 beside in omega (arith, off, on);
+  other = λ theirs beside. let off = (lacked c.beside_king.result.bits _ s s_in (c.difference.ensures.squares s)).0 has in let on = (c.beside_king.ensures s s_in).1 beside in omega (arith, off, on);
 }
 
 pub returns-then-is_pawn : goal.returns-then-is_pawn

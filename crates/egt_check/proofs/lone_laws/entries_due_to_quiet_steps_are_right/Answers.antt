@@ -1,10 +1,9 @@
 use Rattle.std.proofs.Common.{◌≡◌, ◌≢◌, ◌*◌, ◌-◌, ◌%◌, ◌<◌, ◌∙◌, ℕ, false, Some, None, ap, arith, inl, inr, refl, sym}
-use Rattle.egt_check.specs.Prelude.{other_side, Setup, Side, Spells, IsVoid, size_of, TellsMen, HasStand}
-use Rattle.egt_check.specs.Prelude.{ShelfMen, IsRaised, reach_score, Zeroes, IsTable, TableValue, Mate, Zeroing, Part}
-use Rattle.egt_check.specs.Prelude.{Values, Reach, AreCodesAlone, IsQuietAlone, NoneZeroes, stand_alone, AreGiven}
-use Rattle.egt_check.specs.Prelude.{AreThreeMen, IsDueAlone, IsToldTable, KeepsCode, KeepsPart, ThreeMen, beside}
-use Rattle.egt_check.specs.Prelude.{table_at, due_in, column_of, near_tables, Tables, entry_at}
-use Rattle.egt_check.specs.Prelude.{reach_at, HasBytes, column_score, score_at}
+use Rattle.egt_check.specs.Prelude.{other_side, TableValue, NoneZeroes, IsDueAlone, IsToldTable, KeepsCode, near_tables}
+use Rattle.egt_check.specs.Prelude.{Setup, Side, IsVoid, Zeroes, Mate, Part, Values, Reach, beside, due_in, Tables}
+use Rattle.egt_check.specs.Prelude.{Spells, size_of, IsTable, Zeroing, table_at, entry_at, reach_at, HasBytes, score_at}
+use Rattle.egt_check.specs.Prelude.{TellsMen, HasStand, ShelfMen, IsRaised, AreGiven, KeepsPart, ThreeMen, column_of}
+use Rattle.egt_check.specs.Prelude.{reach_score, AreCodesAlone, IsQuietAlone, stand_alone, AreThreeMen, column_score}
 use Rattle.egt_check.proofs.AllJudged.{some_score}
 use Rattle.egt_check.proofs.EitherGiven.{same_given}
 use Rattle.egt_check.proofs.FirstRule.{void_judged}
@@ -12,7 +11,7 @@ use Rattle.egt_check.proofs.NearJudged.{void_kept}
 use Rattle.egt_check.proofs.NearReading.{found_in, is_table_in, low_reach, near, near_at, near_scores}
 use Rattle.egt_check.proofs.NearScores.{near_raised}
 use Rattle.egt_check.proofs.QuietGiven.{alone_whole, low_score, quiet_given}
-use Rattle.egt_check.proofs.Worth.{Turning}
+use Rattle.egt_check.proofs.GreatestScores.{Turning}
 use Rattle.egt_table.specs.declared.column.Column.TheVariants as columns
 use Rattle.egt_check.proofs.lone_laws.entries_due_to_quiet_steps_are_right.Goals as goal
 

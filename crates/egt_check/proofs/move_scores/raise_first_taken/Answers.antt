@@ -8,7 +8,7 @@ returns-then-not-is_of c = λ told a b a_in b_in.
     let children = c.args.children.now in
     let men = c.args.men.now in
     let side = c.args.side in
-    let own : men.one.side ≢ other_side side = λ foe. false≢true (sym c.if-not-is_of.true ∙ c.is_of.ensures.1 (foe ∙ sym c.other.ensures)) in
+    let own : men.first.side ≢ other_side side = λ foe. false≢true (sym c.if-not-is_of.true ∙ c.is_of.ensures.1 (foe ∙ sym c.other.ensures)) in
     let none = raised_by_none 0 (AreLeftCodes children.last.now.class children.last_flips (men_swapped men) side b a) (column_score children.last.now c.args.column) (λ code h. elim h.1 [ inl king ↦ own king.0 | inr man ↦ own man.1 ]) in
     (0, none, omega arith)
 

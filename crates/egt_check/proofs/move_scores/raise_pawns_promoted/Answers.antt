@@ -25,8 +25,8 @@ returns-then-are_equal c = λ told a b a_in b_in.
       c.promotions_block.ensures c.if-not-promotions_block.false a b a_in b_in,
       subst (λ (m : ShelfMen). IsBestPromotion c.args.column children.first_pawn m c.args.side b a first) (same_order men equal)
           (subst (λ (p : Option Promotions). IsBestPromotion c.args.column p men c.args.side b a first) (sym (c.requires.same equal)) (c.promotions_block.ensures c.if-not-promotions_block.false b a b_in a_in)),
-      raised_twice (at c.args.out.now a b) last first (at c.raise.new.out a b) (at c.raise_transposed.new.out a b)
-          (c.raise.ensures a b a_in b_in) (c.raise_transposed.ensures a b a_in b_in),
+      raised_twice (at c.args.out.now a b) last first (at c.raise_to_max.new.out a b) (at c.raise_transposed.new.out a b)
+          (c.raise_to_max.ensures a b a_in b_in) (c.raise_transposed.ensures a b a_in b_in),
     )
 
 pub returns : goal.returns
@@ -38,6 +38,6 @@ returns c = λ told a b a_in b_in.
       first,
       c.promotions_block.ensures c.if-not-promotions_block.false a b a_in b_in,
       subst (λ (m : ShelfMen). IsBestPromotion c.args.column children.first_pawn m c.args.side b a first) c.men_swapped.ensures (c.promotions_block-2.ensures c.if-not-promotions_block-2.false b a b_in a_in),
-      raised_twice (at c.args.out.now a b) last first (at c.raise.new.out a b) (at c.raise_transposed-2.new.out a b)
-          (c.raise.ensures a b a_in b_in) (c.raise_transposed-2.ensures a b a_in b_in),
+      raised_twice (at c.args.out.now a b) last first (at c.raise_to_max.new.out a b) (at c.raise_transposed-2.new.out a b)
+          (c.raise_to_max.ensures a b a_in b_in) (c.raise_transposed-2.ensures a b a_in b_in),
     )

@@ -17,7 +17,7 @@ module _ (part : Part) (tables : Tables) (t : TableValue) (men : ShelfMen) (pair
   of_pair : (pair i : ℕ) → ((side : Side) → IsJudgedPair part tables t men pairs side pair) → i < size_of t.class → pair * pairs.codes ≤ i → i < (pair + 1) * pairs.codes → KeepsPart part tables t i
   of_pair pair i judged = pair_keeps (KeepsPart part tables t) t.class men.last.kind pairs.step pair pairs.half pairs.codes i are.wide
       (are.codes ∙ ap (λ w. ends_of (material_of t.class) * w * pairs.step) are.wide) halves
-      (λ x y side x_in y_in. let same = are.step in let x_few : x < kind_digits men.one.kind = omega (arith, same, x_in) in let both = judged side in (both.0 x y x_few y_in, both.1 x y x_few y_in))
+      (λ x y side x_in y_in. let same = are.step in let x_few : x < kind_digits men.first.kind = omega (arith, same, x_in) in let both = judged side in (both.0 x y x_few y_in, both.1 x y x_few y_in))
 
 -- each code of all pairs is one of a pair's
 pair_of : (codes pairs n i : ℕ) → pairs * codes ≡ n → i < n → (pair : ℕ) × (pair < pairs) × (pair * codes ≤ i) × (i < (pair + 1) * codes)

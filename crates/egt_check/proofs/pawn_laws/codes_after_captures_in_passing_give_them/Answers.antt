@@ -1,5 +1,5 @@
 use Rattle.egt_check.proofs.PawnGiven.{captures_in_passing_given}
-use Rattle.egt_check.proofs.Worth.{Turning}
+use Rattle.egt_check.proofs.GreatestScores.{Turning}
 use Rattle.egt_check.proofs.pawn_laws.codes_after_captures_in_passing_give_them.Goals as goal
 
 pub returns : goal.returns

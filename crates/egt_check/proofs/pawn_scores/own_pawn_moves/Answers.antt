@@ -10,7 +10,7 @@ returns-then-not-is_pawn_of c = λ told a b a_in b_in. record {
   by_last = at c.advances_block.new.out a b;
   by_first = 0;
   last_is = c.advances_block.ensures c.if-not-advances_block.false a b a_in b_in;
-  first_is = no_advances c.args.column c.args.own.now true (men_swapped c.args.men.now) c.args.side b a (no_own_pawn c.is_pawn_of.result c.args.men.now.one c.args.side c.is_pawn_of.ensures c.if-not-is_pawn_of.true);
+  first_is = no_advances c.args.column c.args.own.now true (men_swapped c.args.men.now) c.args.side b a (no_own_pawn c.is_pawn_of.result c.args.men.now.first c.args.side c.is_pawn_of.ensures c.if-not-is_pawn_of.true);
   is = omega arith;
 }
 

@@ -1,5 +1,5 @@
 use Rattle.egt_check.specs.Prelude.{ShowsReachOf, table_at, beside}
-use Rattle.egt_check.proofs.Nearing.{least_reach_due, no_reach_due, stands_unmated}
+use Rattle.egt_check.proofs.NearestStep.{least_reach_due, no_reach_due, stands_unmated}
 use Rattle.egt_check.proofs.reach_judging.reach_due.Goals as goal
 
 pub returns-in-Some : goal.returns-in-Some

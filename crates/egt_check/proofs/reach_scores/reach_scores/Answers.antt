@@ -11,7 +11,7 @@ returns-then-not-has_pawn-clause-scores c = λ told a b a_in b_in. record {
   quiet_raised = c.quiet_block.ensures.raised c.if-not-quiet_block.false a b a_in b_in;
   zeroed_are = zeroed_alone Reach c.args.four.now c.args.men.now c.args.side a b (at c.args.leaving.now a b)
       (c.has_pawn.ensures.last c.if-not-has_pawn.true) (c.has_pawn.ensures.one c.if-not-has_pawn.true) (c.requires.leaving a b a_in b_in);
-  is = c.raise.ensures a b a_in b_in;
+  is = c.raise_to_max.ensures a b a_in b_in;
 }
 
 pub returns-clause-scores : goal.returns-clause-scores
@@ -23,6 +23,6 @@ returns-clause-scores c = λ told a b a_in b_in.
       quiet_raised = c.quiet_block.ensures.raised c.if-not-quiet_block.false a b a_in b_in;
       zeroed_are = zeroing_of Reach c.args.four.now c.args.men.now c.args.side a b leaving pawns (max leaving pawns)
           (c.requires.leaving a b a_in b_in) (c.advances.ensures.scores c.if-not-advances.false a b a_in b_in) refl;
-      is = raised_twice (at c.quiet_block.new.out a b) leaving pawns (at c.raise.new.out a b) (at c.raise-2.new.out a b)
-          (c.raise.ensures a b a_in b_in) (c.raise-2.ensures a b a_in b_in);
+      is = raised_twice (at c.quiet_block.new.out a b) leaving pawns (at c.raise_to_max.new.out a b) (at c.raise_to_max-2.new.out a b)
+          (c.raise_to_max.ensures a b a_in b_in) (c.raise_to_max-2.ensures a b a_in b_in);
     }

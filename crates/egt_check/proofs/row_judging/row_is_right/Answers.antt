@@ -24,7 +24,7 @@ returns c = λ right digit below some.
     let own = slice_index c.row_of-own.result b in
     let moves = slice_index c.args.scores b in
     let code = code_of t.class (number_in t.class shelf side digit) in
-    let own_is : own ≡ column_score t (column_of part) code = subst (λ (column : Column). own ≡ column_score t column code) c.column_of.ensures (lane_is c.args.shelf.now.passed t c.column_of.result men shelf side c.requires.shelf c.codes_tell_turned_men.ensures.one digit own below (c.row_of-own.ensures b b_in)) in
+    let own_is : own ≡ column_score t (column_of part) code = subst (λ (column : Column). own ≡ column_score t column code) c.column_of.ensures (lane_is c.args.shelf.now.targeted t c.column_of.result men shelf side c.requires.shelf c.codes_tell_turned_men.ensures.one digit own below (c.row_of-own.ensures b b_in)) in
     let there : own ≢ 0 = λ none. some (sym own_is ∙ none) in
     let marked : slice_index c.unlike-within.result b ≡ (if moves == 0 then 0 else own) =
     c.unlike-within.ensures b b_in ∙ ap (λ n. if moves == n then 0 else own) (get_or-replicate 64 b 0 0 b_in) in

@@ -1,6 +1,6 @@
 use Rattle.std.specs.Prelude.{ℕ, IsSome}
 use Rattle.egt_check.specs.Prelude.{table_at, beside}
-use Rattle.egt_check.proofs.Finding.{after_step, beside_some, own_some, place_below}
+use Rattle.egt_check.proofs.TableFound.{after_step, beside_some, own_some, place_below}
 use Rattle.egt_check.proofs.successors.entries_after.Goals as goal
 
 pub entries_in-requires-clause-there : goal.entries_in-requires-clause-there

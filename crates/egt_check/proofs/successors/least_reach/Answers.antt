@@ -1,7 +1,7 @@
 use Rattle.std.proofs.Common.{◌≡◌, ℕ, ◌+◌, Some, sym, subst}
 use Rattle.egt_check.specs.Prelude.{Contains, Setup, Move, IsNearest, ShowsReachOf, table_at, beside, Tried}
 use Rattle.egt_check.specs.Prelude.{listed_there, tried_before, tried_listed, untried}
-use Rattle.egt_check.proofs.Nearing.{least_found, nearest_of_both, nearest_of_none, nearest_of_one, nowhere_found}
+use Rattle.egt_check.proofs.NearestStep.{least_found, nearest_of_both, nearest_of_none, nearest_of_one, nowhere_found}
 use Rattle.egt_check.proofs.successors.least_reach.Goals as goal
 
 pub loop-chess_move-init : goal.loop-chess_move-init

@@ -1,5 +1,5 @@
 use Rattle.egt_check.specs.Prelude.{HasReachAt, table_at, beside}
-use Rattle.egt_check.proofs.Finding.{after_step, child_reach, own_reach, place_below}
+use Rattle.egt_check.proofs.TableFound.{after_step, child_reach, own_reach, place_below}
 use Rattle.egt_check.proofs.successors.reach_after.Goals as goal
 
 pub reach_in-requires-clause-there : goal.reach_in-requires-clause-there

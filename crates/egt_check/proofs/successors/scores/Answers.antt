@@ -1,6 +1,6 @@
 use Rattle.egt_entries.specs.Tables.{table_at, beside}
 use Rattle.egt_entries.proofs.Scoring.{told}
-use Rattle.egt_check.proofs.Stepping.{Seen, scores_by}
+use Rattle.egt_check.proofs.MoveScored.{Seen, scores_by}
 use Rattle.egt_check.proofs.successors.scores.Goals as goal
 
 pub returns : goal.returns

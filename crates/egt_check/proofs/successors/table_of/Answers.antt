@@ -1,6 +1,6 @@
 use Rattle.std.proofs.Common.{◌≡◌, eqb, false, ap, sym, subst, ◌∙◌, IsSome}
 use Rattle.egt_check.specs.Prelude.{option_map, eqb-true, table_at}
-use Rattle.egt_check.proofs.Finding.{beside_own, beside_other, some_before}
+use Rattle.egt_check.proofs.TableFound.{beside_own, beside_other, some_before}
 use Rattle.egt_check.proofs.successors.table_of.Goals as goal
 
 pub unwrap-requires : goal.unwrap-requires

@@ -1,12 +1,12 @@
 use Rattle.std.proofs.Common.{◌≡◌, ℕ, sym, subst}
-use Rattle.egt_check.specs.Prelude.{ShelfMen, TableValue, AreFourMen, AreTablesOf, IsOwnTable, column_of, four_in}
-use Rattle.egt_check.specs.Prelude.{tables_in, Children, FourMen, Part, Tables, beside, table_at}
+use Rattle.egt_check.specs.Prelude.{ShelfMen, TableValue, AreFourMenTables, AreTablesOf, IsOwnTable, column_of, four_in}
+use Rattle.egt_check.specs.Prelude.{tables_in, Children, FourMenTables, Part, Tables, beside, table_at}
 use Rattle.egt_check.proofs.table_judging.four_men.Goals as goal
 
 -- what holds beside each table of the class holds beside this one
-beside_this : (part : Part) (class : ℕ) (tables : Tables) (t : TableValue) (men : ShelfMen) (children : Children) (four : FourMen) → four.own ≡ t → four.children ≡ children → IsOwnTable part class men t
-    → ((other : FourMen) → other.children ≡ children → IsOwnTable part class men other.own → AreFourMen (column_of part) other men × AreTablesOf (tables_in part (beside tables other.own)) (four_in part other) men)
-    → AreFourMen (column_of part) four men × AreTablesOf (tables_in part (beside tables t)) (four_in part four) men
+beside_this : (part : Part) (class : ℕ) (tables : Tables) (t : TableValue) (men : ShelfMen) (children : Children) (four : FourMenTables) → four.own ≡ t → four.children ≡ children → IsOwnTable part class men t
+    → ((other : FourMenTables) → other.children ≡ children → IsOwnTable part class men other.own → AreFourMenTables (column_of part) other men × AreTablesOf (tables_in part (beside tables other.own)) (four_in part other) men)
+    → AreFourMenTables (column_of part) four men × AreTablesOf (tables_in part (beside tables t)) (four_in part four) men
 beside_this part class tables t men children four own same is each =
     let are = each four same (subst (λ (u : TableValue). IsOwnTable part class men u) (sym own) is) in
     (are.0, subst (λ (u : TableValue). AreTablesOf (tables_in part (beside tables u)) (four_in part four) men) own are.1)

@@ -1,12 +1,12 @@
 use Rattle.std.proofs.Common.{◌≡◌, ◌↔◌, ◌+◌, ℕ, List, Option, sym, subst}
-use Rattle.egt_check.specs.Prelude.{other_side, Side, Column, BlockKey, ShelfMen, with_kings, AreKept, AreFourMen}
-use Rattle.egt_check.specs.Prelude.{AreTablesOf, column_of, four_in, tables_in, AreJudged, FourMen, Part, column_score}
+use Rattle.egt_check.specs.Prelude.{other_side, Side, Column, BlockKey, ShelfMen, with_kings, AreKept, AreFourMenTables}
+use Rattle.egt_check.specs.Prelude.{AreTablesOf, column_of, four_in, tables_in, AreJudged, FourMenTables, Part, column_score}
 use Rattle.egt_check.proofs.PromotionTables.{four_there, tables_of_there}
 use Rattle.egt_check.proofs.table_judging.pair_is_right.Goals as goal
 
 -- they are the tables of the men there
-are_there : (part : Part) (four : FourMen) (men there : ShelfMen) (white black : ℕ) → there ≡ with_kings men white black → AreFourMen (column_of part) four men → AreFourMen (column_of part) four there
-are_there part four men there white black is are = subst (λ (other : ShelfMen). AreFourMen (column_of part) four other) (sym is) (four_there men white black (column_of part) four are)
+are_there : (part : Part) (four : FourMenTables) (men there : ShelfMen) (white black : ℕ) → there ≡ with_kings men white black → AreFourMenTables (column_of part) four men → AreFourMenTables (column_of part) four there
+are_there part four men there white black is are = subst (λ (other : ShelfMen). AreFourMenTables (column_of part) four other) (sym is) (four_there men white black (column_of part) four are)
 
 pub block_is_right-requires-clause-men : goal.block_is_right-requires-clause-men
 block_is_right-requires-clause-men c = are_there c.args.moves.now.part c.args.moves.now.four.now c.args.moves.now.men.now c.with_kings-there.result c.in-Some.here.white c.in-Some.here.black c.with_kings-there.ensures c.requires.men

@@ -1,5 +1,5 @@
 use Rattle.std.proofs.Common.{◌∙◌, ap, sym, ℕ, List, slice_index}
-use Rattle.egt_check.proofs.LoneRead.{of_pawn, of_piece}
+use Rattle.egt_check.proofs.LoneEntries.{of_pawn, of_piece}
 use Rattle.egt_check.proofs.table_scores.lone_row_of.Goals.{then-is_pawn, else-is_pawn}
 use Rattle.egt_check.proofs.table_scores.lone_row_of.Goals as goal
 

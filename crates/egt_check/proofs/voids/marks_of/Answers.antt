@@ -12,5 +12,5 @@ returns c = λ k below.
     let b_in = square_in men.last.kind k below in
     let lane = slice_index c.row-row.result b in
     let score : lane ≡ column_score t c.args.column (code_of t.class (number_in t.class c.args.shelf c.args.side k)) =
-    lane_is c.args.passed t c.args.column men c.args.shelf c.args.side c.requires.shelf c.codes_tell_turned_men.ensures.one k lane below (c.row-row.ensures b b_in) in
+    lane_is c.args.targeted t c.args.column men c.args.shelf c.args.side c.requires.shelf c.codes_tell_turned_men.ensures.one k lane below (c.row-row.ensures b b_in) in
     bit_shifted c.lanes_of.result.bits c.first_square.result k ∙ ap (λ less. bit_at c.lanes_of.result.bits (k + less)) c.first_square.ensures ∙ c.lanes_of.ensures b b_in ∙ ap mark score

@@ -6,10 +6,10 @@ use Rattle.egt_check.proofs.Marks.{mark, numbers_within, shelf_told}
 use Rattle.egt_check.proofs.voids.tells_shelf.Goals as goal
 
 pub marks_of-white-requires-clause-shelf : goal.marks_of-white-requires-clause-shelf
-marks_of-white-requires-clause-shelf c = subst (λ k. IsShelfOf c.in-Some-is_passed.passed k c.args.shelf c.in-Some.men) (c.class-class.ensures.class ∙ ap (λ (u : TableValue). u.class) (sym c.of_table-own.ensures)) c.in-Some-is_passed.ensures
+marks_of-white-requires-clause-shelf c = subst (λ k. IsShelfOf c.in-Some-is_targeted.targeted k c.args.shelf c.in-Some.men) (c.class-class.ensures.class ∙ ap (λ (u : TableValue). u.class) (sym c.of_table-own.ensures)) c.in-Some-is_targeted.ensures
 
 pub marks_of-black-requires-clause-shelf : goal.marks_of-black-requires-clause-shelf
-marks_of-black-requires-clause-shelf c = subst (λ k. IsShelfOf c.in-Some-is_passed.passed k c.args.shelf c.in-Some.men) (c.class-class.ensures.class ∙ ap (λ (u : TableValue). u.class) (sym c.of_table-own.ensures)) c.in-Some-is_passed.ensures
+marks_of-black-requires-clause-shelf c = subst (λ k. IsShelfOf c.in-Some-is_targeted.targeted k c.args.shelf c.in-Some.men) (c.class-class.ensures.class ∙ ap (λ (u : TableValue). u.class) (sym c.of_table-own.ensures)) c.in-Some-is_targeted.ensures
 
 pub returns-then-white-indexes : goal.returns-then-white-indexes
 returns-then-white-indexes c = λ black.

@@ -1,5 +1,5 @@
 use Rattle.std.proofs.Common.{length, ◌∙◌, arith}
-use Rattle.egt_graph.proofs.Taking.{turn_from, sources_within, turn_won, turn_lost, turn_waited, turns_begin, turns_end}
+use Rattle.egt_graph.proofs.BatchTaken.{turn_from, sources_within, turn_won, turn_lost, turn_waited, turns_begin, turns_end}
 use Rattle.egt_graph.proofs.step.take_in.Goals as goal
 use Rattle.egt_graph.proofs.step.take_in.Goals.{then-entries-nodes, else-entries-nodes}
 

@@ -1,6 +1,6 @@
 use Rattle.std.proofs.Common.{Some, sym, subst}
 use Rattle.egt_index.specs.Prelude.{option_to_list, Tells, Entry, HasDigit, men_among}
-use Rattle.egt_index.proofs.Splitting.{tells_one}
+use Rattle.egt_index.proofs.DigitsTaken.{tells_one}
 use Rattle.egt_index.proofs.codes.entry_behind.Goals as goal
 
 pub returns-in-Some-clause-tells : goal.returns-in-Some-clause-tells

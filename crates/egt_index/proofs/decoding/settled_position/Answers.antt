@@ -2,7 +2,7 @@ use Rattle.std.proofs.Common.{◌∙◌, IfNone, arith, sym, subst}
 use Rattle.egt_index.specs.Prelude.{false≢true, FitsBoard, Placement, IsSettled, IsAdmissible, IsKingOn, Setup, White}
 use Rattle.egt_index.specs.Prelude.{Black, material_of, Spells, list_of}
 use Rattle.egt_index.proofs.Decoded.{has_pawns_list, list_spelled, no_men, spelled_setup}
-use Rattle.egt_index.proofs.Halves.{of_targets}
+use Rattle.egt_index.proofs.NumbersOfCodes.{of_targets}
 use Rattle.egt_index.proofs.OnePosition.{spells_once}
 use Rattle.egt_index.proofs.Setups.{AreKings, fits_apart, kings_spelled, on_board_of, pawns_spelled, setup_spelled}
 use Rattle.egt_index.proofs.decoding.settled_position.Goals.{After-board_of-board, After-is_settled}

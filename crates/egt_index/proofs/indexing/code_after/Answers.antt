@@ -1,5 +1,4 @@
-use Rattle.std.proofs.Common.{◌≢◌, ◌≡◌, ℕ, ◌/◌, ◌<◌, ◌==◌, ◌∷◌, [], Bool, Option, Some, cond, arith, ◌∙◌, sym, subst}
-use Rattle.std.proofs.Common.{ap}
+use Rattle.std.proofs.Common.{◌≢◌, ◌≡◌, ℕ, ◌/◌, ◌<◌, ◌==◌, ◌∷◌, [], Bool, Option, Some, cond, arith, ◌∙◌, sym, subst, ap}
 use Rattle.egt_index.specs.Prelude.{is_some, side_number, turned_side, material_of, king_square, target_digit}
 use Rattle.egt_index.specs.Prelude.{number_from, king_base, has_pawns, has_target, Tells, men_among, rest_of, CodeAfter}
 use Rattle.egt_index.proofs.After.{ImageStood, image_stood, digits_after, code_stood}
@@ -27,8 +26,8 @@ returns c = λ p has keeps.
     (subst (λ h. Tells (has_pawns (material_of c.args.class)) c.number_behind-number.result (men_among (rest_of c.stand_after-after.result)) h (rest_of c.stand_after-after.result)) c.from.ensures
     (c.number_behind-number.ensures.tells digits.0 digits.1 (has_pawns (material_of c.args.class))))
     (c.with_side.ensures
-    ∙ ap (λ side. number_from c.number_behind-number.result (2 ∷ cond (has_target (material_of c.args.class)) (2 ∷ []) []) (side_number side ∷ cond (has_target (material_of c.args.class)) (cond c.args.passed 1 0 ∷ []) [])) (c.side_after-side.ensures ∙ ap (turned_side (c.args.turn / 8 == 1)) (sym has.side_is))
-    ∙ ap (λ d. number_from c.number_behind-number.result (2 ∷ cond (has_target (material_of c.args.class)) (2 ∷ []) []) (side_number (turned_side (c.args.turn / 8 == 1) p.side) ∷ cond (has_target (material_of c.args.class)) (d ∷ []) [])) (passed_digit p.target c.args.passed has.target_is))
+    ∙ ap (λ side. number_from c.number_behind-number.result (2 ∷ cond (has_target (material_of c.args.class)) (2 ∷ []) []) (side_number side ∷ cond (has_target (material_of c.args.class)) (cond c.args.targeted 1 0 ∷ []) [])) (c.side_after-side.ensures ∙ ap (turned_side (c.args.turn / 8 == 1)) (sym has.side_is))
+    ∙ ap (λ d. number_from c.number_behind-number.result (2 ∷ cond (has_target (material_of c.args.class)) (2 ∷ []) []) (side_number (turned_side (c.args.turn / 8 == 1) p.side) ∷ cond (has_target (material_of c.args.class)) (d ∷ []) [])) (passed_digit p.target c.args.targeted has.target_is))
   where
-    passed_digit : (o : Option ℕ) (passed : Bool) → is_some o ≡ passed → cond passed 1 0 ≡ target_digit o
-    passed_digit o passed is = grind arith
+    passed_digit : (o : Option ℕ) (targeted : Bool) → is_some o ≡ targeted → cond targeted 1 0 ≡ target_digit o
+    passed_digit o targeted is = grind arith

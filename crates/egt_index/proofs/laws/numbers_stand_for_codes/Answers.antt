@@ -1,5 +1,5 @@
 use Rattle.egt_index.proofs.Exists.{index_settled}
-use Rattle.egt_index.proofs.Halves.{code_back, code_below, number_back, number_below, number_within}
+use Rattle.egt_index.proofs.NumbersOfCodes.{code_back, code_below, number_back, number_below, number_within}
 use Rattle.egt_index.proofs.ShelfCodes.{halves}
 use Rattle.egt_index.proofs.laws.numbers_stand_for_codes.Goals as goal
 

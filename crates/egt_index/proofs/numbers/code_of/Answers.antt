@@ -1,6 +1,6 @@
 use Rattle.std.proofs.Common.{◌≡◌, ◌<◌, ◌*◌, ◌+◌, ◌-◌, true, arith, sym, ◌∙◌, subst}
 use Rattle.egt_index.specs.Prelude.{material_of, code_of, has_target, size_of}
-use Rattle.egt_index.proofs.Halves.{code_below, code_high, code_low, code_plain}
+use Rattle.egt_index.proofs.NumbersOfCodes.{code_below, code_high, code_low, code_plain}
 use Rattle.egt_index.proofs.IndexTotal.{few}
 use Rattle.egt_index.proofs.numbers.code_of.Goals.{After-half-half, Else-number-half, Then-number-half}
 use Rattle.egt_index.proofs.numbers.code_of.Goals as goal

@@ -1,5 +1,5 @@
 use Rattle.std.proofs.Common.{ap, sym, ◌∙◌, ◌/◌}
-use Rattle.egt_index.proofs.Halves.{half_plain, half_targets}
+use Rattle.egt_index.proofs.NumbersOfCodes.{half_plain, half_targets}
 use Rattle.egt_index.proofs.numbers.half.Goals as goal
 
 pub returns-then-has_target : goal.returns-then-has_target

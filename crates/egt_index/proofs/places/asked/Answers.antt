@@ -27,12 +27,12 @@ loop-digit-preserved c =
     let first = c.args.shelf * (2 * c.last_digits-digits.result) in
     record {
       white = indexed_more c.args.class first digit _ _ c.is_index-is_white.result before.white
-          (subst (λ s. bit_at c.changed-white.result.bits s ≡ (if c.is_index-is_white.result then 1 else 0)) c.at-bit.ensures c.changed-white.ensures.same)
-          (λ t other. c.changed-white.ensures.others t (λ e. other (e ∙ c.at-bit.ensures)))
+          (subst (λ s. bit_at c.set-white.result.bits s ≡ (if c.is_index-is_white.result then 1 else 0)) c.at-bit.ensures c.set-white.ensures.same)
+          (λ t other. c.set-white.ensures.others t (λ e. other (e ∙ c.at-bit.ensures)))
           c.is_index-is_white.ensures;
       black = indexed_more c.args.class (first + 1) digit _ _ c.is_index-is_black.result before.black
-          (subst (λ s. bit_at c.changed-black.result.bits s ≡ (if c.is_index-is_black.result then 1 else 0)) c.at-bit.ensures c.changed-black.ensures.same)
-          (λ t other. c.changed-black.ensures.others t (λ e. other (e ∙ c.at-bit.ensures)))
+          (subst (λ s. bit_at c.set-black.result.bits s ≡ (if c.is_index-is_black.result then 1 else 0)) c.at-bit.ensures c.set-black.ensures.same)
+          (λ t other. c.set-black.ensures.others t (λ e. other (e ∙ c.at-bit.ensures)))
           (subst (λ n. TellsIndex c.is_index-is_black.result c.args.class (code_of c.args.class n)) (along first digit) c.is_index-is_black.ensures);
     }
   where

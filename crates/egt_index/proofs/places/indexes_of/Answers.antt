@@ -1,6 +1,6 @@
 use Rattle.std.proofs.Common.{arith, ◌≡◌, ◌<◌, ◌*◌, ◌≤◌, Option, Some, IfSome, IfNone, Bool, ℕ, sym, subst, ◌∙◌}
 use Rattle.egt_index.specs.Prelude.{false≢true, IsSome, places, IsShelfBehind, IsWithin, size_of}
-use Rattle.egt_index.proofs.Halves.{of_targets, places_some}
+use Rattle.egt_index.proofs.NumbersOfCodes.{of_targets, places_some}
 use Rattle.egt_index.proofs.Numbered.{no_indexes}
 use Rattle.egt_index.proofs.places.indexes_of.Goals as goal
 
@@ -9,14 +9,14 @@ found : (c shelf : ℕ) (o : Option (ℕ × Bool)) → c < 36 → IsWithin c she
 found c shelf o c_in within past = grind (arith, places_some)
 
 pub unwrap-number-requires : goal.unwrap-number-requires
-unwrap-number-requires c = found c.args.class c.args.shelf c.front_number.result (omega (arith, c.number-number.ensures.below, c.number-number.ensures.value)) c.requires c.front_number.ensures.past
+unwrap-number-requires c = found c.args.class c.args.shelf c.prefix_number.result (omega (arith, c.number-number.ensures.below, c.number-number.ensures.value)) c.requires c.prefix_number.ensures.past
 
 behind : (class shelf : ℕ) (o : Option (ℕ × Bool)) (x : ℕ × Bool) → o ≡ Some x → IfSome o (λ found. IsShelfBehind found.1 class shelf found.0) → IsShelfBehind x.1 class shelf x.0
 behind class shelf o x is at = subst (λ (o : Option (ℕ × Bool)). IfSome o (λ found. IsShelfBehind found.1 class shelf found.0)) is at
 
 pub returns-then-not-may_pass : goal.returns-then-not-may_pass
 returns-then-not-may_pass c =
-    let at = behind c.args.class c.args.shelf c.front_number.result c.unwrap-number.result c.unwrap-number.ensures c.front_number.ensures.behind in
+    let at = behind c.args.class c.args.shelf c.prefix_number.result c.unwrap-number.result c.unwrap-number.ensures c.prefix_number.ensures.behind in
     no_indexes c.args.class c.args.shelf c.unwrap-number.result.0 (omega (arith, c.number-number.ensures.below, c.number-number.ensures.value))
-    (of_targets c.args.class (λ none. absurd (false≢true (sym (at.may none) ∙ c.if-passed.true))) (λ has. has))
-    (subst (λ (passed : Bool). IsShelfBehind passed c.args.class c.args.shelf c.unwrap-number.result.0) c.if-passed.true at) (c.may_pass.ensures c.if-not-may_pass.true) c.default.result c.default.ensures.0 c.default.ensures.1 c.facts.ensures
+    (of_targets c.args.class (λ none. absurd (false≢true (sym (at.may none) ∙ c.if-targeted.true))) (λ has. has))
+    (subst (λ (targeted : Bool). IsShelfBehind targeted c.args.class c.args.shelf c.unwrap-number.result.0) c.if-targeted.true at) (c.may_pass.ensures c.if-not-may_pass.true) c.default.result c.default.ensures.0 c.default.ensures.1 c.facts.ensures

@@ -1,7 +1,7 @@
 use Rattle.std.proofs.Common.{arith, sym, ◌∙◌}
 use Rattle.egt_index.specs.Prelude.{material_of, men_beside}
-use Rattle.egt_index.proofs.Fronts.{last_beside}
-use Rattle.egt_index.proofs.Halves.{places_of_last, places_of_none, whole_numbers}
+use Rattle.egt_index.proofs.Prefixes.{last_beside}
+use Rattle.egt_index.proofs.NumbersOfCodes.{places_of_last, places_of_none, whole_numbers}
 use Rattle.egt_index.proofs.shelf.last_digits.Goals as goal
 
 pub returns-in-Some-clause-is : goal.returns-in-Some-clause-is

@@ -6,11 +6,11 @@ use Rattle.egt_index.proofs.Setups.{AreKings, fits_apart, kings_spelled, on_boar
 use Rattle.egt_index.proofs.spelling.spelled_position.Goals as goal
 
 -- what is spelled has these men, and the target that they tell of
-setup : (passed : Bool) (c code : ℕ) (p : Setup) (stand : Stand) (side : Side) (target : Option ℕ) → Spells c code p → TellsMen passed c code stand side → IsTold passed side (list_of stand) target → FitsBoard (list_of stand) × (p ≡ setup_of (list_of stand) side target)
-setup passed c code p stand side target spells tells told = spelled_setup c code tells.number side passed (list_of stand) target p tells.ends tells.men told spells
+setup : (targeted : Bool) (c code : ℕ) (p : Setup) (stand : Stand) (side : Side) (target : Option ℕ) → Spells c code p → TellsMen targeted c code stand side → IsTold targeted side (list_of stand) target → FitsBoard (list_of stand) × (p ≡ setup_of (list_of stand) side target)
+setup targeted c code p stand side target spells tells told = spelled_setup c code tells.number side targeted (list_of stand) target p tells.ends tells.men told spells
 
-kings : (passed : Bool) (c code : ℕ) (p : Setup) (stand : Stand) (side : Side) (target : Option ℕ) → c < 36 → Spells c code p → TellsMen passed c code stand side → IsTold passed side (list_of stand) target → AreKings stand
-kings passed c code p stand side target c_in spells tells told = kings_spelled c tells.number stand c_in tells.men (fits_apart (list_of stand) (setup passed c code p stand side target spells tells told).0)
+kings : (targeted : Bool) (c code : ℕ) (p : Setup) (stand : Stand) (side : Side) (target : Option ℕ) → c < 36 → Spells c code p → TellsMen targeted c code stand side → IsTold targeted side (list_of stand) target → AreKings stand
+kings targeted c code p stand side target c_in spells tells told = kings_spelled c tells.number stand c_in tells.men (fits_apart (list_of stand) (setup targeted c code p stand side target spells tells told).0)
 
 pub board_of-board-requires : goal.board_of-board-requires
 board_of-board-requires c = fits_apart (list_of c.spelled_stand-stand.result.0) (setup _ _ _ _ _ _ c.target_of-target.result c.requires.1 c.spelled_stand-stand.ensures.tells c.target_of-target.ensures).0

@@ -2,7 +2,7 @@ use Rattle.std.proofs.Common.{arith, ◌≡◌, Option, Some, None, IfNone, IfSo
 use Rattle.egt_index.specs.Prelude.{false≢true, IsSome, material_of, SpellsMen, SpellsNoMen, IsFilled, list_of, Stand}
 use Rattle.egt_index.proofs.AtIndex.{taken}
 use Rattle.egt_index.proofs.Decoded.{has_pawns_list, no_men}
-use Rattle.egt_index.proofs.Halves.{of_targets}
+use Rattle.egt_index.proofs.NumbersOfCodes.{of_targets}
 use Rattle.egt_index.proofs.spelling.spelled_stand.Goals.{After-unwrap-stand}
 use Rattle.egt_index.proofs.spelling.spelled_stand.Goals as goal
 

@@ -1,4 +1,4 @@
-use Rattle.egt_index.proofs.Splitting.{split_pawn}
+use Rattle.egt_index.proofs.DigitsTaken.{split_pawn}
 use Rattle.egt_index.proofs.spelling.split.Goals as goal
 
 pub returns-in-P : goal.returns-in-P

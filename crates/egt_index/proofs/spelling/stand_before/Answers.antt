@@ -1,6 +1,6 @@
 use Rattle.std.proofs.Common.{◌<◌, ◌≤◌, ap, sym, ◌∙◌, subst, IfNone}
 use Rattle.egt_index.specs.Prelude.{material_of, king_square, IsNoneBefore, king_base, has_pawns}
-use Rattle.egt_index.proofs.Fronts.{is_before, none_before}
+use Rattle.egt_index.proofs.Prefixes.{is_before, none_before}
 use Rattle.egt_index.proofs.spelling.stand_before.Goals as goal
 
 pub returns-in_err-white-clause-none : goal.returns-in_err-white-clause-none

@@ -1,6 +1,6 @@
 use Rattle.std.proofs.Common.{ap, sym, subst, ◌∷◌, []}
 use Rattle.egt_index.specs.Prelude.{option_to_list, Tells}
-use Rattle.egt_index.proofs.Splitting.{tells_one}
+use Rattle.egt_index.proofs.DigitsTaken.{tells_one}
 use Rattle.egt_index.proofs.spelling.take.Goals as goal
 
 pub returns-in-Some-clause-tells : goal.returns-in-Some-clause-tells

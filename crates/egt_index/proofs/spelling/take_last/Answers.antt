@@ -1,6 +1,6 @@
 use Rattle.std.proofs.Common.{ap, sym, subst}
 use Rattle.egt_index.specs.Prelude.{option_to_list, material_of, men_beside, Tells}
-use Rattle.egt_index.proofs.Fronts.{last_beside}
+use Rattle.egt_index.proofs.Prefixes.{last_beside}
 use Rattle.egt_index.proofs.spelling.take_last.Goals as goal
 
 pub returns : goal.returns

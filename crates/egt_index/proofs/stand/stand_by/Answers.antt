@@ -1,4 +1,4 @@
-use Rattle.egt_index.proofs.Standing.{kings_by, stood_by}
+use Rattle.egt_index.proofs.MenPlaced.{kings_by, stood_by}
 use Rattle.egt_index.proofs.stand.stand_by.Goals as goal
 
 pub returns : goal.returns

@@ -1,5 +1,5 @@
 use Rattle.std.proofs.lemmas.Bool.{eqb-true}
-use Rattle.egt_lanes.proofs.Likeness.{all_none}
+use Rattle.egt_lanes.proofs.LanesCompared.{all_none}
 use Rattle.egt_lanes.proofs.alike.are_alike.Goals as goal
 
 pub returns : goal.returns

@@ -1,5 +1,5 @@
 use Rattle.egt_lanes.specs.Prelude.{AreVoidOrAlike}
-use Rattle.egt_lanes.proofs.Likeness.{more_blocks}
+use Rattle.egt_lanes.proofs.LanesCompared.{more_blocks}
 use Rattle.egt_lanes.proofs.alike.blocks_are_alike.Goals as goal
 
 pub loop-block-preserved : goal.loop-block-preserved

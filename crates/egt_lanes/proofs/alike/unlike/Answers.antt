@@ -1,6 +1,6 @@
 use Rattle.std.proofs.Common.{◌≡◌, get_or, arith, subst}
 use Rattle.egt_lanes.specs.Prelude.{AreVoidOrAlike}
-use Rattle.egt_lanes.proofs.Likeness.{alike_at, unlike}
+use Rattle.egt_lanes.proofs.LanesCompared.{alike_at, unlike}
 use Rattle.egt_lanes.proofs.alike.unlike.Goals as goal
 
 pub returns : goal.returns

@@ -5,7 +5,7 @@ use Rattle.egt_lanes.proofs.block.raise_transposed.Goals as goal
 
 pub returns : goal.returns
 returns c a b a_in b_in =
-    c.raise.ensures a b a_in b_in
+    c.raise_to_max.ensures a b a_in b_in
     ∙ ap (max (at c.args.out.now a b)) (exchanged c.args.from.now _ _ _ _ _ _ c.interleaved.ensures c.interleaved-2.ensures c.interleaved-3.ensures c.interleaved-4.ensures c.interleaved-5.ensures c.interleaved-6.ensures a b a_in b_in)
 
 pub returns-then-is_blank : goal.returns-then-is_blank

@@ -1,5 +1,5 @@
 use Rattle.egt_lanes.specs.Prelude.{IsVoidOrNear}
-use Rattle.egt_lanes.proofs.Likeness.{more_blocks}
+use Rattle.egt_lanes.proofs.LanesCompared.{more_blocks}
 use Rattle.egt_lanes.proofs.near.blocks_are_near.Goals as goal
 
 pub loop-block-preserved : goal.loop-block-preserved

@@ -1,6 +1,6 @@
 use Rattle.std.proofs.Common.{ℕ, List, get_or, ap}
 use Rattle.egt_lanes.specs.Prelude.{Q, R, B, N, Step, Away, Rides, OneOf, straight_steps, diagonal_steps, knight_steps}
-use Rattle.egt_lanes.proofs.Raising.{raised_as}
+use Rattle.egt_lanes.proofs.RaisedTwice.{raised_as}
 use Rattle.egt_lanes.proofs.Riding.{HasBit, both_lists, OneOf-as, one_ride, ride_one, reached_by, no_piece}
 use Rattle.egt_lanes.proofs.shift.last_man_raised.Goals as goal
 use Rattle.egt_lanes.proofs.shift.last_man_raised.Goals.{in-Q, in-R, in-B, in-N, in-P}

@@ -1,7 +1,7 @@
 use Rattle.std.specs.Prelude.{ℕ, List, refl}
 use Rattle.egt_lanes.specs.Prelude.{Q, R, B, N, Step, Away, Rides, OneOf, diagonal_steps, knight_steps, straight_steps}
 use Rattle.egt_lanes.specs.Prelude.{at, IsOpen}
-use Rattle.egt_lanes.proofs.Raising.{raised_as}
+use Rattle.egt_lanes.proofs.RaisedTwice.{raised_as}
 use Rattle.egt_lanes.proofs.Riding.{OneOf-as, both_lists, one_ride, reached_by, ride_one}
 use Rattle.egt_lanes.proofs.walk.raise_rows.Goals as goal
 

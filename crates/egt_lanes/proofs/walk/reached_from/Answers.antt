@@ -1,6 +1,6 @@
 use Rattle.std.proofs.Common.{◌≡◌, cond, eqb, refl, ap, ◌∙◌, inl, inr, arith}
 use Rattle.egt_lanes.specs.Prelude.{bit_at, cases_eq, false≢true, bit_at-lt, get_or-replicate, Rides, at, IsOpen}
-use Rattle.egt_lanes.proofs.Raising.{raised_is}
+use Rattle.egt_lanes.proofs.RaisedTwice.{raised_is}
 use Rattle.egt_lanes.proofs.Sweeping.{from_edge, from_stop, past_square}
 use Rattle.egt_lanes.proofs.walk.reached_from.Goals as goal
 

@@ -1,6 +1,6 @@
 use Rattle.std.proofs.Common.{sym, subst, refl, ◌∙◌}
 use Rattle.egt_moves.specs.Prelude.{IsKingOn, plain}
-use Rattle.egt_moves.proofs.After.{king_moves, king_stays}
+use Rattle.egt_moves.proofs.MenAfter.{king_moves, king_stays}
 use Rattle.egt_moves.proofs.going.king_after.Goals as goal
 
 pub returns-in-K : goal.returns-in-K

@@ -5,7 +5,7 @@ use Rattle.egt_moves.proofs.going.pawn_targets.Goals as goal
 pub returns-clause-goes : goal.returns-clause-goes
 returns-clause-goes c = λ t.
     let either = c.union.ensures.squares t in
-    let both = c.common-takes.ensures.squares t in
+    let both = c.intersection-takes.ensures.squares t in
     let advance = bit_at-lt c.advances-advances.result.bits t in
     let reach = bit_at-lt c.reach_past.result.bits t in
     let taken = bit_at-lt c.takeable.result.bits t in

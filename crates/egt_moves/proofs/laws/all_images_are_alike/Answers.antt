@@ -1,6 +1,6 @@
 use Rattle.egt_moves.specs.Prelude.{chess, Chain}
 use Rattle.egt_moves.proofs.ImageMoves.{AreReflected, reflections_alike, chain_of}
-use Rattle.egt_moves.proofs.Worth.{same_worth, same_distance}
+use Rattle.egt_moves.proofs.AlikeWorth.{same_worth, same_distance}
 use Rattle.egt_moves.proofs.laws.all_images_are_alike.Goals as goal
 
 pub returns-clause-values : goal.returns-clause-values

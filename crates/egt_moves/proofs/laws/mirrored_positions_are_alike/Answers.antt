@@ -1,6 +1,6 @@
 use Rattle.egt_moves.specs.Prelude.{chess, AreMirrored}
 use Rattle.egt_moves.proofs.MirroredMoves.{mirrored_alike}
-use Rattle.egt_moves.proofs.Worth.{same_worth, same_distance}
+use Rattle.egt_moves.proofs.AlikeWorth.{same_worth, same_distance}
 use Rattle.egt_moves.proofs.laws.mirrored_positions_are_alike.Goals as goal
 
 pub returns-clause-values : goal.returns-clause-values

@@ -1,7 +1,7 @@
 use Rattle.std.specs.Prelude.{◌≡◌, refl}
 use Rattle.egt_moves.specs.Prelude.{Setup, IsAdmissible, chess}
 use Rattle.egt_moves.proofs.Likeness.{alike_by_mirror}
-use Rattle.egt_moves.proofs.Worth.{same_worth, same_distance}
+use Rattle.egt_moves.proofs.AlikeWorth.{same_worth, same_distance}
 use Rattle.egt_moves.proofs.laws.mirrors_are_alike.Goals as goal
 
 -- q is the image of p, an admissible position

@@ -1,5 +1,5 @@
 use Rattle.egt_moves.specs.Chess.{chess}
-use Rattle.egt_moves.proofs.Ending.{chess_ends}
+use Rattle.egt_moves.proofs.MateEnds.{chess_ends}
 use Rattle.egt_moves.proofs.Halves as halves
 use Rattle.egt_moves.proofs.NextMoves.{chess_steps}
 use Rattle.egt_moves.proofs.Searching as searching

@@ -1,5 +1,5 @@
 use Rattle.egt_moves.specs.Chess.{chess}
-use Rattle.egt_moves.proofs.Ending.{chess_ends}
+use Rattle.egt_moves.proofs.MateEnds.{chess_ends}
 use Rattle.egt_moves.proofs.Exclusion as exclusion
 use Rattle.egt_moves.proofs.laws.one_value.Goals as goal
 

@@ -1,6 +1,6 @@
 use Rattle.egt_moves.specs.Chess.{chess}
 use Rattle.egt_moves.proofs.Distances as distances
-use Rattle.egt_moves.proofs.Ending.{chess_ends}
+use Rattle.egt_moves.proofs.MateEnds.{chess_ends}
 use Rattle.egt_moves.proofs.laws.one_zeroing_distance.Goals as goal
 
 pub returns : goal.returns

@@ -1,6 +1,6 @@
 use Rattle.egt_moves.specs.Prelude.{chess}
 use Rattle.egt_moves.proofs.SettledMoves.{Settled, settled_alike, settles}
-use Rattle.egt_moves.proofs.Worth.{same_worth, same_distance}
+use Rattle.egt_moves.proofs.AlikeWorth.{same_worth, same_distance}
 use Rattle.egt_moves.proofs.laws.settled_positions_are_alike.Goals as goal
 
 pub returns-clause-values : goal.returns-clause-values

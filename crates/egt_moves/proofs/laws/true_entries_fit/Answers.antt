@@ -1,7 +1,7 @@
 use Rattle.std.specs.Prelude.{IsTrue}
 use Rattle.egt_moves.specs.Prelude.{chess}
 use Rattle.egt_moves.proofs.DistancesFit as distances
-use Rattle.egt_moves.proofs.Ending.{chess_ends}
+use Rattle.egt_moves.proofs.MateEnds.{chess_ends}
 use Rattle.egt_moves.proofs.Fitting as fitting
 use Rattle.egt_moves.proofs.NextMoves.{chess_steps}
 use Rattle.egt_moves.proofs.laws.true_entries_fit.Goals as goal

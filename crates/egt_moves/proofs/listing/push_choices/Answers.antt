@@ -1,6 +1,6 @@
 use Rattle.std.proofs.Common.{◌≡◌, ℕ, ◌≤◌, sym, ◌∙◌, subst, arith}
 use Rattle.egt_moves.proofs.Choosing.{officer_place, Chosen, Chosen-more, Chosen-all, plain_choice}
-use Rattle.egt_moves.proofs.InOrder.{IsInOrder-push}
+use Rattle.egt_moves.proofs.MoveOrder.{IsInOrder-push}
 use Rattle.egt_moves.proofs.listing.push_choices.Goals as goal
 
 pub loop-kind-preserved : goal.loop-kind-preserved

@@ -1,5 +1,5 @@
 use Rattle.std.proofs.Common.{arith}
-use Rattle.egt_moves.proofs.Growing.{Lists-none, Lists-more, Lists-all, Lists-before, Lists-room, Added-all}
+use Rattle.egt_moves.proofs.ListGrows.{Lists-none, Lists-more, Lists-all, Lists-before, Lists-room, Added-all}
 use Rattle.egt_moves.proofs.listing.push_moves.Goals as goal
 
 pub loop-to-init : goal.loop-to-init

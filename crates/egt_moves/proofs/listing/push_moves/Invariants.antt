@@ -1,4 +1,4 @@
-use Rattle.egt_moves.proofs.Growing.{Lists}
+use Rattle.egt_moves.proofs.ListGrows.{Lists}
 use Rattle.egt_moves.proofs.listing.push_moves.Given as goal
 
 abbrev pub invariant-loop-to : goal.invariant-loop-to

@@ -1,7 +1,7 @@
 use Rattle.std.proofs.Common.{◌≡◌, ℕ, false, true, Option, None, sym, ap, ◌∙◌, subst, arith}
 use Rattle.egt_moves.specs.Prelude.{rank_of, last_rank, the_type, Side, Kind, K, Man, other_side, IsKingOn, is_pawn}
 use Rattle.egt_moves.specs.Prelude.{promotes, FitsPromotion, men_after}
-use Rattle.egt_moves.proofs.After.{king_moves, king_stays, other_king_stays, may_become}
+use Rattle.egt_moves.proofs.MenAfter.{king_moves, king_stays, other_king_stays, may_become}
 use denote.Enum.Bare.{sameb}
 use Rattle.egt_moves.proofs.playing.king_after_move.Goals as goal
 

@@ -1,7 +1,7 @@
 use Rattle.std.proofs.Common.{◌≡◌, ◌∙◌, sym, subst, rules}
 use Rattle.egt_moves.specs.Prelude.{Stands, Setup, IsInCheck, Goes, FitsPromotion, promotes, men_after, after, plain}
 use Rattle.egt_moves.specs.Prelude.{false≢true}
-use Rattle.egt_moves.proofs.Growing.{goes_of, fits_of, safe_of, same_safety}
+use Rattle.egt_moves.proofs.ListGrows.{goes_of, fits_of, safe_of, same_safety}
 use Rattle.egt_moves.proofs.playing.play.Goals as goal
 
 pub played-requires-clause-safe : goal.played-requires-clause-safe

@@ -15,11 +15,11 @@ pub returns : goal.returns
 returns c = λ t goes.
     let p = c.args.position.now in
     elim (cases_eq t c.in-Some.target) [
-      | inl e ↦ changed_bit p c.args.man c.args.from t c.in-Some.target c.is_safe.result _ e c.changed.ensures.same c.is_safe.ensures
+      | inl e ↦ changed_bit p c.args.man c.args.from t c.in-Some.target c.is_safe.result _ e c.set.ensures.same c.is_safe.ensures
       | inr other ↦
           let none = not_passing p c.args.man t (λ pawn target. other (same_target _ _ (sym target ∙ c.in-Some.ensures.some.1))) in
           let shield = shielded p c.args.man c.args.from t c.king.result c.shelter-shelter.ensures.admissible c.requires.stands c.requires.mine c.requires.other c.king.ensures goes none in
           let kept = c.shelter-shelter.ensures.kept t (goes_on_board p c.args.man c.args.from t goes) in
-          let same = c.changed.ensures.others t other in
+          let same = c.set.ensures.others t other in
           (λ one. shield.0 (kept.0 (sym same ∙ one)), λ safe. same ∙ kept.1 (shield.1 safe))
     ]

@@ -1,4 +1,4 @@
-use Rattle.std.proofs.Common.{◌≡◌, ℕ, subst}
+use Rattle.std.proofs.Common.{◌≡◌, ℕ, subst, arith}
 use Rattle.egt_board.specs.declared.man.Side.{Side}
 use Rattle.egt_moves.specs.WinLossDraw.{Draw, HasValue}
 use Rattle.egt_moves.specs.Chess.{chess}
@@ -7,7 +7,6 @@ use Rattle.egt_probe.specs.declared.outcome.Outcome.{Outcome}
 use Rattle.egt_probe.specs.declared.outcome.Outcome.TheVariants as outcomes
 use Rattle.egt_probe.specs.Verdict.{mate_value, zeroing_value}
 use Rattle.egt_probe.proofs.looking.outcome_at.Goals as goal
-use Rattle.std.proofs.Common.{arith}
 
 -- what is not decided is a draw
 undecided : (s : Side) (o : Outcome) → ((w : Side) (n z : ℕ) → o ≡ outcomes.Decided w n z → ⊥) → (mate_value s o ≡ Draw) × (zeroing_value s o ≡ Draw)

@@ -5,10 +5,10 @@ use Rattle.egt_steps.proofs.pawn_laws.promoting_captures_lead_to_three_men.Goals
 
 pub returns : goal.returns
 returns c = record {
-  goes = λ k men first side passed a b p q m kind class_in one_other pawn has leads from_is held promo_is.
-      goes c.facts.ensures telling k men first side passed a b p pawn has kind q m leads from_is held promo_is;
-  comes = λ k men first side passed a b p kind class_in one_other pawn has is d flips class q has_left.
-      comes c.facts.ensures telling k men first side passed a b p pawn has kind is d flips q has_left;
+  goes = λ k men first side targeted a b p q m kind class_in one_other pawn has leads from_is held promo_is.
+      goes c.facts.ensures telling k men first side targeted a b p pawn has kind q m leads from_is held promo_is;
+  comes = λ k men first side targeted a b p kind class_in one_other pawn has is d flips class q has_left.
+      comes c.facts.ensures telling k men first side targeted a b p pawn has kind is d flips q has_left;
 }
   where
     telling : Telling

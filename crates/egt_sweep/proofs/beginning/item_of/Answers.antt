@@ -17,4 +17,4 @@ returns-clause-item c = λ t.
     let holds = subst (λ (column : Column). HoldsExits column f.children men c.args.side c.exits.new.out) c.column_of.ensures (c.exits.ensures c.if-not-exits.false) in
     begun_item f t men _ c.requires.men c.requires.room
     (subst (λ (block : List (List ℕ)). HoldsExits (column_of f.part) f.children men c.args.side block) (sym c.in_ok-new.ensures.ok) holds)
-    (c.begin_at.ensures.plain c.if-not-begin_at.false) (c.begin_at.ensures.passed c.if-not-begin_at.false) c.no_ends.ensures c.no_ends-2.ensures
+    (c.begin_at.ensures.plain c.if-not-begin_at.false) (c.begin_at.ensures.targeted c.if-not-begin_at.false) c.no_ends.ensures c.no_ends-2.ensures

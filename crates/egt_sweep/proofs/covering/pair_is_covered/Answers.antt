@@ -1,13 +1,13 @@
 use Rattle.std.proofs.Common.{◌+◌, ◌⊎◌, ℕ, refl, subst}
 use Rattle.egt_sweep.specs.FillPrelude.{All-contains, Setup, Side, Spells, IsIndex, IsVoid, ShelfMen, TableValue, Column}
 use Rattle.egt_sweep.specs.FillPrelude.{with_kings, AreBlank, AreTablesOf, IsOwnTable, column_of, four_in, tables_in}
-use Rattle.egt_sweep.specs.FillPrelude.{FourMen, blank_kept, tables_of_there, AreAllJudged, IsDueItem, tables_with}
+use Rattle.egt_sweep.specs.FillPrelude.{FourMenTables, blank_kept, tables_of_there, AreAllJudged, IsDueItem, tables_with}
 use Rattle.egt_sweep.specs.FillPrelude.{IsFilling, Filling, Item}
 use Rattle.egt_sweep.proofs.DueJudged.{DueAreRight, all_due_judged}
 use Rattle.egt_sweep.proofs.covering.pair_is_covered.Goals as goal
 
 module _ (f : Filling) (table : TableValue) (filling : IsFilling f) (own : IsOwnTable f.part f.class f.men table) where
-  abbrev four_of : FourMen
+  abbrev four_of : FourMenTables
   four_of = record { own = table; children = f.children }
 
   are_tables : AreTablesOf (tables_in f.part (tables_with f table)) (four_in f.part four_of) f.men

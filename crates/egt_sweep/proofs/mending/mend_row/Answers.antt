@@ -12,28 +12,28 @@ pub returns-then-put_lanes-clause-mended : goal.returns-then-put_lanes-clause-me
 returns-then-put_lanes-clause-mended c =
     row_mended
     c.args.part c.args.table.now c.see_ends.new.table c.put_lanes.new.table c.args.shelf.now c.requires.shelf (λ n n_in. c.numbers_stand_for_codes.ensures.number c.args.table.now.class n c.class-class.ensures.table.class_in n_in)
-    c.args.scores c.args.zeroing c.args.ended.now c.row_seen.result.0 c.row_seen.result.1 c.union-seen.result c.row_seen.ensures c.requires.ended c.union-seen.ensures.squares (λ i. sym (c.common.ensures.squares i) ∙ c.is_empty-2.ensures.0 c.if-not-is_empty.false i)
+    c.args.scores c.args.zeroing c.args.ended.now c.row_seen.result.0 c.row_seen.result.1 c.union-seen.result c.row_seen.ensures c.requires.ended c.union-seen.ensures.squares (λ i. sym (c.intersection.ensures.squares i) ∙ c.is_empty-2.ensures.0 c.if-not-is_empty.false i)
     c.see_ends.ensures.mended (c.see_ends.ensures.right c.if-not-see_ends.false) c.put_lanes.ensures.mended
 
 pub returns-else-put_lanes-clause-mended : goal.returns-else-put_lanes-clause-mended
 returns-else-put_lanes-clause-mended c =
     row_mended
     c.args.part c.args.table.now c.see_ends.new.table c.put_lanes.new.table c.args.shelf.now c.requires.shelf (λ n n_in. c.numbers_stand_for_codes.ensures.number c.args.table.now.class n c.class-class.ensures.table.class_in n_in)
-    c.args.scores c.args.zeroing c.args.ended.now c.row_seen.result.0 c.row_seen.result.1 c.union-seen.result c.row_seen.ensures c.requires.ended c.union-seen.ensures.squares (λ i. sym (c.common.ensures.squares i) ∙ c.is_empty-2.ensures.0 c.if-not-is_empty.false i)
+    c.args.scores c.args.zeroing c.args.ended.now c.row_seen.result.0 c.row_seen.result.1 c.union-seen.result c.row_seen.ensures c.requires.ended c.union-seen.ensures.squares (λ i. sym (c.intersection.ensures.squares i) ∙ c.is_empty-2.ensures.0 c.if-not-is_empty.false i)
     c.see_ends.ensures.mended (c.see_ends.ensures.right c.if-not-see_ends.false) c.put_lanes.ensures.mended
 
 pub returns-then-put_lanes-clause-ended : goal.returns-then-put_lanes-clause-ended
 returns-then-put_lanes-clause-ended c = λ told.
     row_ended
     c.args.part c.args.table.now c.see_ends.new.table c.put_lanes.new.table c.args.shelf.now c.requires.shelf (λ n n_in. c.numbers_stand_for_codes.ensures.number c.args.table.now.class n c.class-class.ensures.table.class_in n_in)
-    c.args.scores c.args.zeroing c.args.ended.now c.row_seen.result.0 c.row_seen.result.1 c.union-seen.result c.row_seen.ensures c.requires.ended c.union-seen.ensures.squares (λ i. sym (c.common.ensures.squares i) ∙ c.is_empty-2.ensures.0 c.if-not-is_empty.false i)
+    c.args.scores c.args.zeroing c.args.ended.now c.row_seen.result.0 c.row_seen.result.1 c.union-seen.result c.row_seen.ensures c.requires.ended c.union-seen.ensures.squares (λ i. sym (c.intersection.ensures.squares i) ∙ c.is_empty-2.ensures.0 c.if-not-is_empty.false i)
     c.see_ends.ensures.mended (c.see_ends.ensures.right c.if-not-see_ends.false) c.put_lanes.ensures.mended
 
 pub returns-then-put_lanes-clause-right : goal.returns-then-put_lanes-clause-right
 returns-then-put_lanes-clause-right c = λ told.
     row_right
     c.args.part c.args.table.now c.see_ends.new.table c.put_lanes.new.table c.args.shelf.now c.requires.shelf (λ n n_in. c.numbers_stand_for_codes.ensures.number c.args.table.now.class n c.class-class.ensures.table.class_in n_in)
-    c.args.scores c.args.zeroing c.args.ended.now c.row_seen.result.0 c.row_seen.result.1 c.union-seen.result c.row_seen.ensures c.requires.ended c.union-seen.ensures.squares (λ i. sym (c.common.ensures.squares i) ∙ c.is_empty-2.ensures.0 c.if-not-is_empty.false i)
+    c.args.scores c.args.zeroing c.args.ended.now c.row_seen.result.0 c.row_seen.result.1 c.union-seen.result c.row_seen.ensures c.requires.ended c.union-seen.ensures.squares (λ i. sym (c.intersection.ensures.squares i) ∙ c.is_empty-2.ensures.0 c.if-not-is_empty.false i)
     c.see_ends.ensures.mended (c.see_ends.ensures.right c.if-not-see_ends.false) c.put_lanes.ensures.mended
     (λ digit below has.
     let part = c.args.part in

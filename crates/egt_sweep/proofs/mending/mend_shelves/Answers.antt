@@ -22,7 +22,7 @@ mend_row-row_found-requires-clause-shelf c =
     let shelves = c.args.shelves.now in
     let l = c.loop-digit.table in
     let d = c.loop-digit.digit in
-    let are : AreShelvesOf shelves.passed l.class shelves.men shelves.number = subst (λ k. AreShelvesOf shelves.passed k shelves.men shelves.number) (c.class.ensures.class ∙ sym c.loop-digit.invariant.0.class) (c.begin_with.ensures c.if-not-begin_with.false) in
+    let are : AreShelvesOf shelves.targeted l.class shelves.men shelves.number = subst (λ k. AreShelvesOf shelves.targeted k shelves.men shelves.number) (c.class.ensures.class ∙ sym c.loop-digit.invariant.0.class) (c.begin_with.ensures c.if-not-begin_with.false) in
     let under = c.loop-digit-test.true in
     let many = c.digits_of-digit-end.ensures in
     let from = c.first_square-from.ensures in
@@ -42,7 +42,7 @@ row_put c =
     let d = c.loop-digit.digit in
     let part = c.args.part in
     let class = c.class.ensures.class ∙ sym c.loop-digit.invariant.0.class in
-    let are : AreShelvesOf shelves.passed l.class shelves.men shelves.number = subst (λ k. AreShelvesOf shelves.passed k shelves.men shelves.number) class (c.begin_with.ensures c.if-not-begin_with.false) in
+    let are : AreShelvesOf shelves.targeted l.class shelves.men shelves.number = subst (λ k. AreShelvesOf shelves.targeted k shelves.men shelves.number) class (c.begin_with.ensures c.if-not-begin_with.false) in
     let class_in = subst (λ k. k < 36) (sym c.loop-digit.invariant.0.class) c.class.ensures.table.class_in in
     let numbers : (n : ℕ) → n < size_of l.class → number_of l.class (code_of l.class n) ≡ n = λ n n_in. c.numbers_stand_for_codes.ensures.number l.class n class_in n_in in
     let under = c.loop-digit-test.true in
@@ -50,11 +50,11 @@ row_put c =
     let from = c.first_square-from.ensures in
     let on = c.at.ensures in
     let at_row = c.from-row.ensures in
-    let d_in : d < kind_digits shelves.men.one.kind = omega (arith, under, many) in
+    let d_in : d < kind_digits shelves.men.first.kind = omega (arith, under, many) in
     let same = shelf_same shelves c.from.result c.men_on.result d c.at.result c.from.ensures c.men_on.ensures (omega (arith, on, from)) in
     let mended : IsMendedAt part (IsCodeOf l.class (shelf_at shelves d)) l new = subst (λ (s : Shelf). IsMendedAt part (IsCodeOf l.class s) l new) same c.mend_row-row_found.ensures.mended in
-    let place : c.from-row.result ≡ d + kind_less shelves.men.one.kind = omega (arith, at_row, from) in
-    let row : Shelf = record { number = shelves.number + c.from.result; men = c.men_on.result; side = shelves.side; passed = shelves.passed } in (
+    let place : c.from-row.result ≡ d + kind_less shelves.men.first.kind = omega (arith, at_row, from) in
+    let row : Shelf = record { number = shelves.number + c.from.result; men = c.men_on.result; side = shelves.side; targeted = shelves.targeted } in (
       more_mended part l new shelves are numbers d d_in mended c.args.table.now row same c.loop-digit.ended c.loop-digit.invariant.2 c.from-row.result place c.mend_row-row_found.new.ended c.args.scores.now c.args.zeroing.now c.loop-digit.invariant.0,
       λ told. more_ended part l new shelves are numbers d d_in mended c.args.table.now row same c.loop-digit.ended c.loop-digit.invariant.2 c.from-row.result place c.mend_row-row_found.new.ended c.args.scores.now c.args.zeroing.now c.loop-digit.invariant.3 (c.mend_row-row_found.ensures.ended told),
       λ told. more_right part l new shelves are numbers d d_in mended c.args.table.now row same c.loop-digit.ended c.loop-digit.invariant.2 c.from-row.result place c.mend_row-row_found.new.ended c.args.scores.now c.args.zeroing.now c.loop-digit.invariant.4 (c.mend_row-row_found.ensures.right told),
@@ -78,4 +78,4 @@ loop-digit-preserved c =
     )
 
 pub returns-clause-shelves : goal.returns-clause-shelves
-returns-clause-shelves c = λ told. subst (λ k. AreShelvesOf c.args.shelves.now.passed k c.args.shelves.now.men c.args.shelves.now.number) c.class.ensures.class (c.begin_with.ensures c.if-not-begin_with.false)
+returns-clause-shelves c = λ told. subst (λ k. AreShelvesOf c.args.shelves.now.targeted k c.args.shelves.now.men c.args.shelves.now.number) c.class.ensures.class (c.begin_with.ensures c.if-not-begin_with.false)

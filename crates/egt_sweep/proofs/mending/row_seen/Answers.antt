@@ -20,7 +20,7 @@ returns c =
     let own_is : (digit : ℕ) → (below : digit < _) → slice_index own (digit + kind_less kind) ≡ score_in part t shelf digit = λ digit below.
     let b_in = square_in kind digit below in
     subst (λ (column : Column). slice_index own (digit + kind_less kind) ≡ column_score t column (code_of t.class (number_in t.class shelf.number shelf.side digit))) c.column_of.ensures
-    (lane_is shelf.passed t c.column_of.result shelf.men shelf.number shelf.side c.requires.shelf.of c.codes_tell_turned_men.ensures.one digit (slice_index own (digit + kind_less kind)) below (c.row-own.ensures (digit + kind_less kind) b_in)) in
+    (lane_is shelf.targeted t c.column_of.result shelf.men shelf.number shelf.side c.requires.shelf.of c.codes_tell_turned_men.ensures.one digit (slice_index own (digit + kind_less kind)) below (c.row-own.ensures (digit + kind_less kind) b_in)) in
     let stands : (digit : ℕ) → (below : digit < _) → score_in part t shelf digit ≢ 0 → slice_index own (digit + kind_less kind) ≢ 0 = λ digit below some e. some (sym (own_is digit below) ∙ e) in
     let moves : (b : ℕ) → b < 64 → slice_index scores b ≢ 0 → bit_at c.lanes_of.result.bits b ≡ 1 = λ b b_in can. c.lanes_of.ensures b b_in ∙ if_not (slice_index scores b) 0 0 1 can in
     let stays : (b : ℕ) → b < 64 → slice_index scores b ≡ 0 → bit_at c.lanes_of.result.bits b ≡ 0 = λ b b_in zero. c.lanes_of.ensures b b_in ∙ if_same (slice_index scores b) 0 0 1 zero in
@@ -29,9 +29,9 @@ returns c =
           let b = digit + kind_less kind in
           let b_in = square_in kind digit below in
           let here = c.lanes_of-there.ensures b b_in ∙ if_not (slice_index own b) 0 0 1 (stands digit below some) in
-          let moving = c.common-moving.ensures.squares b in
+          let moving = c.intersection-moving.ensures.squares b in
           let goes = moves b b_in can in
-          let both = c.common.ensures.squares b in
+          let both = c.intersection.ensures.squares b in
           let either = c.union-wrong.ensures.squares b in
           let first : bit_at c.lanes_of-mates.result.bits b ≡ 0 = omega (arith, here, moving, goes, both, either, none) in
           let second : bit_at c.wrong_clocks.result.bits b ≡ 0 = omega (arith, here, moving, goes, both, either, none) in
@@ -40,18 +40,18 @@ returns c =
           (λ is. c.wrong_clocks.ensures digit below second is ∙ c.due.ensures b b_in);
       moving = λ digit below has zero.
           let b = digit + kind_less kind in
-          let both = c.common.ensures.squares b in
-          let moving = c.common-moving.ensures.squares b in
+          let both = c.intersection.ensures.squares b in
+          let moving = c.intersection-moving.ensures.squares b in
           let rests = stays b (square_in kind digit below) zero in
           omega (arith, has, both, moving, rests);
       end = λ digit below some zero none.
           let b = digit + kind_less kind in
           let b_in = square_in kind digit below in
           let here = c.lanes_of-there.ensures b b_in ∙ if_not (slice_index own b) 0 0 1 (stands digit below some) in
-          let moving = c.common-moving.ensures.squares b in
+          let moving = c.intersection-moving.ensures.squares b in
           let rests = stays b b_in zero in
-          let first = c.without.ensures.squares b in
-          let second = c.without-2.ensures.squares b in
+          let first = c.difference.ensures.squares b in
+          let second = c.difference-2.ensures.squares b in
           omega (arith, here, moving, rests, first, second, none);
       still = λ digit below has.
           let b = digit + kind_less kind in
@@ -59,9 +59,9 @@ returns c =
             | inl zero ↦ zero
             | inr can ↦
                 let goes = moves b (square_in kind digit below) can in
-                let moving = c.common-moving.ensures.squares b in
-                let first = c.without.ensures.squares b in
-                let second = c.without-2.ensures.squares b in
+                let moving = c.intersection-moving.ensures.squares b in
+                let first = c.difference.ensures.squares b in
+                let second = c.difference-2.ensures.squares b in
                 absurd (omega (arith, has, first, second, moving, goes))
           ];
     }

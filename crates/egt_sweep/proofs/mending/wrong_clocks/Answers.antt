@@ -15,7 +15,7 @@ returns-in-Values c = λ digit below none is.
     let shelf = c.args.shelf.now in
     let b : ℕ = digit + kind_less shelf.men.last.kind in
     let b_in = square_in shelf.men.last.kind digit below in
-    sym (lane_is shelf.passed t columns.Zeroing shelf.men shelf.number shelf.side c.requires.shelf.of c.codes_tell_turned_men.ensures.one digit (slice_index c.row-own.result b) below (c.row-own.ensures b b_in))
+    sym (lane_is shelf.targeted t columns.Zeroing shelf.men shelf.number shelf.side c.requires.shelf.of c.codes_tell_turned_men.ensures.one digit (slice_index c.row-own.result b) below (c.row-own.ensures b b_in))
     ∙ same_there (slice_index c.row-own.result b) (slice_index c.args.clocks b) b (slice_index c.unlike.result b) (bit_at c.lanes_of.result.bits b) b_in (c.unlike.ensures b b_in) (c.lanes_of.ensures b b_in) none
 
 pub returns-in-Reach : goal.returns-in-Reach

@@ -1,5 +1,5 @@
 use Rattle.egt_sweep.proofs.Collecting.{untrue}
-use Rattle.egt_sweep.proofs.Standing.{mated_told, not_mated_told, no_mate}
+use Rattle.egt_sweep.proofs.NodeTests.{mated_told, not_mated_told, no_mate}
 use Rattle.egt_sweep.proofs.nodes.is_mated.Goals as goal
 
 pub returns-then-not-is_in_check : goal.returns-then-not-is_in_check

@@ -1,6 +1,6 @@
 use Rattle.std.proofs.Common.{◌∙◌, sym}
 use Rattle.egt_sweep.specs.Prelude.{is_some, position_at}
-use Rattle.egt_sweep.proofs.Standing.{found_told, denied}
+use Rattle.egt_sweep.proofs.NodeTests.{found_told, denied}
 use Rattle.egt_sweep.proofs.nodes.is_void.Goals as goal
 
 pub returns : goal.returns

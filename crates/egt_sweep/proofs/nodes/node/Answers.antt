@@ -1,4 +1,4 @@
-use Rattle.egt_sweep.proofs.Standing.{none_missing}
+use Rattle.egt_sweep.proofs.NodeTests.{none_missing}
 use Rattle.egt_sweep.proofs.nodes.node.Goals as goal
 
 pub position_of-requires : goal.position_of-requires

@@ -1,6 +1,6 @@
 use Rattle.std.proofs.Common.{ℕ, ◌<◌, subst}
 use Rattle.egt_sweep.proofs.Backward.{at_settled}
-use Rattle.egt_sweep.proofs.Standing.{sources_told}
+use Rattle.egt_sweep.proofs.NodeTests.{sources_told}
 use Rattle.egt_sweep.proofs.nodes.predecessors.Goals as goal
 
 pub sources-requires-clause-of : goal.sources-requires-clause-of

@@ -1,5 +1,5 @@
 use Rattle.std.proofs.Common.{ℕ, ◌<◌, subst}
-use Rattle.egt_sweep.proofs.Standing.{edges_told}
+use Rattle.egt_sweep.proofs.NodeTests.{edges_told}
 use Rattle.egt_sweep.proofs.nodes.successors.Goals as goal
 
 pub edges-requires : goal.edges-requires

@@ -13,18 +13,18 @@ returns-in-Ok-Some-told c =
     let tables : Tables = table_at c.args.library.now in
     let f = c.in-Some.filling in
     let old : TableValue = c.args.table in
-    let t : TableValue = c.settle-told.new.table in
+    let t : TableValue = c.put_due-told.new.table in
     let begun = c.in-Ok.ensures.with in
     let with : IsWithReach old t = record {
-      class = c.settle-told.ensures.class ∙ begun.class;
-      mate = c.settle-told.ensures.mate c.in-Some.ensures.part ∙ begun.mate;
-      zeroing = c.settle-told.ensures.zeroing c.in-Some.ensures.part ∙ begun.zeroing;
-      reach = c.settle-told.ensures.there columns.Reach begun.reach;
+      class = c.put_due-told.ensures.class ∙ begun.class;
+      mate = c.put_due-told.ensures.mate c.in-Some.ensures.part ∙ begun.mate;
+      zeroing = c.put_due-told.ensures.zeroing c.in-Some.ensures.part ∙ begun.zeroing;
+      reach = c.put_due-told.ensures.there columns.Reach begun.reach;
     } in
     let children = subst (HasTrueChildren tables) (sym (with.class ∙ sym c.class-class.ensures.class)) c.children_are_true.ensures in
     let reach_children = subst (HasReachChildren tables) (sym with.class) c.requires.reach_children in
     let some : c.in-Ok-Some-told.field-0 ≡ Some c.in-Ok-Some-told._looks = cc in
-    let right : KeepsAll f.part (beside (table_at f.library.now) t) t = subst (λ (o : Option Looks). IfSome o (λ looks. KeepsAll f.part (beside (table_at f.library.now) t) t)) some (subst (λ (r : Result (Option Looks) _). IfOk r (λ o. IfSome o (λ looks. KeepsAll f.part (beside (table_at f.library.now) t) t))) c.in-Ok-Some-told.is c.settle-told.ensures.right) in
+    let right : KeepsAll f.part (beside (table_at f.library.now) t) t = subst (λ (o : Option Looks). IfSome o (λ looks. KeepsAll f.part (beside (table_at f.library.now) t) t)) some (subst (λ (r : Result (Option Looks) _). IfOk r (λ o. IfSome o (λ looks. KeepsAll f.part (beside (table_at f.library.now) t) t))) c.in-Ok-Some-told.is c.put_due-told.ensures.right) in
     let keeps = subst (λ library. KeepsAll Reach (beside (table_at library) t) t) c.in-Some.ensures.library (subst (λ part. KeepsAll part (beside (table_at f.library.now) t) t) c.in-Some.ensures.part right) in
     let same = c.into_table-table.ensures in
     subst (λ (u : TableValue). IsWithReach old u × IsTrueTable u) (sym same) (

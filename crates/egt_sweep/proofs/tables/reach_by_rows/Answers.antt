@@ -7,8 +7,8 @@ use Rattle.egt_sweep.proofs.FilledTables.{reach_is_true, with_true_reach}
 use Rattle.egt_sweep.proofs.LonePut.{filling_is}
 use Rattle.egt_sweep.proofs.tables.reach_by_rows.Goals as goal
 
-pub settle_rows-told-requires : goal.settle_rows-told-requires
-settle_rows-told-requires c =
+pub mend_lone_rows-told-requires : goal.mend_lone_rows-told-requires
+mend_lone_rows-told-requires c =
     let tables : Tables = table_at c.args.library.now in
     let t : TableValue = c.in-Ok-with_reach.table in
     let is = c.in-Ok-with_reach.ensures.table in
@@ -28,8 +28,8 @@ pub returns-in-Some-told : goal.returns-in-Some-told
 returns-in-Some-told c =
     let tables : Tables = table_at c.args.library.now in
     let old : TableValue = c.args.table in
-    let t : TableValue = c.settle_rows-told.new.table in
-    let mended = c.settle_rows-told.ensures.mended in
+    let t : TableValue = c.mend_lone_rows-told.new.table in
+    let mended = c.mend_lone_rows-told.ensures.mended in
     let is = c.in-Ok-with_reach.ensures.table in
     let with : IsWithReach old t = record {
       class = mended.class ∙ ap (λ (u : TableValue). u.class) is;

@@ -5,8 +5,8 @@ use Rattle.egt_sweep.proofs.FilledTables.{values_are_true}
 use Rattle.egt_sweep.proofs.LonePut.{filling_is}
 use Rattle.egt_sweep.proofs.tables.values_by_rows.Goals as goal
 
-pub settle_rows-requires : goal.settle_rows-requires
-settle_rows-requires c =
+pub mend_lone_rows-requires : goal.mend_lone_rows-requires
+mend_lone_rows-requires c =
     let t : TableValue = c.in-Ok.table in
     let is = c.in-Ok.ensures.table in
     let class : t.class ≡ c.args.class = ap (λ (u : TableValue). u.class) is in
@@ -22,9 +22,9 @@ settle_rows-requires c =
 pub returns-clause-truth : goal.returns-clause-truth
 returns-clause-truth c =
     let tables : Tables = table_at c.args.library.now in
-    let t : TableValue = c.settle_rows.new.table in
-    let mended = c.settle_rows.ensures.mended in
+    let t : TableValue = c.mend_lone_rows.new.table in
+    let mended = c.mend_lone_rows.ensures.mended in
     let is = c.in-Ok.ensures.table in
     values_are_true c.children_have_smaller_numbers.ensures.smaller tables t c.class-class.ensures.table
     (subst (HasTrueChildren tables) (sym (mended.class ∙ ap (λ (u : TableValue). u.class) is)) c.children_are_true.ensures)
-    (mended.reach refl ∙ ap (λ (u : TableValue). u.reach) is) c.in-Some-settle_rows.ensures.right c.rules_are_kept_by_true_tables_alone.ensures
+    (mended.reach refl ∙ ap (λ (u : TableValue). u.reach) is) c.in-Some-mend_lone_rows.ensures.right c.rules_are_kept_by_true_tables_alone.ensures

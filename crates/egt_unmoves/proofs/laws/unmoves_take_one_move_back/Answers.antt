@@ -1,5 +1,5 @@
 use Rattle.egt_unmoves.proofs.Came.{same_move}
-use Rattle.egt_unmoves.proofs.InOrder.{squares_within}
+use Rattle.egt_unmoves.proofs.UnmoveList.{squares_within}
 use Rattle.egt_unmoves.proofs.laws.unmoves_take_one_move_back.Goals as goal
 
 pub returns-clause-one : goal.returns-clause-one

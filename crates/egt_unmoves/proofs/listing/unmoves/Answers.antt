@@ -1,14 +1,14 @@
 use Rattle.std.proofs.Common.{◌↔◌, arith, sym, ◌∙◌, subst, ap}
-use Rattle.egt_unmoves.specs.Prelude.{other_side, IsHeld, Has}
+use Rattle.egt_unmoves.specs.Prelude.{other_side, IsOccupiedBy, Has}
 use Rattle.egt_unmoves.proofs.Men.{ListsMen-none, ListsMen-room, ListsMen-before, ListsMen-more, ListsMen-all}
-use Rattle.egt_unmoves.proofs.InOrder.{ListsBelow-all}
+use Rattle.egt_unmoves.proofs.UnmoveList.{ListsBelow-all}
 use Rattle.egt_unmoves.proofs.listing.unmoves.Goals as goal
 
 pub loop-to-init : goal.loop-to-init
 loop-to-init c =
     rw c.new-list.ensures
     (ListsMen-none c.args.position.now c.of-rest.result
-    (λ t. subst (λ side. Has c.of-rest.result t ↔ IsHeld c.args.position.now.men t side) (c.other-waiting.ensures ∙ ap other_side c.side.ensures.side) (c.of-rest.ensures.held t)) c.of-rest.ensures.few)
+    (λ t. subst (λ side. Has c.of-rest.result t ↔ IsOccupiedBy c.args.position.now.men t side) (c.other-waiting.ensures ∙ ap other_side c.side.ensures.side) (c.of-rest.ensures.held t)) c.of-rest.ensures.few)
 
 pub push_to-requires-clause-room : goal.push_to-requires-clause-room
 push_to-requires-clause-room c =

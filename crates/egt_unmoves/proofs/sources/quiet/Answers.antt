@@ -13,5 +13,5 @@ returns c = λ s s_in free.
     let foreign : q.side ≢ c.args.man.side = λ e. sides_differ q.side (e ∙ c.requires.theirs) in
     let king : IsKingOn c.args.left.now q.side c.king-king.result = c.requires.king c.king-king.result (subst (λ side. IsKingOn q.men side c.king-king.result) c.side.ensures.side c.king-king.ensures) in
     let is = quiet_at c.args.left.now q.side c.args.man (king_of q.side) s c.king-king.result c.requires.theirs foreign free king in
-    let bits = kept _ _ _ _ _ (bit_at-lt c.shelter.result.bits s) (bit_at-lt c.attackers.result.bits s) (c.without.ensures.squares s) (c.shelter.ensures s (king_of q.side) s_in foreign) (c.attackers.ensures.attackers s s_in) in
+    let bits = kept _ _ _ _ _ (bit_at-lt c.shelter.result.bits s) (bit_at-lt c.attackers.result.bits s) (c.difference.ensures.squares s) (c.shelter.ensures s (king_of q.side) s_in foreign) (c.attackers.ensures.attackers s s_in) in
     (λ has. is.1 (bits.0 has), λ safe. bits.1 (is.0 safe))

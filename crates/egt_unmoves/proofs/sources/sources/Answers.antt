@@ -32,7 +32,7 @@ returns-clause-complete c = λ s (w : Went c.args.position.now c.args.man c.args
       ]
     ] in
     let quiet = (c.quiet.ensures s w.within free).1 (λ check. w.quiet (subst (λ (x : Placement). IsInCheck x c.args.position.now.side) men check)) in
-    kept _ _ _ _ _ (c.without.ensures.squares s) (c.common.ensures.squares s) reached ((c.occupied.ensures.free s).1 (subst (λ (x : Placement). IsFree x s) (sym c.board.ensures) w.free)) quiet
+    kept _ _ _ _ _ (c.difference.ensures.squares s) (c.intersection.ensures.squares s) reached ((c.occupied.ensures.free s).1 (subst (λ (x : Placement). IsFree x s) (sym c.board.ensures) w.free)) quiet
 
 pub returns-clause-sound : goal.returns-clause-sound
-returns-clause-sound c = grind (arith, men_before, parts, bit_at-lt, free_left, then-is_pawn, else-is_pawn, bit_at, c.requires.left, c.without.ensures.squares, c.common.ensures.squares, c.board.ensures, c.occupied.ensures.free, c.quiet.ensures, c.is_pawn.ensures.0)
+returns-clause-sound c = grind (arith, men_before, parts, bit_at-lt, free_left, then-is_pawn, else-is_pawn, bit_at, c.requires.left, c.difference.ensures.squares, c.intersection.ensures.squares, c.board.ensures, c.occupied.ensures.free, c.quiet.ensures, c.is_pawn.ensures.0)

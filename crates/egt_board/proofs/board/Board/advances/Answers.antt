@@ -7,7 +7,7 @@ use Rattle.egt_board.proofs.board.Board.advances.Goals as goal
 pub returns-clause-advances : goal.returns-clause-advances
 returns-clause-advances c = λ t. (
   λ has.
-      let rule = c.without.ensures.squares t in
+      let rule = c.difference.ensures.squares t in
       let small = bit_at-lt c.ride.result.bits t in
       let small' = bit_at-lt c.occupied-occupied.result.bits t in
       let rode : bit_at c.ride.result.bits t ≡ 1 = omega arith in
@@ -17,11 +17,11 @@ returns-clause-advances c = λ t. (
         free = (c.occupied-occupied.ensures.free t).0 free;
       },
   λ a.
-      let rule = c.without.ensures.squares t in
+      let rule = c.difference.ensures.squares t in
       let rode = (c.ride.ensures t a.rides.away.on_board).1 (Rides-free _ _ _ _ t _ (λ u u_in. (c.occupied-occupied.ensures.free u).1) (rw (c.farthest_advance.ensures.value, c.forward.ensures) a.rides)) in
       let free = (c.occupied-occupied.ensures.free t).1 a.free in
       omega arith,
 )
 
 pub returns-clause-few : goal.returns-clause-few
-returns-clause-few c = advances_few c.without.result _ c.args.side c.args.from (omega arith) (λ t has. (returns-clause-advances c t).0 has)
+returns-clause-few c = advances_few c.difference.result _ c.args.side c.args.from (omega arith) (λ t has. (returns-clause-advances c t).0 has)

@@ -1,6 +1,6 @@
 use Rattle.std.proofs.Common.{ap, ◌∙◌}
 use Rattle.egt_board.specs.Prelude.{option_map, square_by}
-use Rattle.egt_board.proofs.Turning.{admissible_by}
+use Rattle.egt_board.proofs.MirroredPosition.{admissible_by}
 use Rattle.egt_board.proofs.position.Position.mirrored.Goals as goal
 
 pub admitted-requires : goal.admitted-requires

@@ -1,5 +1,5 @@
 use Rattle.std.proofs.Common.{sym, ◌∙◌, arith}
-use Rattle.egt_board.proofs.Turning.{Turns-none, Turns-more}
+use Rattle.egt_board.proofs.MirroredPosition.{Turns-none, Turns-more}
 use Rattle.egt_board.proofs.position.Position.mirrored_board.Goals as goal
 
 pub loop-square-init : goal.loop-square-init

@@ -1,4 +1,4 @@
-use Rattle.egt_board.proofs.Turning.{Turns}
+use Rattle.egt_board.proofs.MirroredPosition.{Turns}
 use Rattle.egt_board.proofs.position.Position.mirrored_board.Given as goal
 
 abbrev pub invariant-loop-square : goal.invariant-loop-square

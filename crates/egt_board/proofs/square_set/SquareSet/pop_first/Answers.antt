@@ -11,7 +11,7 @@ pub returns-clause-least : goal.returns-clause-least
 returns-clause-least c = grind (arith, bit_at_first, c.in_ok-first.ensures.value)
 
 pub returns-clause-fewer : goal.returns-clause-fewer
-returns-clause-fewer c = grind (arith, bit_at_first, c.less.ensures.fewer, c.in_ok-first.ensures.value)
+returns-clause-fewer c = grind (arith, bit_at_first, c.without.ensures.fewer, c.in_ok-first.ensures.value)
 
 pub returns-clause-size : goal.returns-clause-size
-returns-clause-size c = grind (arith, size_of-less, bit_at_first, c.in_ok-first.ensures.value, c.less.ensures.same, c.less.ensures.others)
+returns-clause-size c = grind (arith, size_of-less, bit_at_first, c.in_ok-first.ensures.value, c.without.ensures.same, c.without.ensures.others)

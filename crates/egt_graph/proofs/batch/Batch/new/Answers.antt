@@ -1,6 +1,6 @@
 use Rattle.std.proofs.Common.{◌≡◌, ◌++◌, ◌∷◌, [], length, ◌∙◌, arith, rules}
 use Rattle.egt_graph.specs.Prelude.{common_steps}
-use Rattle.egt_graph.proofs.Growing.{Targets_more}
+use Rattle.egt_graph.proofs.ListsAdded.{Targets_more}
 use Rattle.egt_graph.proofs.batch.Batch.new.Goals as goal
 
 pub loop-node-preserved : goal.loop-node-preserved

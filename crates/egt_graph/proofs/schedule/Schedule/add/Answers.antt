@@ -1,5 +1,5 @@
 use Rattle.std.proofs.Common.{eqb, ap₂, arith}
-use Rattle.egt_graph.proofs.Growing.{pushed_at}
+use Rattle.egt_graph.proofs.ListsAdded.{pushed_at}
 use Rattle.egt_graph.proofs.schedule.Schedule.add.Goals as goal
 
 pub returns : goal.returns
