@@ -31,6 +31,23 @@ fn class_word<'a>(alloc: Global, required: bool) -> Arg<'a> {
         .required(required)
 }
 
+/// The word that is a number of plies to search.
+fn plies_word<'a>(alloc: Global) -> Arg<'a> {
+    Arg::new(alloc, "N")
+        .help("How many plies to search, from 1 to 6")
+        .required(true)
+        .value_parser(value_parser!(u8).range(1..7))
+}
+
+/// The word of `--limit`.
+fn limit_word<'a>(alloc: Global) -> Arg<'a> {
+    Arg::new(alloc, "limit")
+        .long("limit")
+        .value_name("N")
+        .help("The most plies that a mate may take, from 0 to 32000, which is the default")
+        .value_parser(value_parser!(u16).range(0..32001))
+}
+
 fn moves_command<'a>(alloc: Global) -> Result<Command<'a>, AllocError> {
     Command::new(alloc, "moves")
         .about("Prints the legal moves, one a line")
@@ -42,17 +59,13 @@ fn moves_command<'a>(alloc: Global) -> Result<Command<'a>, AllocError> {
 }
 
 fn search_command<'a>(alloc: Global) -> Result<Command<'a>, AllocError> {
-    let plies = Arg::new(alloc, "N")
-        .help("How many plies to search, from 1 to 6")
-        .required(true)
-        .value_parser(value_parser!(u8).range(1..7));
     Command::new(alloc, "search")
         .about("Searches for a mate within so many plies")
         .after_help(
             "Example: egtb search 2 \"k7/8/1K6/8/8/8/8/3Q4 b - - 0 1\" prints white mates in 2 plies\n\
              Status: 0 done, 1 the FEN is refused",
         )
-        .arg(plies)?
+        .arg(plies_word(alloc))?
         .arg(fen_word(alloc))
 }
 
@@ -63,11 +76,6 @@ fn list_command<'a>(alloc: Global) -> Command<'a> {
 }
 
 fn build_command<'a>(alloc: Global) -> Result<Command<'a>, AllocError> {
-    let limit = Arg::new(alloc, "limit")
-        .long("limit")
-        .value_name("N")
-        .help("The most plies that a mate may take, from 0 to 32000, which is the default")
-        .value_parser(value_parser!(u16).range(0..32001));
     Command::new(alloc, "build")
         .about("Builds the table of a class from those of its children")
         .after_help(
@@ -77,7 +85,7 @@ fn build_command<'a>(alloc: Global) -> Result<Command<'a>, AllocError> {
         )
         .arg(folder_word(alloc))?
         .arg(class_word(alloc, true))?
-        .arg(limit)
+        .arg(limit_word(alloc))
 }
 
 fn probe_command<'a>(alloc: Global) -> Result<Command<'a>, AllocError> {
@@ -125,9 +133,8 @@ fn stats_command<'a>(alloc: Global) -> Result<Command<'a>, AllocError> {
         .arg(class_word(alloc, true))
 }
 
-/// All commands of the program, of which each run has one, as `clap` reads words by them. Want of memory is the only
-/// fault.
-pub fn command<'a>(alloc: Global) -> Result<Command<'a>, AllocError> {
+/// The program by itself, before it has commands.
+fn program<'a>(alloc: Global) -> Command<'a> {
     Command::new(alloc, "egtb")
         .version(VERSION)
         .about("Chess endgame tables of two to four men")
@@ -138,12 +145,29 @@ pub fn command<'a>(alloc: Global) -> Result<Command<'a>, AllocError> {
              memory",
         )
         .subcommand_required(true)
-        .subcommand(moves_command(alloc)?)?
-        .subcommand(search_command(alloc)?)?
-        .subcommand(list_command(alloc))?
-        .subcommand(build_command(alloc)?)?
-        .subcommand(check_command(alloc)?)?
-        .subcommand(migrate_command(alloc)?)?
-        .subcommand(probe_command(alloc)?)?
-        .subcommand(stats_command(alloc)?)
+}
+
+/// The program with one command more.
+fn with<'a>(
+    program: Command<'a>,
+    command: Result<Command<'a>, AllocError>,
+) -> Result<Command<'a>, AllocError> {
+    match command {
+        Ok(command) => program.subcommand(command),
+        Err(fault) => Err(fault),
+    }
+}
+
+/// All commands of the program, of which each run has one, as `clap` reads words by them. Want of memory is the only
+/// fault.
+pub fn command<'a>(alloc: Global) -> Result<Command<'a>, AllocError> {
+    // Each call takes what the one before gave, so that nothing is left to drop where one fails: that proof is short.
+    let program = with(program(alloc), moves_command(alloc))?;
+    let program = with(program, search_command(alloc))?;
+    let program = with(program, Ok(list_command(alloc)))?;
+    let program = with(program, build_command(alloc))?;
+    let program = with(program, check_command(alloc))?;
+    let program = with(program, migrate_command(alloc))?;
+    let program = with(program, probe_command(alloc))?;
+    with(program, stats_command(alloc))
 }

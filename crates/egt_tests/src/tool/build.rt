@@ -1,20 +1,22 @@
 //! Tables built into files, and positions looked up in them.
 use super::{Step, fails, folder, goes, has_file, is_wrong, run_on};
+use crate::asserts::{require, require_at};
 use std::test::Fail;
 use std::{fs, str};
 
 #[test]
 fn an_empty_folder(rt: HostRuntime) -> Result<(), Fail> {
     let folder = folder(&rt, "empty")?;
-    for step in [
+    for &step in &[
         ("build DIR KPK", "", 1, "", "error build 3 Missing KK\n"),
         ("build DIR KKQ", "", 2, "", "error class\n"),
     ] {
-        assert!(rt; goes(&rt, &folder, step) == Some(true), "{}", step.0);
+        require_at(&rt, goes(&rt, &folder, step) == Some(true), step.0);
     }
-    assert!(rt; is_wrong(&rt, &["build", &folder, "KK", "--limit", "32001"]) == Some(true));
-    for file in ["KPK.egt", "KK.egt"] {
-        assert!(rt; has_file(&rt, &folder, file) == Some(false), "{file}");
+    let right = is_wrong(&rt, &["build", &folder, "KK", "--limit", "32001"]) == Some(true);
+    require(&rt, right);
+    for &file in &["KPK.egt", "KK.egt"] {
+        require_at(&rt, has_file(&rt, &folder, file) == Some(false), file);
     }
     fs::remove_dir_all(&rt, folder.as_str())?;
     Ok(())
@@ -24,11 +26,11 @@ fn an_empty_folder(rt: HostRuntime) -> Result<(), Fail> {
 fn a_folder_that_is_not_there(rt: HostRuntime) -> Result<(), Fail> {
     let folder = folder(&rt, "gone")?;
     fs::remove_dir_all(&rt, folder.as_str())?;
-    for step in [
+    for &step in &[
         ("build DIR KK", "", 3, "", "error device\n"),
         ("probe DIR KK", "", 1, "", "error check 11 Missing KK\n"),
     ] {
-        assert!(rt; goes(&rt, &folder, step) == Some(true), "{}", step.0);
+        require_at(&rt, goes(&rt, &folder, step) == Some(true), step.0);
     }
     Ok(())
 }
@@ -143,29 +145,30 @@ fn are_alike(rt: &HostRuntime, folder: &str) -> Option<bool> {
 #[test]
 fn from_an_empty_folder_to_a_report(rt: HostRuntime) -> Result<(), Fail> {
     let folder = folder(&rt, "built")?;
-    for step in BUILT {
-        assert!(rt; goes(&rt, &folder, step) == Some(true), "{}", step.0);
+    for &step in &BUILT {
+        require_at(&rt, goes(&rt, &folder, step) == Some(true), step.0);
         let none = step.2 == 0 || has_file(&rt, &folder, "KQK.egt") == Some(false);
-        assert!(rt; none, "{}", step.0);
+        require_at(&rt, none, step.0);
     }
-    for (class, line) in LONGEST_WINS {
-        assert!(rt; counts(&rt, &folder, class, line) == Some(true), "{class}");
+    for &(class, line) in &LONGEST_WINS {
+        require_at(&rt, counts(&rt, &folder, class, line) == Some(true), class);
     }
-    for row in REPORTS {
-        assert!(rt; is_answered(&rt, &folder, row) == Some(true), "{row}");
+    for &row in &REPORTS {
+        require_at(&rt, is_answered(&rt, &folder, row) == Some(true), row);
     }
-    for step in TOLD {
-        assert!(rt; goes(&rt, &folder, step) == Some(true), "{}", step.0);
+    for &step in &TOLD {
+        require_at(&rt, goes(&rt, &folder, step) == Some(true), step.0);
     }
-    for words in [
+    for &words in &[
         ["build", folder.as_str(), "KK"],
         ["probe", folder.as_str(), "KK"],
     ] {
         let device = fails(&rt, &words, (1, 0), 3, "error device\n");
-        assert!(rt; device == Some(true), "{}", words[0]);
+        require_at(&rt, device == Some(true), words[0]);
     }
-    assert!(rt; are_alike(&rt, &folder) == Some(true));
-    assert!(rt; tells_long_lines(&rt, &folder, LONG_REPORTS) == Some(true));
+    require(&rt, are_alike(&rt, &folder) == Some(true));
+    let right = tells_long_lines(&rt, &folder, LONG_REPORTS) == Some(true);
+    require(&rt, right);
     fs::remove_dir_all(&rt, folder.as_str())?;
     Ok(())
 }

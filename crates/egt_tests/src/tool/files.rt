@@ -1,5 +1,6 @@
 //! Checks and statistics of tables in files.
-use super::{both_print, changed, fails, folder, is_damaged, is_wrong, prints, put, run_on};
+use super::{both_print, changed, fails, folder, is_damaged, prints, put, run_on};
+use crate::asserts::{agree, require, require_at};
 use egt_plain::kings::kings_file;
 use egt_plain::shelf::file_of;
 use egt_plain::{PlainTables, table_of};
@@ -25,11 +26,13 @@ fn shows_kings(rt: &HostRuntime, folder: &str, command: &str, out: &str) -> Opti
 fn the_file_of_two_kings(rt: HostRuntime) -> Result<(), Fail> {
     let folder = folder(&rt, "kings")?;
     let file = kings_file(rt.alloc())?;
-    assert_eq!(rt; file.len(), 5136);
-    assert!(rt; file.as_slice().starts_with(&HEADER));
+    agree(&rt, file.len(), 5136);
+    require(&rt, file.as_slice().starts_with(&HEADER));
     put(&rt, &folder, "KK.egt", &file)?;
-    assert!(rt; shows_kings(&rt, &folder, "check", "ok KK\n") == Some(true));
-    assert!(rt; shows_kings(&rt, &folder, "stats", STATISTICS) == Some(true));
+    let right = shows_kings(&rt, &folder, "check", "ok KK\n") == Some(true);
+    require(&rt, right);
+    let right = shows_kings(&rt, &folder, "stats", STATISTICS) == Some(true);
+    require(&rt, right);
     fs::remove_dir_all(&rt, folder.as_str())?;
     Ok(())
 }
@@ -66,9 +69,9 @@ const CHANGES: [(usize, u8, &str); 24] = [
 fn damaged_files(rt: HostRuntime) -> Result<(), Fail> {
     let folder = folder(&rt, "damaged")?;
     let file = kings_file(rt.alloc())?;
-    for (place, byte, line) in CHANGES {
+    for &(place, byte, line) in &CHANGES {
         let bytes = changed(rt.alloc(), &file, place, byte)?;
-        assert!(rt; is_damaged(&rt, &folder, &bytes, line)?, "{line}");
+        require_at(&rt, is_damaged(&rt, &folder, &bytes, line)?, line);
     }
     fs::remove_dir_all(&rt, folder.as_str())?;
     Ok(())
@@ -79,12 +82,14 @@ fn files_of_another_length(rt: HostRuntime) -> Result<(), Fail> {
     let folder = folder(&rt, "lengths")?;
     let mut file = kings_file(rt.alloc())?;
     file.push(0)?;
-    assert!(rt; is_damaged(&rt, &folder, &file, "error KK file 9 Trailing\n")?);
+    let right = is_damaged(&rt, &folder, &file, "error KK file 9 Trailing\n")?;
+    require(&rt, right);
     // The first fault ends the run, so the class that is not there is not named.
     let kings = both_print(&rt, &folder, "KQK", 1, "error KK file 9 Trailing\n");
-    assert!(rt; kings == Some(true));
+    require(&rt, kings == Some(true));
     file.truncate(5135);
-    assert!(rt; is_damaged(&rt, &folder, &file, "error KK file 2 Short\n")?);
+    let right = is_damaged(&rt, &folder, &file, "error KK file 2 Short\n")?;
+    require(&rt, right);
     fs::remove_dir_all(&rt, folder.as_str())?;
     Ok(())
 }
@@ -106,18 +111,14 @@ const MISSING_BESIDE_KINGS: [(&str, &str); 3] = [
 #[test]
 fn files_that_are_not_there(rt: HostRuntime) -> Result<(), Fail> {
     let folder = folder(&rt, "missing")?;
-    for (class, line) in MISSING {
-        assert!(rt;
-            both_print(&rt, &folder, class, 1, line) == Some(true),
-            "{class}"
-        );
+    for &(class, line) in &MISSING {
+        let right = both_print(&rt, &folder, class, 1, line) == Some(true);
+        require_at(&rt, right, class);
     }
     put(&rt, &folder, "KK.egt", &kings_file(rt.alloc())?)?;
-    for (class, line) in MISSING_BESIDE_KINGS {
-        assert!(rt;
-            both_print(&rt, &folder, class, 1, line) == Some(true),
-            "{class}"
-        );
+    for &(class, line) in &MISSING_BESIDE_KINGS {
+        let right = both_print(&rt, &folder, class, 1, line) == Some(true);
+        require_at(&rt, right, class);
     }
     fs::remove_dir_all(&rt, folder.as_str())?;
     Ok(())
@@ -134,8 +135,8 @@ fn is_missing_in(rt: &HostRuntime, folder: &str, name: &str) -> Option<bool> {
 fn folders_that_are_not_there(rt: HostRuntime) -> Result<(), Fail> {
     let folder = folder(&rt, "nowhere")?;
     put(&rt, &folder, "KK.egt", &kings_file(rt.alloc())?)?;
-    for name in ["nowhere", "KK.egt"] {
-        assert!(rt; is_missing_in(&rt, &folder, name) == Some(true), "{name}");
+    for &name in &["nowhere", "KK.egt"] {
+        require_at(&rt, is_missing_in(&rt, &folder, name) == Some(true), name);
     }
     fs::remove_dir_all(&rt, folder.as_str())?;
     Ok(())
@@ -146,20 +147,17 @@ fn a_folder_in_the_place_of_a_file(rt: HostRuntime) -> Result<(), Fail> {
     let folder = folder(&rt, "inside")?;
     let inside = format!(in rt.alloc(); "{folder}/KK.egt")?;
     fs::create_dir(&rt, inside.as_str())?;
-    assert!(rt; both_print(&rt, &folder, "KK", 3, "error device\n") == Some(true));
+    let right = both_print(&rt, &folder, "KK", 3, "error device\n") == Some(true);
+    require(&rt, right);
     fs::remove_dir_all(&rt, folder.as_str())?;
     Ok(())
 }
 
 #[test]
 fn words_that_name_no_class(rt: HostRuntime) {
-    for class in ["K", "kk", "KKQ", "KPKPK", "", "KQK "] {
+    for &class in &["K", "kk", "KKQ", "KPKPK", "", "KQK "] {
         let both = both_print(&rt, "nowhere", class, 2, "error class\n");
-        assert!(rt; both == Some(true), "{class}");
-    }
-    let wrong: [&[&str]; 3] = [&["check"], &["stats"], &["check", ".", "KK", "KK"]];
-    for words in wrong {
-        assert!(rt; is_wrong(&rt, words) == Some(true));
+        require_at(&rt, both == Some(true), class);
     }
 }
 
@@ -196,15 +194,16 @@ fn put_plain(
 fn a_queen_and_a_rook(rt: HostRuntime) -> Result<(), Fail> {
     let folder = folder(&rt, "pieces")?;
     let tables = PlainTables::solve(rt.alloc(), 3)?;
-    for (name, class) in [("KK.egt", 0), ("KQK.egt", 1), ("KRK.egt", 2)] {
+    for &(name, class) in &[("KK.egt", 0), ("KQK.egt", 1), ("KRK.egt", 2)] {
         put_plain(&rt, &folder, name, &tables, class)?;
     }
-    assert!(rt; tells(&rt, &folder, "KQK", &QUEEN) == Some(true));
-    assert!(rt; tells(&rt, &folder, "KRK", &ROOK) == Some(true));
-    assert!(rt; prints(&rt, &["check", &folder, "KQK"], 0, "ok KQK\n", "") == Some(true));
+    require(&rt, tells(&rt, &folder, "KQK", &QUEEN) == Some(true));
+    require(&rt, tells(&rt, &folder, "KRK", &ROOK) == Some(true));
+    let right = prints(&rt, &["check", &folder, "KQK"], 0, "ok KQK\n", "") == Some(true);
+    require(&rt, right);
     put_plain(&rt, &folder, "KQK.egt", &tables, 2)?;
     let another = both_print(&rt, &folder, "KQK", 1, "error KQK file 6 Class\n");
-    assert!(rt; another == Some(true));
+    require(&rt, another == Some(true));
     fs::remove_dir_all(&rt, folder.as_str())?;
     Ok(())
 }

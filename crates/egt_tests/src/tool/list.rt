@@ -1,5 +1,6 @@
 //! The list of classes.
 use super::{is_wrong, run_on};
+use crate::asserts::{require, require_at};
 use egt_commands::list_text;
 use std::test::Fail;
 
@@ -51,9 +52,9 @@ fn lists_the_classes(rt: HostRuntime) -> Result<(), Fail> {
     let text = list_text(rt.alloc())?;
     let mut lines = text.split(|byte| *byte == b'\n');
     for line in FIRST_LINES.iter().chain(&LAST_LINES) {
-        assert!(rt; lines.next() == Some(line.as_bytes()), "{line}");
+        require_at(&rt, lines.next() == Some(line.as_bytes()), line);
     }
-    assert!(rt; lines.next() == Some(b"") && lines.next().is_none());
+    require(&rt, lines.next() == Some(b"") && lines.next().is_none());
     Ok(())
 }
 
@@ -66,11 +67,11 @@ fn is_printed(rt: &HostRuntime, text: &[u8]) -> Option<bool> {
 #[test]
 fn prints_the_list(rt: HostRuntime) -> Result<(), Fail> {
     let text = list_text(rt.alloc())?;
-    assert!(rt; is_printed(&rt, &text) == Some(true));
+    require(&rt, is_printed(&rt, &text) == Some(true));
     Ok(())
 }
 
 #[test]
 fn takes_no_word_more(rt: HostRuntime) {
-    assert!(rt; is_wrong(&rt, &["list", "KQK"]) == Some(true));
+    require(&rt, is_wrong(&rt, &["list", "KQK"]) == Some(true));
 }

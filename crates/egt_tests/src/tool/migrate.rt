@@ -2,6 +2,7 @@
 use super::{
     KINGS, Step, all_go, changed, fails, folder, goes, has_file, holds, is_damaged, is_wrong, put,
 };
+use crate::asserts::{agree, require, require_at};
 use egt_plain::kings::{WHOLE_LENGTH, kings_file, whole_kings_file};
 use egt_plain::shelf::file_of;
 use egt_plain::{PlainTables, table_of, whole_table_of};
@@ -33,11 +34,11 @@ const WHOLE: [Step; 3] = [
 fn the_whole_file_of_two_kings(rt: HostRuntime) -> Result<(), Fail> {
     let folder = folder(&rt, "whole")?;
     let file = whole_kings_file(rt.alloc())?;
-    assert_eq!(rt; file.len(), WHOLE_LENGTH);
-    assert!(rt; file.as_slice().starts_with(&HEADER));
+    agree(&rt, file.len(), WHOLE_LENGTH);
+    require(&rt, file.as_slice().starts_with(&HEADER));
     put(&rt, &folder, "KK.egt", &file)?;
     all_go(&rt, &folder, &WHOLE)?;
-    assert!(rt; holds(&rt, &folder, "KK.egt", &file)?);
+    require(&rt, holds(&rt, &folder, "KK.egt", &file)?);
     let device = fails(
         &rt,
         &["migrate", &folder, "KK"],
@@ -45,7 +46,7 @@ fn the_whole_file_of_two_kings(rt: HostRuntime) -> Result<(), Fail> {
         3,
         "error device\n",
     );
-    assert!(rt; device == Some(true));
+    require(&rt, device == Some(true));
     fs::remove_dir_all(&rt, folder.as_str())?;
     Ok(())
 }
@@ -82,9 +83,9 @@ fn changed_twice(
 fn damaged_whole_files(rt: HostRuntime) -> Result<(), Fail> {
     let folder = folder(&rt, "whole-damaged")?;
     let file = whole_kings_file(rt.alloc())?;
-    for (place, others, line) in CHANGES {
+    for &(place, others, line) in &CHANGES {
         let bytes = changed_twice(rt.alloc(), &file, place, others)?;
-        assert!(rt; is_damaged(&rt, &folder, &bytes, line)?, "{line}");
+        require_at(&rt, is_damaged(&rt, &folder, &bytes, line)?, line);
     }
     fs::remove_dir_all(&rt, folder.as_str())?;
     Ok(())
@@ -95,9 +96,11 @@ fn whole_files_of_another_length(rt: HostRuntime) -> Result<(), Fail> {
     let folder = folder(&rt, "whole-lengths")?;
     let mut file = whole_kings_file(rt.alloc())?;
     file.push(0)?;
-    assert!(rt; is_damaged(&rt, &folder, &file, "error KK file 9 Trailing\n")?);
+    let right = is_damaged(&rt, &folder, &file, "error KK file 9 Trailing\n")?;
+    require(&rt, right);
     file.truncate(7695);
-    assert!(rt; is_damaged(&rt, &folder, &file, "error KK file 2 Short\n")?);
+    let right = is_damaged(&rt, &folder, &file, "error KK file 2 Short\n")?;
+    require(&rt, right);
     fs::remove_dir_all(&rt, folder.as_str())?;
     Ok(())
 }
@@ -137,8 +140,9 @@ fn two_kings_that_get_the_third_column(rt: HostRuntime) -> Result<(), Fail> {
     let folder = folder(&rt, "migrated-kings")?;
     put(&rt, &folder, "KK.egt", &kings_file(rt.alloc())?)?;
     all_go(&rt, &folder, &KINGS_MIGRATED)?;
-    assert!(rt; has_file(&rt, &folder, "KQK.egt") == Some(false));
-    assert!(rt; holds(&rt, &folder, "KK.egt", &whole_kings_file(rt.alloc())?)?);
+    require(&rt, has_file(&rt, &folder, "KQK.egt") == Some(false));
+    let right = holds(&rt, &folder, "KK.egt", &whole_kings_file(rt.alloc())?)?;
+    require(&rt, right);
     fs::remove_dir_all(&rt, folder.as_str())?;
     Ok(())
 }
@@ -167,10 +171,10 @@ fn a_knight_that_gets_the_third_column(rt: HostRuntime) -> Result<(), Fail> {
     let knights = knight_files(rt.alloc())?;
     put(&rt, &folder, "KK.egt", &kings_file(rt.alloc())?)?;
     put(&rt, &folder, "KNK.egt", &knights.first)?;
-    assert!(rt; goes(&rt, &folder, REFUSED) == Some(true));
-    assert!(rt; holds(&rt, &folder, "KNK.egt", &knights.first)?);
+    require(&rt, goes(&rt, &folder, REFUSED) == Some(true));
+    require(&rt, holds(&rt, &folder, "KNK.egt", &knights.first)?);
     all_go(&rt, &folder, &KNIGHT_MIGRATED)?;
-    assert!(rt; holds(&rt, &folder, "KNK.egt", &knights.second)?);
+    require(&rt, holds(&rt, &folder, "KNK.egt", &knights.second)?);
     fs::remove_dir_all(&rt, folder.as_str())?;
     Ok(())
 }
@@ -203,7 +207,7 @@ fn a_third_column_above_none(rt: HostRuntime) -> Result<(), Fail> {
 fn a_mate_that_is_too_far(rt: HostRuntime) -> Result<(), Fail> {
     let ending = ToolFault::of_migrate(MigrateFault::TooDeep);
     let line = format!(in rt.alloc(); "{ending}")?;
-    assert_eq!(rt; line.as_str(), "error build 2 TooDeep 32000");
+    agree(&rt, line.as_str(), "error build 2 TooDeep 32000");
     Ok(())
 }
 
@@ -221,8 +225,8 @@ fn no_third_column_for_a_false_table(rt: HostRuntime) -> Result<(), Fail> {
     let folder = folder(&rt, "false")?;
     let file = changed(rt.alloc(), &kings_file(rt.alloc())?, 24, 4)?;
     put(&rt, &folder, "KK.egt", &file)?;
-    assert!(rt; goes(&rt, &folder, FALSE) == Some(true));
-    assert!(rt; holds(&rt, &folder, "KK.egt", &file)?);
+    require(&rt, goes(&rt, &folder, FALSE) == Some(true));
+    require(&rt, holds(&rt, &folder, "KK.egt", &file)?);
     fs::remove_dir_all(&rt, folder.as_str())?;
     Ok(())
 }
@@ -238,8 +242,8 @@ const NONE: [Step; 3] = [
 fn no_third_column_for_no_file(rt: HostRuntime) -> Result<(), Fail> {
     let folder = folder(&rt, "none")?;
     all_go(&rt, &folder, &NONE)?;
-    assert!(rt; has_file(&rt, &folder, "KK.egt") == Some(false));
-    assert!(rt; is_wrong(&rt, &["migrate", &folder]) == Some(true));
+    require(&rt, has_file(&rt, &folder, "KK.egt") == Some(false));
+    require(&rt, is_wrong(&rt, &["migrate", &folder]) == Some(true));
     fs::remove_dir_all(&rt, folder.as_str())?;
     Ok(())
 }

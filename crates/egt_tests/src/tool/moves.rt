@@ -1,5 +1,6 @@
 //! Legal moves, as they are printed; what the program makes of wrong words, and of streams that fail.
-use super::{fails, has_lines, is_wrong, prints, run_failing, run_on};
+use super::{fails, has_lines, prints, run_failing, run_on};
+use crate::asserts::{require, require_at};
 use egt_commands::{MovesFault, moves_text};
 use egt_fen::FenFault;
 use std::alloc::Global;
@@ -55,8 +56,8 @@ pub(crate) fn lists(alloc: Global, row: &str) -> Result<bool, MovesFault> {
 
 #[test]
 fn lists_the_moves_that_an_engine_lists(rt: HostRuntime) -> Result<(), Fail> {
-    for row in LEGAL_MOVES {
-        assert!(rt; lists(rt.alloc(), row)?, "{row}");
+    for &row in &LEGAL_MOVES {
+        require_at(&rt, lists(rt.alloc(), row)?, row);
     }
     Ok(())
 }
@@ -79,11 +80,9 @@ const PRINTED: [(&str, &str); 5] = [
 
 #[test]
 fn prints_one_move_a_line(rt: HostRuntime) {
-    for (fen, text) in PRINTED {
-        assert!(rt;
-            prints(&rt, &["moves", fen], 0, text, "") == Some(true),
-            "{fen}"
-        );
+    for &(fen, text) in &PRINTED {
+        let right = prints(&rt, &["moves", fen], 0, text, "") == Some(true);
+        require_at(&rt, right, fen);
     }
 }
 
@@ -105,12 +104,12 @@ const REFUSED: [(&str, FenFault); 12] = [
 
 #[test]
 fn refuses_with_the_first_fault(rt: HostRuntime) {
-    for (fen, fault) in REFUSED {
+    for &(fen, fault) in &REFUSED {
         let refused = match moves_text(rt.alloc(), fen.as_bytes()) {
             Err(MovesFault::Fen(first)) => first == fault,
             _ => false,
         };
-        assert!(rt; refused, "{fen}");
+        require_at(&rt, refused, fen);
     }
 }
 
@@ -123,8 +122,8 @@ fn prints_lines(rt: &HostRuntime, row: &str) -> Option<bool> {
 
 #[test]
 fn prints_the_moves(rt: HostRuntime) {
-    for row in LEGAL_MOVES {
-        assert!(rt; prints_lines(&rt, row) == Some(true), "{row}");
+    for &row in &LEGAL_MOVES {
+        require_at(&rt, prints_lines(&rt, row) == Some(true), row);
     }
 }
 
@@ -154,15 +153,7 @@ fn both_refuse(rt: &HostRuntime, fen: &str, line: &str) -> Option<bool> {
 #[test]
 fn prints_the_first_fault(rt: HostRuntime) {
     for ((fen, _), line) in REFUSED.iter().zip(&FAULT_LINES) {
-        assert!(rt; both_refuse(&rt, fen, line) == Some(true), "{fen}");
-    }
-}
-
-#[test]
-fn refuses_other_words(rt: HostRuntime) {
-    let wrong: [&[&str]; 4] = [&[], &["moves"], &["castle"], &["moves", "k7", "w"]];
-    for words in wrong {
-        assert!(rt; is_wrong(&rt, words) == Some(true));
+        require_at(&rt, both_refuse(&rt, fen, line) == Some(true), fen);
     }
 }
 
@@ -189,8 +180,8 @@ fn prints_its_help(rt: HostRuntime) {
             "Reports of each FEN of the standard input, one a line\n",
         ),
     ];
-    for (words, head) in asked {
-        assert!(rt; helps(&rt, words, head) == Some(true));
+    for (words, head) in &asked {
+        require(&rt, helps(&rt, words, head) == Some(true));
     }
 }
 
@@ -216,9 +207,9 @@ fn streams_that_fail(rt: HostRuntime) {
         &["list"],
         &["--help"],
     ];
-    for words in printing {
-        assert!(rt; tells_failure(&rt, words) == Some(true));
+    for words in &printing {
+        require(&rt, tells_failure(&rt, words) == Some(true));
     }
-    assert!(rt; status_alone(&rt, &["moves", ""]) == Some(1));
-    assert!(rt; status_alone(&rt, &["castle"]) == Some(2));
+    require(&rt, status_alone(&rt, &["moves", ""]) == Some(1));
+    require(&rt, status_alone(&rt, &["castle"]) == Some(2));
 }

@@ -3,6 +3,7 @@
 //! The lists of moves are those of Stockfish 15.1 (Debian's package), `go perft 1`, put in order of square, then
 //! promotion (queen, rook, bishop, knight).
 use super::moves::lists;
+use crate::asserts::require_at;
 use std::test::Fail;
 
 /// Targets that a pawn can take en passant, and targets that none can.
@@ -51,8 +52,8 @@ const EN_PASSANT: [&str; 31] = [
 
 #[test]
 fn lists_en_passant_as_an_engine_does(rt: HostRuntime) -> Result<(), Fail> {
-    for row in EN_PASSANT {
-        assert!(rt; lists(rt.alloc(), row)?, "{row}");
+    for &row in &EN_PASSANT {
+        require_at(&rt, lists(rt.alloc(), row)?, row);
     }
     Ok(())
 }
@@ -97,8 +98,8 @@ const ADVANCES: [&str; 28] = [
 
 #[test]
 fn lists_advances_and_captures_as_an_engine_does(rt: HostRuntime) -> Result<(), Fail> {
-    for row in ADVANCES {
-        assert!(rt; lists(rt.alloc(), row)?, "{row}");
+    for &row in &ADVANCES {
+        require_at(&rt, lists(rt.alloc(), row)?, row);
     }
     Ok(())
 }
@@ -137,8 +138,8 @@ const PINS: [&str; 22] = [
 
 #[test]
 fn lists_pins_and_answers_to_checks_as_an_engine_does(rt: HostRuntime) -> Result<(), Fail> {
-    for row in PINS {
-        assert!(rt; lists(rt.alloc(), row)?, "{row}");
+    for &row in &PINS {
+        require_at(&rt, lists(rt.alloc(), row)?, row);
     }
     Ok(())
 }
@@ -168,8 +169,8 @@ const PROMOTIONS: [&str; 16] = [
 
 #[test]
 fn lists_promotions_as_an_engine_does(rt: HostRuntime) -> Result<(), Fail> {
-    for row in PROMOTIONS {
-        assert!(rt; lists(rt.alloc(), row)?, "{row}");
+    for &row in &PROMOTIONS {
+        require_at(&rt, lists(rt.alloc(), row)?, row);
     }
     Ok(())
 }
@@ -203,8 +204,8 @@ const KINGS: [&str; 17] = [
 
 #[test]
 fn lists_moves_of_kings_beside_pawns_as_an_engine_does(rt: HostRuntime) -> Result<(), Fail> {
-    for row in KINGS {
-        assert!(rt; lists(rt.alloc(), row)?, "{row}");
+    for &row in &KINGS {
+        require_at(&rt, lists(rt.alloc(), row)?, row);
     }
     Ok(())
 }

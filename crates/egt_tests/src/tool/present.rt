@@ -1,5 +1,6 @@
 //! Checks and reports of all files that a folder has.
 use super::{KINGS, Step, all_go, changed, fails, folder, put};
+use crate::asserts::require_at;
 use egt_plain::kings::{kings_file, whole_kings_file};
 use egt_plain::shelf::file_of;
 use egt_plain::{PlainTables, whole_table_of};
@@ -126,9 +127,9 @@ fn the_files_that_are_there(rt: HostRuntime) -> Result<(), Fail> {
     put(&rt, &folder, "KNK.egt", &knight)?;
     put(&rt, &folder, "KRK.egt.7-0.new", b"EGTB")?;
     all_go(&rt, &folder, &KNIGHT)?;
-    for words in [["check", folder.as_str()], ["probe", folder.as_str()]] {
+    for &words in &[["check", folder.as_str()], ["probe", folder.as_str()]] {
         let device = fails(&rt, &words, (1, 0), 3, "error device\n");
-        assert!(rt; device == Some(true), "{}", words[0]);
+        require_at(&rt, device == Some(true), words[0]);
     }
     put(&rt, &folder, "KPK.egt", b"")?;
     all_go(&rt, &folder, &PAWN)?;

@@ -1,5 +1,6 @@
 //! Files that are replaced, and files that are not since a call of the system failed.
 use super::{Step, folder, goes, holds, put};
+use crate::asserts::{agree, require, require_at};
 use egt_plain::kings::{kings_file, whole_kings_file};
 use egt_table::{MemorySink, MemorySource};
 use egt_tool::run;
@@ -27,21 +28,18 @@ const REPLACING: [Step; 2] = [
 
 #[test]
 fn a_backup_by_a_hard_link(rt: HostRuntime) -> Result<(), Fail> {
-    for step in REPLACING {
+    for &step in &REPLACING {
         let folder = folder(&rt, "backup")?;
         let old = kings_file(rt.alloc())?;
         put(&rt, &folder, "KK.egt", &old)?;
         let own = format!(in rt.alloc(); "{folder}/KK.egt")?;
         let backup = format!(in rt.alloc(); "{folder}/backup")?;
         fs::hard_link(&rt, own.as_str(), backup.as_str())?;
-        assert!(rt; goes(&rt, &folder, step) == Some(true), "{}", step.0);
-        assert!(rt; holds(&rt, &folder, "backup", &old)?, "{}", step.0);
-        assert!(rt;
-            holds(&rt, &folder, "KK.egt", &whole_kings_file(rt.alloc())?)?,
-            "{}",
-            step.0
-        );
-        assert_eq!(rt; count(&rt, &folder)?, 2);
+        require_at(&rt, goes(&rt, &folder, step) == Some(true), step.0);
+        require_at(&rt, holds(&rt, &folder, "backup", &old)?, step.0);
+        let right = holds(&rt, &folder, "KK.egt", &whole_kings_file(rt.alloc())?)?;
+        require_at(&rt, right, step.0);
+        agree(&rt, count(&rt, &folder)?, 2);
         fs::remove_dir_all(&rt, folder.as_str())?;
     }
     Ok(())
@@ -53,10 +51,11 @@ fn a_new_file_whose_name_is_taken(rt: HostRuntime) -> Result<(), Fail> {
     let process = process::id(rt.process());
     let name = format!(in rt.alloc(); "KK.egt.{process}-0.new")?;
     put(&rt, &folder, name.as_str(), b"another's")?;
-    assert!(rt; goes(&rt, &folder, REPLACING[0]) == Some(true));
-    assert!(rt; holds(&rt, &folder, name.as_str(), b"another's")?);
-    assert!(rt; holds(&rt, &folder, "KK.egt", &whole_kings_file(rt.alloc())?)?);
-    assert_eq!(rt; count(&rt, &folder)?, 2);
+    require(&rt, goes(&rt, &folder, REPLACING[0]) == Some(true));
+    require(&rt, holds(&rt, &folder, name.as_str(), b"another's")?);
+    let right = holds(&rt, &folder, "KK.egt", &whole_kings_file(rt.alloc())?)?;
+    require(&rt, right);
+    agree(&rt, count(&rt, &folder)?, 2);
     fs::remove_dir_all(&rt, folder.as_str())?;
     Ok(())
 }
@@ -235,24 +234,17 @@ fn a_file_that_is_not_replaced(rt: HostRuntime) -> Result<(), Fail> {
     let folder = folder(&rt, "refusing")?;
     let old = kings_file(rt.alloc())?;
     put(&rt, &folder, "KK.egt", &old)?;
-    for (refused, status, line) in ENDINGS {
-        for command in ["build", "migrate"] {
-            assert!(rt;
-                ends(&rt, &folder, command, refused, status, line)?,
-                "{command} {refused:?}"
-            );
-            assert!(rt;
-                holds(&rt, &folder, "KK.egt", &old)?,
-                "{command} {refused:?}"
-            );
-            assert_eq!(rt; count(&rt, &folder)?, 1, "{command} {refused:?}");
+    for &(refused, status, line) in &ENDINGS {
+        for &command in &["build", "migrate"] {
+            let right = ends(&rt, &folder, command, refused, status, line)?;
+            require_at(&rt, right, command);
+            require_at(&rt, holds(&rt, &folder, "KK.egt", &old)?, command);
+            require_at(&rt, count(&rt, &folder)? == 1, command);
         }
     }
-    for command in ["check", "stats", "probe"] {
-        assert!(rt;
-            ends(&rt, &folder, command, Refused::Memory, 4, "error memory\n")?,
-            "{command}"
-        );
+    for &command in &["check", "stats", "probe"] {
+        let right = ends(&rt, &folder, command, Refused::Memory, 4, "error memory\n")?;
+        require_at(&rt, right, command);
     }
     fs::remove_dir_all(&rt, folder.as_str())?;
     Ok(())
@@ -264,8 +256,8 @@ fn a_folder_in_the_place_of_the_file(rt: HostRuntime) -> Result<(), Fail> {
     let own = format!(in rt.alloc(); "{folder}/KK.egt")?;
     fs::create_dir(&rt, own.as_str())?;
     let step = ("build DIR KK", "", 3, "", "error device\n");
-    assert!(rt; goes(&rt, &folder, step) == Some(true));
-    assert_eq!(rt; count(&rt, &folder)?, 1);
+    require(&rt, goes(&rt, &folder, step) == Some(true));
+    agree(&rt, count(&rt, &folder)?, 1);
     fs::remove_dir_all(&rt, folder.as_str())?;
     Ok(())
 }

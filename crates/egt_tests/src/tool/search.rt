@@ -1,5 +1,6 @@
 //! Worked texts of the search for mate.
 use super::{is_wrong, prints};
+use crate::asserts::{require, require_at};
 use egt_commands::search_text;
 use std::test::Fail;
 
@@ -21,11 +22,11 @@ const WORKED: [(u8, &str); 10] = [
 
 #[test]
 fn tells_worked_mates(rt: HostRuntime) -> Result<(), Fail> {
-    for (plies, row) in WORKED {
+    for &(plies, row) in &WORKED {
         let (fen, found) = row.split_once(": ").unwrap_or((row, ""));
         let line = format!(in rt.alloc(); "{} plies\n", found)?;
         let text = search_text(rt.alloc(), plies, fen.as_bytes())?;
-        assert_eq!(rt; text.as_slice(), line.as_bytes(), "{row}");
+        require_at(&rt, text.as_slice() == line.as_bytes(), row);
     }
     Ok(())
 }
@@ -103,21 +104,21 @@ const MATES: [(u8, &str, &str); 58] = [
 
 #[test]
 fn finds_the_mates_that_an_engine_finds(rt: HostRuntime) -> Result<(), Fail> {
-    for (plies, winner, fen) in MATES {
+    for &(plies, winner, fen) in &MATES {
         let line = format!(in rt.alloc(); "{} mates in {} plies\n", winner, plies)?;
         let found = search_text(rt.alloc(), 6, fen.as_bytes())?;
-        assert_eq!(rt; found.as_slice(), line.as_bytes(), "{fen}");
+        require_at(&rt, found.as_slice() == line.as_bytes(), fen);
     }
     Ok(())
 }
 
 #[test]
 fn finds_no_mate_sooner_than_an_engine(rt: HostRuntime) -> Result<(), Fail> {
-    for (plies, _, fen) in MATES {
+    for &(plies, _, fen) in &MATES {
         if 1 < plies && plies <= 6 {
             let line = format!(in rt.alloc(); "no mate within {} plies\n", plies - 1)?;
             let found = search_text(rt.alloc(), plies - 1, fen.as_bytes())?;
-            assert_eq!(rt; found.as_slice(), line.as_bytes(), "{fen}");
+            require_at(&rt, found.as_slice() == line.as_bytes(), fen);
         }
     }
     Ok(())
@@ -128,14 +129,12 @@ const NUMBERS: [&str; 7] = ["0", "1", "2", "3", "4", "5", "6"];
 
 #[test]
 fn prints_what_it_tells(rt: HostRuntime) -> Result<(), Fail> {
-    for (plies, row) in WORKED {
+    for &(plies, row) in &WORKED {
         let number = NUMBERS[usize::from(plies) % NUMBERS.len()];
         let (fen, found) = row.split_once(": ").unwrap_or((row, ""));
         let line = format!(in rt.alloc(); "{} plies\n", found)?;
-        assert!(rt;
-            prints(&rt, &["search", number, fen], 0, line.as_str(), "") == Some(true),
-            "{row}"
-        );
+        let right = prints(&rt, &["search", number, fen], 0, line.as_str(), "") == Some(true);
+        require_at(&rt, right, row);
     }
     Ok(())
 }
@@ -143,20 +142,16 @@ fn prints_what_it_tells(rt: HostRuntime) -> Result<(), Fail> {
 #[test]
 fn searches_from_1_to_6_plies(rt: HostRuntime) {
     let fen = "k7/8/1K6/8/8/8/8/3Q4 b - - 0 1";
-    for plies in ["0", "7", "256", "two", "-1"] {
-        assert!(rt;
-            is_wrong(&rt, &["search", plies, fen]) == Some(true),
-            "{plies}"
-        );
+    for &plies in &["0", "7", "256", "two", "-1"] {
+        let right = is_wrong(&rt, &["search", plies, fen]) == Some(true);
+        require_at(&rt, right, plies);
     }
-    assert!(rt; is_wrong(&rt, &["search", "2"]) == Some(true));
-    for (fen, status, out, err) in [
+    require(&rt, is_wrong(&rt, &["search", "2"]) == Some(true));
+    for &(fen, status, out, err) in &[
         ("k7/8/8/8/8/8/8/K7 w - -", 0, "no mate within 2 plies\n", ""),
         ("k7/8/8/8/8/8/8/K7 w -", 1, "", "error fen 1 FieldCount\n"),
     ] {
-        assert!(rt;
-            prints(&rt, &["search", "2", fen], status, out, err) == Some(true),
-            "{fen}"
-        );
+        let right = prints(&rt, &["search", "2", fen], status, out, err) == Some(true);
+        require_at(&rt, right, fen);
     }
 }
