@@ -40,7 +40,7 @@ fn turned(square: u8, symmetry: u8) -> u8 {
 /// The code that has the white king in the triangle.
 fn code(white: u8, black: u8, side: u32) -> Option<u32> {
     let mut digit = 0u32;
-    for square in TRIANGLE {
+    for &square in &TRIANGLE {
         if square == white {
             return Some(
                 digit

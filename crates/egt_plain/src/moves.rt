@@ -65,7 +65,7 @@ impl PlainPosition {
     }
 
     fn move_black_king(self, list: &mut Successors) {
-        for step in ALL_STEPS {
+        for &step in &ALL_STEPS {
             if let Some(to) = stepped(self.black_king, step) {
                 let takes = self.third.is_some_and(|(_, square)| square == to);
                 let position = PlainPosition {
@@ -80,7 +80,7 @@ impl PlainPosition {
     }
 
     fn move_white_king(self, list: &mut Successors) {
-        for step in ALL_STEPS {
+        for &step in &ALL_STEPS {
             if let Some(to) = stepped(self.white_king, step)
                 && !self.is_occupied(to)
             {
@@ -125,7 +125,7 @@ impl PlainPosition {
             return;
         }
         if rank(next) == 7 {
-            for kind in PROMOTIONS {
+            for &kind in &PROMOTIONS {
                 add(list, self.with_third(kind, next), true);
             }
             return;

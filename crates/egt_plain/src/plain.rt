@@ -1,6 +1,7 @@
 //! The plain codes and tables beside numbers from outside.
 ghost use Rattle.std.specs.Prelude.{◌<◌};
 
+use crate::asserts::{agree, require_at};
 use crate::{PlainPosition, PlainTables, plain_code};
 use egt_board::{Kind, Man, Position, Side, Square};
 use egt_table::Column;
@@ -27,20 +28,20 @@ fn worked_codes(rt: HostRuntime) -> Result<(), Fail> {
         on(Side::White, Kind::Q, 3),
         on(Side::Black, Kind::K, 56),
     ];
-    assert_eq!(rt; code(&queen, Side::White)?, Some((1, 343_046)));
-    assert_eq!(rt; code(&queen, Side::Black)?, Some((1, 343_047)));
+    agree(&rt, code(&queen, Side::White)?, Some((1, 343_046)));
+    agree(&rt, code(&queen, Side::Black)?, Some((1, 343_047)));
     let flipped = [
         on(Side::White, Kind::K, 0),
         on(Side::Black, Kind::K, 17),
         on(Side::Black, Kind::Q, 59),
     ];
-    assert_eq!(rt; code(&flipped, Side::Black)?, Some((1, 343_046)));
+    agree(&rt, code(&flipped, Side::Black)?, Some((1, 343_046)));
     let pawn = [
         on(Side::White, Kind::K, 53),
         on(Side::White, Kind::P, 54),
         on(Side::Black, Kind::K, 55),
     ];
-    assert_eq!(rt; code(&pawn, Side::White)?, Some((5, 441_324)));
+    agree(&rt, code(&pawn, Side::White)?, Some((5, 441_324)));
     Ok(())
 }
 
@@ -51,9 +52,11 @@ fn two_kings_are_drawn(rt: HostRuntime) -> Result<(), Fail> {
     let tables = PlainTables::solve(rt.alloc(), 1)?;
     for column in Column::ALL {
         let entries = tables.entries(0, column);
-        assert_eq!(rt; entries.len(), 8192);
-        assert_eq!(rt; entries.iter().filter(|entry| **entry == 1).count(), 7224);
-        assert_eq!(rt; entries.iter().filter(|entry| **entry == 0).count(), 968);
+        agree(&rt, entries.len(), 8192);
+        let found = entries.iter().filter(|entry| **entry == 1).count();
+        agree(&rt, found, 7224);
+        let found = entries.iter().filter(|entry| **entry == 0).count();
+        agree(&rt, found, 968);
     }
     Ok(())
 }
@@ -79,16 +82,16 @@ fn decided(entries: &[u16]) -> usize {
 #[test]
 fn longest_wins(rt: HostRuntime) -> Result<(), Fail> {
     let tables = PlainTables::solve(rt.alloc(), 6)?;
-    assert_eq!(rt; longest_win(tables.entries(1, Column::Mate)), 19);
-    assert_eq!(rt; longest_win(tables.entries(2, Column::Mate)), 31);
-    assert_eq!(rt; decided(tables.entries(3, Column::Mate)), 0);
-    assert_eq!(rt; decided(tables.entries(4, Column::Mate)), 0);
-    assert_eq!(rt; longest_win(tables.entries(5, Column::Mate)), 55);
+    agree(&rt, longest_win(tables.entries(1, Column::Mate)), 19);
+    agree(&rt, longest_win(tables.entries(2, Column::Mate)), 31);
+    agree(&rt, decided(tables.entries(3, Column::Mate)), 0);
+    agree(&rt, decided(tables.entries(4, Column::Mate)), 0);
+    agree(&rt, longest_win(tables.entries(5, Column::Mate)), 55);
     for class in 0..6 {
         let mate = tables.entries(class, Column::Mate);
         let zeroing = tables.entries(class, Column::Zeroing);
         for (plies, sooner) in mate.iter().zip(zeroing) {
-            assert!(rt; sooner <= plies && sooner % 2 == plies % 2, "class {class}");
+            require_at(&rt, sooner <= plies && sooner % 2 == plies % 2, class);
         }
     }
     Ok(())
@@ -96,9 +99,9 @@ fn longest_wins(rt: HostRuntime) -> Result<(), Fail> {
 
 #[test]
 fn codes_spell_what_they_are_made_of(rt: HostRuntime) {
-    for (third, codes) in [(None, 8192), (Some(Kind::N), 524_288)] {
+    for &(third, codes) in &[(None, 8192), (Some(Kind::N), 524_288)] {
         for code in 0..codes {
-            assert_eq!(rt; PlainPosition::of_code(third, code).code(), code);
+            agree(&rt, PlainPosition::of_code(third, code).code(), code);
         }
     }
 }

@@ -1,4 +1,5 @@
 //! Wins that lean on each other in a circle: each move of the one side leads on to one, and none ends in mate.
+use crate::asserts::require;
 use crate::{PlainTables, table_of};
 use egt_board::{Position, Side};
 use egt_check::{Library, Reject, Rule, check};
@@ -92,7 +93,7 @@ fn wins_in_a_circle(rt: HostRuntime) -> Result<(), Fail> {
         }
     }
     let circle = entries.iter().filter(|entry| **entry == LOST).count();
-    assert!(rt; circle > 0);
+    require(&rt, circle > 0);
     let mut zeroing = Vec::new(alloc);
     zeroing.extend_from_slice(&entries)?;
     let Ok(table) = Table::from_ranks(
@@ -103,9 +104,10 @@ fn wins_in_a_circle(rt: HostRuntime) -> Result<(), Fail> {
         return Err(Fail::new("a column of another length"));
     };
     let mut library = Library::new(alloc)?;
-    assert!(rt; library.admit(table_of(alloc, &tables, 0)?).is_ok());
+    require(&rt, library.admit(table_of(alloc, &tables, 0)?).is_ok());
     // A win in 2 stands beside a loss in 1, but no loss in 1 beside a win in 0.
-    assert!(rt;
+    require(
+        &rt,
         matches!(
             check(&table, &library),
             Err(Reject::Rejected {
@@ -113,7 +115,7 @@ fn wins_in_a_circle(rt: HostRuntime) -> Result<(), Fail> {
                 rule: Rule::Loss,
                 ..
             })
-        )
+        ),
     );
     Ok(())
 }

@@ -1,4 +1,5 @@
 //! The checker's answers to tables that are not true.
+use crate::asserts::{agree, require, require_at};
 use crate::kings::{table_with, whole_table_with};
 use crate::shelf::library_of;
 use crate::{PlainTables, table_of};
@@ -21,7 +22,7 @@ fn zeroing_with(alloc: Global, code: u32, entry: u16) -> Result<Result<(), Rejec
     Ok(check(&table, &Library::new(alloc)?))
 }
 
-fn rejected(column: Column, index: u32, rule: Rule) -> Result<(), Reject> {
+pub(super) fn rejected(column: Column, index: u32, rule: Rule) -> Result<(), Reject> {
     Err(Reject::Rejected {
         column,
         index,
@@ -33,7 +34,7 @@ fn rejected(column: Column, index: u32, rule: Rule) -> Result<(), Reject> {
 fn two_kings_are_accepted(rt: HostRuntime) -> Result<(), Fail> {
     let table = table_with(rt.alloc(), &[], &[])?;
     let library = Library::new(rt.alloc())?;
-    assert_eq!(rt; check(&table, &library), Ok(()));
+    agree(&rt, check(&table, &library), Ok(()));
     Ok(())
 }
 
@@ -46,21 +47,18 @@ fn a_queen_alone_has_a_child_missing(rt: HostRuntime) -> Result<(), Fail> {
         return Err(Fail::from("a column of another length"));
     };
     let library = Library::new(alloc)?;
-    assert_eq!(rt; check(&table, &library), Err(Reject::Missing(Class::at(0))));
+    let found = check(&table, &library);
+    agree(&rt, found, Err(Reject::Missing(Class::at(0))));
     Ok(())
 }
 
 // Both kings on a1 spell no position.
 #[test]
 fn an_entry_where_there_is_no_position(rt: HostRuntime) -> Result<(), Fail> {
-    assert_eq!(rt;
-        mate_with(rt.alloc(), 0, 1)?,
-        rejected(Column::Mate, 0, Rule::Void)
-    );
-    assert_eq!(rt;
-        zeroing_with(rt.alloc(), 0, 1)?,
-        rejected(Column::Zeroing, 0, Rule::Void)
-    );
+    let found = mate_with(rt.alloc(), 0, 1)?;
+    agree(&rt, found, rejected(Column::Mate, 0, Rule::Void));
+    let found = zeroing_with(rt.alloc(), 0, 1)?;
+    agree(&rt, found, rejected(Column::Zeroing, 0, Rule::Void));
     Ok(())
 }
 
@@ -77,12 +75,9 @@ fn each_rule_of_the_mate_column(rt: HostRuntime) -> Result<(), Fail> {
         (5, Rule::Loss),
         (64_003, Rule::Loss),
     ];
-    for (entry, rule) in cases {
-        assert_eq!(rt;
-            mate_with(rt.alloc(), 4, entry)?,
-            rejected(Column::Mate, 4, rule),
-            "{entry}"
-        );
+    for &(entry, rule) in &cases {
+        let right = mate_with(rt.alloc(), 4, entry)? == rejected(Column::Mate, 4, rule);
+        require_at(&rt, right, entry);
     }
     Ok(())
 }
@@ -96,12 +91,9 @@ fn the_zeroing_column_shows_what_the_mate_column_does(rt: HostRuntime) -> Result
         (4, Rule::Kind),
         (3, Rule::Kind),
     ];
-    for (entry, rule) in cases {
-        assert_eq!(rt;
-            zeroing_with(rt.alloc(), 4, entry)?,
-            rejected(Column::Zeroing, 4, rule),
-            "{entry}"
-        );
+    for &(entry, rule) in &cases {
+        let right = zeroing_with(rt.alloc(), 4, entry)? == rejected(Column::Zeroing, 4, rule);
+        require_at(&rt, right, entry);
     }
     Ok(())
 }
@@ -110,10 +102,8 @@ fn the_zeroing_column_shows_what_the_mate_column_does(rt: HostRuntime) -> Result
 fn the_mate_column_comes_first(rt: HostRuntime) -> Result<(), Fail> {
     let table = table_with(rt.alloc(), &[(5, 0)], &[(4, 0)])?;
     let library = Library::new(rt.alloc())?;
-    assert_eq!(rt;
-        check(&table, &library),
-        rejected(Column::Mate, 5, Rule::Void)
-    );
+    let found = check(&table, &library);
+    agree(&rt, found, rejected(Column::Mate, 5, Rule::Void));
     Ok(())
 }
 
@@ -122,7 +112,7 @@ fn the_mate_column_comes_first(rt: HostRuntime) -> Result<(), Fail> {
 fn each_rule_of_the_column_of_the_nearest_mates(rt: HostRuntime) -> Result<(), Fail> {
     let library = Library::new(rt.alloc())?;
     let whole = whole_table_with(rt.alloc(), &[], &[], &[])?;
-    assert_eq!(rt; check(&whole, &library), Ok(()));
+    agree(&rt, check(&whole, &library), Ok(()));
     let cases = [
         (4, 0, Rule::Void),
         (4, 2, Rule::Reach),
@@ -132,13 +122,10 @@ fn each_rule_of_the_column_of_the_nearest_mates(rt: HostRuntime) -> Result<(), F
         (4, 65_535, Rule::Range),
         (0, 1, Rule::Void),
     ];
-    for (code, entry, rule) in cases {
+    for &(code, entry, rule) in &cases {
         let table = whole_table_with(rt.alloc(), &[], &[], &[(code, entry)])?;
-        assert_eq!(rt;
-            check(&table, &library),
-            rejected(Column::Reach, code, rule),
-            "{entry}"
-        );
+        let right = check(&table, &library) == rejected(Column::Reach, code, rule);
+        require_at(&rt, right, entry);
     }
     Ok(())
 }
@@ -147,10 +134,8 @@ fn each_rule_of_the_column_of_the_nearest_mates(rt: HostRuntime) -> Result<(), F
 fn the_column_of_the_nearest_mates_comes_last(rt: HostRuntime) -> Result<(), Fail> {
     let table = whole_table_with(rt.alloc(), &[], &[(1279, 1)], &[(0, 1)])?;
     let library = Library::new(rt.alloc())?;
-    assert_eq!(rt;
-        check(&table, &library),
-        rejected(Column::Zeroing, 1279, Rule::Void)
-    );
+    let found = check(&table, &library);
+    agree(&rt, found, rejected(Column::Zeroing, 1279, Rule::Void));
     Ok(())
 }
 
@@ -171,9 +156,12 @@ fn empty_queen(alloc: Global) -> Result<Table, Fail> {
 fn a_child_lacks_the_column(rt: HostRuntime) -> Result<(), Fail> {
     let queen = empty_queen(rt.alloc())?;
     let mut library = Library::new(rt.alloc())?;
-    assert_eq!(rt; check(&queen, &library), Err(Reject::Missing(Class::at(0))));
-    assert!(rt; library.admit(table_with(rt.alloc(), &[], &[])?).is_ok());
-    assert_eq!(rt; check(&queen, &library), Err(Reject::NoReach(Class::at(0))));
+    let found = check(&queen, &library);
+    agree(&rt, found, Err(Reject::Missing(Class::at(0))));
+    let right = library.admit(table_with(rt.alloc(), &[], &[])?).is_ok();
+    require(&rt, right);
+    let found = check(&queen, &library);
+    agree(&rt, found, Err(Reject::NoReach(Class::at(0))));
     Ok(())
 }
 
@@ -192,8 +180,9 @@ fn a_mate_told_later_than_it_comes(rt: HostRuntime) -> Result<(), Fail> {
         return Err(Fail::from("a column of another length"));
     };
     let answer = check(&table, &library_of(rt.alloc(), &tables, 1)?);
-    assert!(rt;
-        matches!(answer, Err(Reject::Rejected { column: Column::Mate, index, .. }) if index <= 41_022)
+    require(
+        &rt,
+        matches!(answer, Err(Reject::Rejected { column: Column::Mate, index, .. }) if index <= 41_022),
     );
     Ok(())
 }

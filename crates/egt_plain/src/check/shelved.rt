@@ -1,5 +1,7 @@
 //! Tables put into a library and taken from it.
+use super::refused::rejected;
 use crate::PlainTables;
+use crate::asserts::{agree, require};
 use crate::kings::table_with;
 use crate::shelf::{entry_of, library_of, whole_library_of};
 use egt_check::{Library, Reject, Rule};
@@ -10,18 +12,19 @@ use std::test::*;
 #[test]
 fn a_table_is_taken_once(rt: HostRuntime) -> Result<(), Fail> {
     let mut library = Library::new(rt.alloc())?;
-    assert!(rt; library.get(Class::at(0)).is_none());
-    assert!(rt; library.admit(table_with(rt.alloc(), &[], &[])?).is_ok());
+    require(&rt, library.get(Class::at(0)).is_none());
+    let right = library.admit(table_with(rt.alloc(), &[], &[])?).is_ok();
+    require(&rt, right);
     let Some(table) = library.get(Class::at(0)) else {
         return Err(Fail::from("no table"));
     };
-    assert_eq!(rt; entry_of(table, Column::Mate, 4), Some(1));
-    assert!(rt; library.get(Class::at(1)).is_none());
+    agree(&rt, entry_of(table, Column::Mate, 4), Some(1));
+    require(&rt, library.get(Class::at(1)).is_none());
     let Err((again, reject)) = library.admit(table_with(rt.alloc(), &[], &[(4, 7)])?) else {
         return Err(Fail::from("taken twice"));
     };
-    assert_eq!(rt; reject, Reject::AlreadyThere);
-    assert_eq!(rt; entry_of(&again, Column::Zeroing, 4), Some(7));
+    agree(&rt, reject, Reject::AlreadyThere);
+    agree(&rt, entry_of(&again, Column::Zeroing, 4), Some(7));
     Ok(())
 }
 
@@ -31,16 +34,9 @@ fn a_bad_table_comes_back(rt: HostRuntime) -> Result<(), Fail> {
     let Err((table, reject)) = library.admit(table_with(rt.alloc(), &[(4, 3)], &[])?) else {
         return Err(Fail::from("taken"));
     };
-    assert_eq!(rt;
-        reject,
-        Reject::Rejected {
-            column: Column::Mate,
-            index: 4,
-            rule: Rule::Loss
-        }
-    );
-    assert_eq!(rt; entry_of(&table, Column::Mate, 4), Some(3));
-    assert!(rt; library.get(Class::at(0)).is_none());
+    agree(&rt, Err(reject), rejected(Column::Mate, 4, Rule::Loss));
+    agree(&rt, entry_of(&table, Column::Mate, 4), Some(3));
+    require(&rt, library.get(Class::at(0)).is_none());
     Ok(())
 }
 
@@ -58,20 +54,19 @@ const RULES: [(Rule, &str); 8] = [
 #[test]
 fn refusals_by_number_and_name(rt: HostRuntime) -> Result<(), Fail> {
     let missing = Reject::Missing(Class::at(0));
-    assert!(rt; missing.number() == 11 && missing.name() == "Missing");
-    assert!(rt;
-        Reject::AlreadyThere.number() == 13 && Reject::AlreadyThere.name() == "AlreadyThere"
-    );
+    require(&rt, missing.number() == 11 && missing.name() == "Missing");
+    let there = Reject::AlreadyThere;
+    require(&rt, there.number() == 13 && there.name() == "AlreadyThere");
     let lacking = Reject::NoReach(Class::at(0));
-    assert!(rt; lacking.number() == 17 && lacking.name() == "NoReach");
-    let rejected = Reject::Rejected {
+    require(&rt, lacking.number() == 17 && lacking.name() == "NoReach");
+    let bad = Reject::Rejected {
         column: Column::Zeroing,
         index: 4,
         rule: Rule::Kind,
     };
-    assert!(rt; rejected.number() == 12 && rejected.name() == "Rejected");
-    for (rule, name) in RULES {
-        assert_eq!(rt; rule.name(), name);
+    require(&rt, bad.number() == 12 && bad.name() == "Rejected");
+    for &(rule, name) in &RULES {
+        agree(&rt, rule.name(), name);
     }
     Ok(())
 }
@@ -90,8 +85,8 @@ fn has_all(library: &Library, end: u8) -> Option<bool> {
 fn the_first_six_classes_are_admitted_in_order(rt: HostRuntime) -> Result<(), Fail> {
     let tables = PlainTables::solve(rt.alloc(), 6)?;
     let library = library_of(rt.alloc(), &tables, 6)?;
-    assert!(rt; has_all(&library, 6) == Some(true));
+    require(&rt, has_all(&library, 6) == Some(true));
     let whole = whole_library_of(rt.alloc(), &tables, 6)?;
-    assert!(rt; has_all(&whole, 6) == Some(true));
+    require(&rt, has_all(&whole, 6) == Some(true));
     Ok(())
 }

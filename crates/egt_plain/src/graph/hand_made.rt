@@ -1,5 +1,6 @@
 //! Small games whose values were worked out by hand.
 use super::games::{Stairs, plain_stairs};
+use crate::asserts::{agree, require};
 use egt_graph::{Exit, SolveFault, solve};
 use std::test::*;
 
@@ -32,21 +33,17 @@ const ENTRIES_WITH_EXITS: [u16; 10] = [10, 17, 1, 13, 18, 1, 6, 21, 1, 0];
 #[test]
 fn exits_that_fall_due(rt: HostRuntime) -> Result<(), Fail> {
     let ranks = solve(rt.alloc(), &WITH_EXITS, 32_000)?;
-    assert_eq!(rt; ranks.entries(), ENTRIES_WITH_EXITS.as_slice());
+    agree(&rt, ranks.entries(), ENTRIES_WITH_EXITS.as_slice());
     Ok(())
 }
 
 #[test]
 fn limit_met_and_passed(rt: HostRuntime) -> Result<(), Fail> {
     let ranks = solve(rt.alloc(), &WITH_EXITS, 9)?;
-    assert_eq!(rt; ranks.entries(), ENTRIES_WITH_EXITS.as_slice());
-    for limit in [8, 0] {
-        assert!(rt;
-            matches!(
-                solve(rt.alloc(), &WITH_EXITS, limit),
-                Err(SolveFault::TooDeep)
-            )
-        );
+    agree(&rt, ranks.entries(), ENTRIES_WITH_EXITS.as_slice());
+    for &limit in &[8, 0] {
+        let found = solve(rt.alloc(), &WITH_EXITS, limit);
+        require(&rt, matches!(found, Err(SolveFault::TooDeep)));
     }
     Ok(())
 }
@@ -62,8 +59,9 @@ fn moves_alone(rt: HostRuntime) -> Result<(), Fail> {
         exits: &[],
     };
     let ranks = solve(rt.alloc(), &game, 3)?;
-    assert_eq!(rt; ranks.entries(), [3, 3, 4, 4, 7, 7, 8, 0, 0].as_slice());
-    assert!(rt; matches!(solve(rt.alloc(), &game, 2), Err(SolveFault::TooDeep)));
+    agree(&rt, ranks.entries(), [3, 3, 4, 4, 7, 7, 8, 0, 0].as_slice());
+    let right = matches!(solve(rt.alloc(), &game, 2), Err(SolveFault::TooDeep));
+    require(&rt, right);
     Ok(())
 }
 
@@ -79,7 +77,7 @@ pub(super) const STALEMATE: Stairs<'static> = Stairs {
 #[test]
 fn no_move_and_no_checkmate(rt: HostRuntime) -> Result<(), Fail> {
     let ranks = solve(rt.alloc(), &STALEMATE, 2)?;
-    assert_eq!(rt; ranks.entries(), [1, 4, 1, 7].as_slice());
+    agree(&rt, ranks.entries(), [1, 4, 1, 7].as_slice());
     Ok(())
 }
 
@@ -95,14 +93,14 @@ const LOOPS: Stairs<'static> = Stairs {
 #[test]
 fn moves_without_end(rt: HostRuntime) -> Result<(), Fail> {
     let ranks = solve(rt.alloc(), &LOOPS, 1)?;
-    assert_eq!(rt; ranks.entries(), [1, 4, 1].as_slice());
+    agree(&rt, ranks.entries(), [1, 4, 1].as_slice());
     Ok(())
 }
 
 #[test]
 fn no_nodes(rt: HostRuntime) -> Result<(), Fail> {
     let ranks = solve(rt.alloc(), &plain_stairs(0, 1), 0)?;
-    assert_eq!(rt; ranks.entries().len(), 0);
+    agree(&rt, ranks.entries().len(), 0);
     Ok(())
 }
 
@@ -111,30 +109,24 @@ fn no_nodes(rt: HostRuntime) -> Result<(), Fail> {
 #[test]
 fn one_node_more_than_a_block(rt: HostRuntime) -> Result<(), Fail> {
     let ranks = solve(rt.alloc(), &plain_stairs(4097, 1), 4096)?;
-    assert_eq!(rt; ranks.entries().len(), 4097);
+    agree(&rt, ranks.entries().len(), 4097);
     for (node, entry) in ranks.entries().iter().enumerate() {
-        assert_eq!(rt;
-            usize::from(*entry),
-            node.wrapping_mul(2).wrapping_add(3).wrapping_sub(node % 2)
-        );
+        let wanted = node.wrapping_mul(2).wrapping_add(3).wrapping_sub(node % 2);
+        agree(&rt, usize::from(*entry), wanted);
     }
     Ok(())
 }
 
 #[test]
 fn one_ply_too_few(rt: HostRuntime) {
-    assert!(rt;
-        matches!(
-            solve(rt.alloc(), &plain_stairs(4097, 1), 4095),
-            Err(SolveFault::TooDeep)
-        )
-    );
+    let found = solve(rt.alloc(), &plain_stairs(4097, 1), 4095);
+    require(&rt, matches!(found, Err(SolveFault::TooDeep)));
 }
 
 #[test]
 fn faults(rt: HostRuntime) {
-    assert_eq!(rt; SolveFault::NoMemory.number(), 1);
-    assert_eq!(rt; SolveFault::NoMemory.name(), "NoMemory");
-    assert_eq!(rt; SolveFault::TooDeep.number(), 2);
-    assert_eq!(rt; SolveFault::TooDeep.name(), "TooDeep");
+    agree(&rt, SolveFault::NoMemory.number(), 1);
+    agree(&rt, SolveFault::NoMemory.name(), "NoMemory");
+    agree(&rt, SolveFault::TooDeep.number(), 2);
+    agree(&rt, SolveFault::TooDeep.name(), "TooDeep");
 }

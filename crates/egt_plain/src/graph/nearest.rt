@@ -1,6 +1,7 @@
 //! How far the nearest mate is in small games, worked out by hand and by plain walks forward.
 use super::games::{STAIRS, Stairs};
 use super::walks::walked;
+use crate::asserts::require;
 use egt_graph::{Exit, Nears, SolveFault, nearest};
 use std::test::*;
 
@@ -11,7 +12,8 @@ fn a_ply_a_step(rt: HostRuntime) -> Result<(), Fail> {
     for node in 0..10_000u16 {
         entries.push(2 + node / 2_000)?;
     }
-    assert!(rt; nearest(rt.alloc(), &STAIRS)?.entries() == entries.as_slice());
+    let right = nearest(rt.alloc(), &STAIRS)?.entries() == entries.as_slice();
+    require(&rt, right);
     Ok(())
 }
 
@@ -27,7 +29,8 @@ fn exits_of_either_kind(rt: HostRuntime) -> Result<(), Fail> {
         mates: false,
         exits: &[(2, Exit::Loss(5)), (3, Exit::Win(2)), (5, Exit::Draw)],
     };
-    assert!(rt; nearest(rt.alloc(), &game)?.entries() == [1, 1, 8, 5, 6, 7, 0].as_slice());
+    let right = nearest(rt.alloc(), &game)?.entries() == [1, 1, 8, 5, 6, 7, 0].as_slice();
+    require(&rt, right);
     Ok(())
 }
 
@@ -46,9 +49,10 @@ fn the_greatest_number(rt: HostRuntime) -> Result<(), Fail> {
         mates: false,
         exits: &[(0, Exit::Win(31_999))],
     };
-    assert!(rt; nearest(rt.alloc(), &game)?.entries() == [32_002].as_slice());
+    let right = nearest(rt.alloc(), &game)?.entries() == [32_002].as_slice();
+    require(&rt, right);
     game.exits = &[(0, Exit::Loss(32_000))];
-    assert!(rt; is_too_deep(nearest(rt.alloc(), &game)));
+    require(&rt, is_too_deep(nearest(rt.alloc(), &game)));
     let longer = Stairs {
         nodes: 2,
         voids: 0,
@@ -56,7 +60,7 @@ fn the_greatest_number(rt: HostRuntime) -> Result<(), Fail> {
         mates: false,
         exits: &[(0, Exit::Loss(31_999))],
     };
-    assert!(rt; is_too_deep(nearest(rt.alloc(), &longer)));
+    require(&rt, is_too_deep(nearest(rt.alloc(), &longer)));
     Ok(())
 }
 
@@ -94,7 +98,8 @@ fn stairs_drawn_at_random(rt: HostRuntime) -> Result<(), Fail> {
             exits: &exits,
         };
         let nears = nearest(rt.alloc(), &game)?;
-        assert!(rt; nears.entries() == walked(rt.alloc(), &game)?.as_slice());
+        let right = nears.entries() == walked(rt.alloc(), &game)?.as_slice();
+        require(&rt, right);
     }
     Ok(())
 }

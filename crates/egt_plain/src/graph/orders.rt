@@ -3,6 +3,7 @@ ghost use Rattle.std.specs.Prelude.{◌≡◌};
 
 use super::games::{Counted, STAIRS, Stairs, are_stair_ranks};
 use super::hand_made::STALEMATE;
+use crate::asserts::{agree, require};
 use crate::runs::{
     expand, is_posted, played, post_all, post_block, with_draws, with_held, with_losses,
 };
@@ -14,14 +15,14 @@ use std::test::*;
 #[test]
 fn by_one_worker(rt: HostRuntime) -> Result<(), Fail> {
     let ranks = solve(rt.alloc(), &STAIRS, 4)?;
-    assert!(rt; are_stair_ranks(&ranks));
+    require(&rt, are_stair_ranks(&ranks));
     Ok(())
 }
 
 #[test]
 fn in_any_order(rt: HostRuntime) -> Result<(), Fail> {
-    for order in [[2, 1, 0], [1, 2, 0], [0, 2, 1]] {
-        assert!(rt; are_stair_ranks(&played(rt.alloc(), &STAIRS, &order)?));
+    for &order in &[[2, 1, 0], [1, 2, 0], [0, 2, 1]] {
+        require(&rt, are_stair_ranks(&played(rt.alloc(), &STAIRS, &order)?));
     }
     Ok(())
 }
@@ -29,16 +30,17 @@ fn in_any_order(rt: HostRuntime) -> Result<(), Fail> {
 #[test]
 fn repeated_and_late(rt: HostRuntime) -> Result<(), Fail> {
     let (answers, late, ranks) = with_held(rt.alloc(), &STAIRS, &[0, 2, 1], 0, 0)?;
-    assert_eq!(rt; answers, (Post::Repeat, Close::NotAll, Post::Posted));
-    assert_eq!(rt; late, Post::Stale);
-    assert!(rt; are_stair_ranks(&ranks));
+    agree(&rt, answers, (Post::Repeat, Close::NotAll, Post::Posted));
+    agree(&rt, late, Post::Stale);
+    require(&rt, are_stair_ranks(&ranks));
     Ok(())
 }
 
 #[test]
 fn lost_and_drawn_at_random(rt: HostRuntime) -> Result<(), Fail> {
-    assert!(rt; are_stair_ranks(&with_losses(rt.alloc(), &STAIRS, &[0, 1, 2])?));
-    assert!(rt; are_stair_ranks(&with_draws(rt.alloc(), &STAIRS)?));
+    let right = are_stair_ranks(&with_losses(rt.alloc(), &STAIRS, &[0, 1, 2])?);
+    require(&rt, right);
+    require(&rt, are_stair_ranks(&with_draws(rt.alloc(), &STAIRS)?));
     Ok(())
 }
 
@@ -65,7 +67,7 @@ fn answers_of_a_run(rt: HostRuntime) -> Result<(), Fail> {
             Close::Next
         };
         let answers = play_round(rt.alloc(), &mut rounds)?;
-        assert_eq!(rt; answers, (round, Close::NotAll, end));
+        agree(&rt, answers, (round, Close::NotAll, end));
     }
     Ok(())
 }
@@ -81,7 +83,7 @@ fn post_from_ended(alloc: Global) -> Result<Post, Fail> {
 
 #[test]
 fn from_a_run_that_has_ended(rt: HostRuntime) -> Result<(), Fail> {
-    assert_eq!(rt; post_from_ended(rt.alloc())?, Post::Stale);
+    agree(&rt, post_from_ended(rt.alloc())?, Post::Stale);
     Ok(())
 }
 
@@ -101,11 +103,9 @@ fn after_the_end(rt: HostRuntime) -> Result<(), Fail> {
     for _round in 0..4 {
         play_round(rt.alloc(), &mut rounds)?;
     }
-    assert_eq!(rt;
-        past_the_limit(rt.alloc(), &mut rounds)?,
-        (Close::TooDeep, Post::Stale, 3, true)
-    );
-    assert!(rt; rounds.into_ranks().is_err());
+    let found = past_the_limit(rt.alloc(), &mut rounds)?;
+    agree(&rt, found, (Close::TooDeep, Post::Stale, 3, true));
+    require(&rt, rounds.into_ranks().is_err());
     Ok(())
 }
 
@@ -122,34 +122,34 @@ fn posted_blocks(rounds: &Rounds<'_, Stairs<'_>>) -> [bool; 3] {
 fn a_run_that_is_not_over_comes_back_as_it_was(rt: HostRuntime) -> Result<(), Fail> {
     let mut rounds = Rounds::new(rt.alloc(), &STAIRS, 4)?;
     play_round(rt.alloc(), &mut rounds)?;
-    assert_eq!(rt; post_block(rt.alloc(), &mut rounds, 1)?, Post::Posted);
+    agree(&rt, post_block(rt.alloc(), &mut rounds, 1)?, Post::Posted);
     let Err(mut rounds) = rounds.into_ranks() else {
         return Err(Fail::from("ranks of a run that is not over"));
     };
-    assert_eq!(rt; rounds.round(), 1);
-    assert_eq!(rt; posted_blocks(&rounds), [false, true, false]);
-    assert_eq!(rt; post_block(rt.alloc(), &mut rounds, 1)?, Post::Repeat);
+    agree(&rt, rounds.round(), 1);
+    agree(&rt, posted_blocks(&rounds), [false, true, false]);
+    agree(&rt, post_block(rt.alloc(), &mut rounds, 1)?, Post::Repeat);
     for _round in 1..5 {
         play_round(rt.alloc(), &mut rounds)?;
     }
     let Ok(ranks) = rounds.into_ranks() else {
         return Err(Fail::from("the run is over"));
     };
-    assert!(rt; are_stair_ranks(&ranks));
+    require(&rt, are_stair_ranks(&ranks));
     Ok(())
 }
 
 #[test]
 fn each_block_counts_as_posted_after_the_end(rt: HostRuntime) -> Result<(), Fail> {
     let mut rounds = Rounds::new(rt.alloc(), &STAIRS, 4)?;
-    assert_eq!(rt; posted_blocks(&rounds), [false; 3]);
+    agree(&rt, posted_blocks(&rounds), [false; 3]);
     for _round in 0..5 {
         play_round(rt.alloc(), &mut rounds)?;
     }
-    assert_eq!(rt; rounds.close(), Close::Finished);
-    assert_eq!(rt; posted_blocks(&rounds), [true; 3]);
-    assert_eq!(rt; post_block(rt.alloc(), &mut rounds, 1)?, Post::Stale);
-    assert_eq!(rt; posted_blocks(&rounds), [true; 3]);
+    agree(&rt, rounds.close(), Close::Finished);
+    agree(&rt, posted_blocks(&rounds), [true; 3]);
+    agree(&rt, post_block(rt.alloc(), &mut rounds, 1)?, Post::Stale);
+    agree(&rt, posted_blocks(&rounds), [true; 3]);
     Ok(())
 }
 
@@ -183,13 +183,11 @@ fn work_block(
     let before = game.intos();
     let batch = rounds.expand(alloc, block)?;
     let listed = batch.nodes().len();
-    assert_eq!(rt;
-        (game.intos() as usize).wrapping_sub(before as usize),
-        listed
-    );
+    let found = (game.intos() as usize).wrapping_sub(before as usize);
+    agree(rt, found, listed);
     let after = game.intos();
-    assert_eq!(rt; rounds.post(batch), Post::Posted);
-    assert_eq!(rt; game.intos(), after);
+    agree(rt, rounds.post(batch), Post::Posted);
+    agree(rt, game.intos(), after);
     Ok(())
 }
 
@@ -198,7 +196,7 @@ fn work_block(
 fn what_each_call_asks(rt: HostRuntime) -> Result<(), Fail> {
     let game = Counted::new(rt.alloc(), &STAIRS)?;
     let mut rounds = Rounds::new(rt.alloc(), &game, 4)?;
-    assert_eq!(rt; game.intos(), 0);
+    agree(&rt, game.intos(), 0);
     for round in 0..5 {
         for block in 0..3 {
             work_block(&rt, rt.alloc(), &game, &mut rounds, block)?;
@@ -209,15 +207,15 @@ fn what_each_call_asks(rt: HostRuntime) -> Result<(), Fail> {
         } else {
             Close::Next
         };
-        assert_eq!(rt; rounds.close(), want);
-        assert_eq!(rt; game.intos(), before);
+        agree(&rt, rounds.close(), want);
+        agree(&rt, game.intos(), before);
     }
     // Every node has a rank here.
-    assert_eq!(rt; game.intos(), 10_000);
-    assert_eq!(rt; game.most(), 1);
-    assert!(rt; rounds.into_ranks().is_ok());
-    assert_eq!(rt; game.intos(), 10_000);
-    assert_eq!(rt; game.outs(), 0);
+    agree(&rt, game.intos(), 10_000);
+    agree(&rt, game.most(), 1);
+    require(&rt, rounds.into_ranks().is_ok());
+    agree(&rt, game.intos(), 10_000);
+    agree(&rt, game.outs(), 0);
     Ok(())
 }
 
@@ -225,10 +223,10 @@ fn what_each_call_asks(rt: HostRuntime) -> Result<(), Fail> {
 fn what_a_whole_run_asks(rt: HostRuntime) -> Result<(), Fail> {
     let game = Counted::new(rt.alloc(), &STAIRS)?;
     let ranks = solve(rt.alloc(), &game, 4)?;
-    assert_eq!(rt; ranks.entries().len(), 10_000);
-    assert_eq!(rt; game.most(), 1);
-    assert_eq!(rt; game.intos(), 10_000);
-    assert_eq!(rt; game.outs(), 0);
+    agree(&rt, ranks.entries().len(), 10_000);
+    agree(&rt, game.most(), 1);
+    agree(&rt, game.intos(), 10_000);
+    agree(&rt, game.outs(), 0);
     Ok(())
 }
 
@@ -237,9 +235,9 @@ fn what_a_whole_run_asks(rt: HostRuntime) -> Result<(), Fail> {
 fn what_draws_are_asked(rt: HostRuntime) -> Result<(), Fail> {
     let game = Counted::new(rt.alloc(), &STALEMATE)?;
     let ranks = solve(rt.alloc(), &game, 2)?;
-    assert_eq!(rt; ranks.entries(), [1, 4, 1, 7].as_slice());
-    assert_eq!(rt; game.most(), 1);
-    assert_eq!(rt; game.intos(), 2);
-    assert_eq!(rt; game.outs(), 0);
+    agree(&rt, ranks.entries(), [1, 4, 1, 7].as_slice());
+    agree(&rt, game.most(), 1);
+    agree(&rt, game.intos(), 2);
+    agree(&rt, game.outs(), 0);
     Ok(())
 }

@@ -1,4 +1,5 @@
 //! Squares, positions, attacks and images, as read off a board.
+use crate::asserts::{require, require_at};
 use crate::rules::men::{fault_of, man, position_of, same};
 use egt_board::{Kind, PosFault, Position, Side, Square, Symmetry, attacked};
 use egt_class::of;
@@ -7,9 +8,9 @@ use egt_index::laws::a_class_without_pawns_has_none;
 
 #[test]
 fn squares_have_numbers(rt: HostRuntime) {
-    assert!(rt; Square::new(64).is_none());
+    require(&rt, Square::new(64).is_none());
     let e4 = Square::at(28);
-    assert!(rt; e4.number() == 28 && e4.file() == 4 && e4.rank() == 3);
+    require(&rt, e4.number() == 28 && e4.file() == 4 && e4.rank() == 3);
 }
 
 /// Whether the position has these men in order of their squares, and the queen alone on d1 and e1.
@@ -32,7 +33,7 @@ fn shows_its_men() -> Option<bool> {
 
 #[test]
 fn positions_show_their_men(rt: HostRuntime) {
-    assert!(rt; shows_its_men() == Some(true));
+    require(&rt, shows_its_men() == Some(true));
 }
 
 /// Whether White, with king b6 and queen d1 against king a8, attacks the square.
@@ -44,14 +45,14 @@ fn is_attacked(number: u8) -> Option<bool> {
 #[test]
 fn men_attack_along_their_lines(rt: HostRuntime) {
     // d8 by the queen along the file, b7 by the king, h1 along the rank; not g2, nor the black king's square.
-    for (number, wanted) in [(59, true), (49, true), (7, true), (14, false), (56, false)] {
-        assert!(rt; is_attacked(number) == Some(wanted), "{number}");
+    for &(number, wanted) in &[(59, true), (49, true), (7, true), (14, false), (56, false)] {
+        require_at(&rt, is_attacked(number) == Some(wanted), number);
     }
 }
 
 #[test]
 fn setups_are_refused_with_the_first_fault(rt: HostRuntime) {
-    for (words, number) in [
+    for &(words, number) in &[
         ("Ka1 ka8 Rb8 Rb8 w", 7),
         ("Ka1 Rb8 w", 8),
         ("Ka1 ka8 pe1 w", 9),
@@ -59,7 +60,7 @@ fn setups_are_refused_with_the_first_fault(rt: HostRuntime) {
         ("Ka1 ka8 Rb8 w", 11),
         ("Ka1 ka8 Rb8 b", 0),
     ] {
-        assert!(rt; fault_of(words) == Some(number), "{words}");
+        require_at(&rt, fault_of(words) == Some(number), words);
     }
 }
 
@@ -95,20 +96,23 @@ fn is_flipped(words: &str, flipped: &str) -> Option<bool> {
 
 #[test]
 fn positions_have_images(rt: HostRuntime) {
-    assert!(rt; Symmetry::new(8).is_none());
+    require(&rt, Symmetry::new(8).is_none());
     // Files, then ranks, then the diagonal: d1 goes to e1, e8, h5.
-    assert!(rt; is_image("Kb6 Qd1 ka8 w", 7, "Kc7 Qh5 ka8 w") == Some(true));
+    let right = is_image("Kb6 Qd1 ka8 w", 7, "Kc7 Qh5 ka8 w") == Some(true);
+    require(&rt, right);
     // Colours: d1 goes to d8, and Black is to move.
-    assert!(rt; is_flipped("Kb6 Qd1 ka8 w", "kb3 qd8 Ka1 b") == Some(true));
+    let right = is_flipped("Kb6 Qd1 ka8 w", "kb3 qd8 Ka1 b") == Some(true);
+    require(&rt, right);
 }
 
 #[test]
 fn positions_with_pawns_have_images(rt: HostRuntime) {
     // Files: the pawn on e5 goes to d5, the target d6 to e6.
     let words = "Ke1 Pe5 ke8 pd5 w d6";
-    assert!(rt; is_mirrored(words, "Kd1 Pd5 kd8 pe5 w e6") == Some(true));
+    let right = is_mirrored(words, "Kd1 Pd5 kd8 pe5 w e6") == Some(true);
+    require(&rt, right);
     // Colours: the pawn on e5 goes to e4 and is Black's, the target d6 to d3.
-    assert!(rt; is_flipped(words, "ke8 pe4 Ke1 Pd4 b d3") == Some(true));
+    require(&rt, is_flipped(words, "ke8 pe4 Ke1 Pd4 b d3") == Some(true));
 }
 
 /// Whether the settled form of the one position is the other.
@@ -120,22 +124,23 @@ fn is_settled(words: &str, settled: &str) -> Option<bool> {
 fn targets_are_squares_just_passed(rt: HostRuntime) {
     // Over d6 the pawn on d5 advanced; nothing advanced over f6.
     let near = "Ke1 Pe5 ke8 pd5 w d6";
-    assert!(rt; fault_of(near) == Some(0));
-    assert!(rt; fault_of("Ke1 Pe5 ke8 pd5 w f6") == Some(10));
+    require(&rt, fault_of(near) == Some(0));
+    require(&rt, fault_of("Ke1 Pe5 ke8 pd5 w f6") == Some(10));
     // The pawn on e5 stands beside d5, the one on h5 does not.
-    assert!(rt; is_settled(near, near) == Some(true));
-    assert!(rt; is_settled("Ke1 Ph5 ke8 pd5 w d6", "Ke1 Ph5 ke8 pd5 w") == Some(true));
+    require(&rt, is_settled(near, near) == Some(true));
+    let right = is_settled("Ke1 Ph5 ke8 pd5 w d6", "Ke1 Ph5 ke8 pd5 w") == Some(true);
+    require(&rt, right);
 }
 
 #[test]
 fn faults_have_numbers_and_names(rt: HostRuntime) {
-    for (fault, number, name) in [
+    for &(fault, number, name) in &[
         (PosFault::MenCount, 7, "MenCount"),
         (PosFault::KingCount, 8, "KingCount"),
         (PosFault::PawnRank, 9, "PawnRank"),
         (PosFault::EpMismatch, 10, "EpMismatch"),
         (PosFault::WaitingInCheck, 11, "WaitingInCheck"),
     ] {
-        assert!(rt; fault.number() == number && fault.name() == name, "{name}");
+        require_at(&rt, fault.number() == number && fault.name() == name, name);
     }
 }

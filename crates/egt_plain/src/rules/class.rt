@@ -1,6 +1,7 @@
 //! The names of classes, and what moves lead from one to another.
 mod descents;
 
+use crate::asserts::{require, require_at};
 use egt_class::{Class, by_name, name};
 
 /// The names of the classes 0 to 17, and of 18 to 35.
@@ -24,17 +25,17 @@ fn is_named(number: u8, text: &str) -> Option<bool> {
 #[test]
 fn names_are_those_of_the_men(rt: HostRuntime) {
     for (number, text) in (0..36u8).zip(FIRST_NAMES.iter().chain(&LAST_NAMES)) {
-        assert!(rt; is_named(number, text) == Some(true), "{text}");
+        require_at(&rt, is_named(number, text) == Some(true), text);
     }
-    assert!(rt; Class::new(36).is_none());
+    require(&rt, Class::new(36).is_none());
 }
 
 #[test]
 fn other_words_are_no_names(rt: HostRuntime) {
-    for word in [
+    for &word in &[
         "", "K", "Q", "kqk", "KQk", "KKQ", "KKBB", "KRKQ", "KBQK", "KPQK", "KQKK", "KQQQK", "KQK ",
         " KQK", "KING", "KQRKP", "KK\n",
     ] {
-        assert!(rt; by_name(word).is_none(), "{word}");
+        require_at(&rt, by_name(word).is_none(), word);
     }
 }

@@ -1,4 +1,5 @@
 //! Sizes of classes, indexes of positions that were worked out by hand, and how many indexes a class has.
+use crate::asserts::{require, require_at};
 use crate::rules::men::{position_of, same};
 use egt_class::{Class, of};
 use egt_index::{index, position, size};
@@ -43,10 +44,8 @@ fn wanted(number: u8) -> u32 {
 #[test]
 fn sizes(rt: HostRuntime) {
     for number in 0..36 {
-        assert!(rt;
-            Class::new(number).map(size) == Some(wanted(number)),
-            "{number}"
-        );
+        let right = Class::new(number).map(size) == Some(wanted(number));
+        require_at(&rt, right, number);
     }
 }
 
@@ -69,15 +68,16 @@ const INDEXES: [(&str, (u8, u32)); 7] = [
 
 #[test]
 fn indexes_worked_out_by_hand(rt: HostRuntime) {
-    for (words, wanted) in INDEXES {
-        assert!(rt; found(words) == Some(wanted), "{words}");
+    for &(words, wanted) in &INDEXES {
+        require_at(&rt, found(words) == Some(wanted), words);
     }
 }
 
 #[test]
 fn a_target_that_no_pawn_takes_changes_nothing(rt: HostRuntime) {
     let without = found("Kh1 Pe4 kd5 pa7 b");
-    assert!(rt; without.is_some() && found("Kh1 Pe4 kd5 pa7 b e3") == without);
+    let right = without.is_some() && found("Kh1 Pe4 kd5 pa7 b e3") == without;
+    require(&rt, right);
 }
 
 /// Whether the code of the class spells a position.
@@ -94,17 +94,18 @@ fn is_spelled(number: u8, code: u32, words: &str) -> Option<bool> {
 #[test]
 fn void_codes_spell_nothing(rt: HostRuntime) {
     // The kings on a1 and b3: c2 is less than b3. Both kings on a1. No code. The rooks in the other order.
-    for (number, code) in [(0, 34), (0, 0), (0, 1280), (10, 1_043_737)] {
-        assert!(rt; spells(number, code) == Some(false), "{number} {code}");
+    for &(number, code) in &[(0, 34), (0, 0), (0, 1280), (10, 1_043_737)] {
+        require_at(&rt, spells(number, code) == Some(false), (number, code));
     }
-    assert!(rt; is_spelled(10, 1_041_973, "Kb1 Rc4 Re2 kh8 b") == Some(true));
+    let right = is_spelled(10, 1_041_973, "Kb1 Rc4 Re2 kh8 b") == Some(true);
+    require(&rt, right);
 }
 
 // 3612 ordered pairs of squares that do not touch, of which 42 are kept by the mirror in each long diagonal: the eight
 // symmetries leave (3612 + 2 * 42) / 8.
 #[test]
 fn two_kings_have_462_indexes(rt: HostRuntime) {
-    assert!(rt; count(0) == Some(462));
+    require(&rt, count(0) == Some(462));
 }
 
 // Positions of three men, counted by hand. Of the symmetries without pawns the identity and the mirrors in the two long
@@ -132,11 +133,11 @@ fn two_kings_have_462_indexes(rt: HostRuntime) {
 // the eighth rank 60 or 58: 10 * 58 + 30 * 2 * 55 + 2 * 60 + 6 * 2 * 58 = 4696.
 #[test]
 fn classes_of_three_men_have_as_many_indexes_as_orbits(rt: HostRuntime) {
-    for (number, black, white) in [
+    for &(number, black, white) in &[
         (1, 28_056, 18_081),
         (2, 28_056, 21_959),
         (5, 168_024 / 2, (168_024 - 4_696) / 2),
     ] {
-        assert!(rt; count(number) == Some(black + white), "{number}");
+        require_at(&rt, count(number) == Some(black + white), number);
     }
 }

@@ -1,6 +1,7 @@
 //! Moves, what they lead to, checkmate and stalemate.
 mod pins;
 
+use crate::asserts::{require, require_at};
 use crate::rules::men::{move_of, position_of, same};
 use egt_board::Position;
 use egt_moves::{Move, Standing, legal_moves, play, standing, zeroing};
@@ -49,8 +50,8 @@ const LED: [(&str, &str, &str); 10] = [
 
 #[test]
 fn moves_lead_on(rt: HostRuntime) {
-    for (words, text, after) in LED {
-        assert!(rt; leads(words, text, after) == Some(true), "{words} {text}");
+    for &(words, text, after) in &LED {
+        require_at(&rt, leads(words, text, after) == Some(true), (words, text));
     }
 }
 
@@ -70,21 +71,21 @@ const REFUSED: [(&str, &str); 8] = [
 
 #[test]
 fn refuses_what_is_not_legal(rt: HostRuntime) {
-    for (words, text) in REFUSED {
-        assert!(rt; is_refused(words, text) == Some(true), "{words} {text}");
+    for &(words, text) in &REFUSED {
+        require_at(&rt, is_refused(words, text) == Some(true), (words, text));
     }
 }
 
 #[test]
 fn knows_checkmate_and_stalemate(rt: HostRuntime) {
-    for (words, wanted) in [
+    for &(words, wanted) in &[
         ("Kb6 Qd1 ka8 w", Standing::HasMove),
         ("Kb6 Qd8 ka8 b", Standing::Checkmate),
         // With the queen on d7 the king may go to b8. On c7 she takes that square too, and does not attack a8.
         ("Kb6 Qd7 ka8 b", Standing::HasMove),
         ("Kb6 Qc7 ka8 b", Standing::Stalemate),
     ] {
-        assert!(rt; stands(words) == Some(wanted), "{words}");
+        require_at(&rt, stands(words) == Some(wanted), words);
     }
 }
 
@@ -95,8 +96,8 @@ fn is_written(text: &str) -> Option<bool> {
 
 #[test]
 fn writes_moves(rt: HostRuntime) {
-    for text in ["d1d8", "g7g8q"] {
-        assert!(rt; is_written(text) == Some(true), "{text}");
+    for &text in &["d1d8", "g7g8q"] {
+        require_at(&rt, is_written(text) == Some(true), text);
     }
 }
 
@@ -115,7 +116,7 @@ fn are_listed(words: &str, texts: &str) -> Option<bool> {
 #[test]
 fn promotes_to_four_kinds(rt: HostRuntime) {
     let texts = "a1b1 a1a2 a1b2 a7a8q a7a8r a7a8b a7a8n";
-    assert!(rt; are_listed("Ka1 Pa7 kh7 w", texts) == Some(true));
+    require(&rt, are_listed("Ka1 Pa7 kh7 w", texts) == Some(true));
 }
 
 fn zeroes(words: &str, text: &str) -> Option<bool> {
@@ -125,7 +126,7 @@ fn zeroes(words: &str, text: &str) -> Option<bool> {
 
 #[test]
 fn tells_moves_that_zero(rt: HostRuntime) {
-    for (words, text, wanted) in [
+    for &(words, text, wanted) in &[
         ("Ka1 Pa7 kh7 w", "a7a8", true),
         ("Ka1 Pa7 kh7 w", "a1b1", false),
         ("Kh1 Pe4 kd5 pd4 b e3", "d4e3", true),
@@ -133,6 +134,6 @@ fn tells_moves_that_zero(rt: HostRuntime) {
         ("Kb6 Qd1 ka8 b", "a8d1", true),
         ("Kb6 Qd1 ka8 w", "b6d1", false),
     ] {
-        assert!(rt; zeroes(words, text) == Some(wanted), "{words} {text}");
+        require_at(&rt, zeroes(words, text) == Some(wanted), (words, text));
     }
 }

@@ -1,5 +1,6 @@
 //! Reading of files, and the fault that other bytes have.
 use super::has_kings;
+use crate::asserts::{agree, require, require_at};
 use crate::kings::{
     LENGTH, class, flip, kings_file, table_with, whole_kings_file, whole_table_with,
 };
@@ -27,7 +28,7 @@ fn are_kings(alloc: Global, bytes: &[u8]) -> Option<bool> {
 #[test]
 fn two_kings(rt: HostRuntime) -> Result<(), Fail> {
     let bytes = kings_file(rt.alloc())?;
-    assert!(rt; are_kings(rt.alloc(), &bytes) == Some(true));
+    require(&rt, are_kings(rt.alloc(), &bytes) == Some(true));
     Ok(())
 }
 
@@ -44,16 +45,16 @@ fn are_whole(alloc: Global, bytes: &[u8]) -> Option<bool> {
 #[test]
 fn two_kings_with_three_columns(rt: HostRuntime) -> Result<(), Fail> {
     let bytes = whole_kings_file(rt.alloc())?;
-    assert!(rt; are_whole(rt.alloc(), &bytes) == Some(true));
+    require(&rt, are_whole(rt.alloc(), &bytes) == Some(true));
     let written = whole_table_with(rt.alloc(), &[(4, 7)], &[(5, 9)], &[(6, 0x0102)])?;
     let bytes = file_of(rt.alloc(), &written)?;
     let table = Table::read(rt.alloc(), class(), &mut MemorySource::new(&bytes))?;
-    for (column, code, wanted) in [
+    for &(column, code, wanted) in &[
         (Column::Mate, 4, 7),
         (Column::Zeroing, 5, 9),
         (Column::Reach, 6, 0x0102),
     ] {
-        assert!(rt; entry_of(&table, column, code) == Some(wanted), "{code}");
+        require_at(&rt, entry_of(&table, column, code) == Some(wanted), code);
     }
     Ok(())
 }
@@ -71,7 +72,7 @@ const VERSIONS: [(u8, u8, u8, u8); 6] = [
 /// The fault of the bytes with another version and another number of columns.
 fn fault_of_version(alloc: Global, whole: &[u8], version: u8, columns: u8) -> Option<u8> {
     let mut bytes = Vec::from_slice(alloc, whole).ok()?;
-    for (place, byte) in [(4, version), (10, columns)] {
+    for &(place, byte) in &[(4, version), (10, columns)] {
         if let Some(old) = bytes.get_mut(place) {
             *old = byte;
         }
@@ -83,11 +84,11 @@ fn fault_of_version(alloc: Global, whole: &[u8], version: u8, columns: u8) -> Op
 fn versions_and_numbers_of_columns(rt: HostRuntime) -> Result<(), Fail> {
     let two = kings_file(rt.alloc())?;
     let three = whole_kings_file(rt.alloc())?;
-    for (version, columns, of_two, of_three) in VERSIONS {
+    for &(version, columns, of_two, of_three) in &VERSIONS {
         let found = fault_of_version(rt.alloc(), &two, version, columns);
-        assert!(rt; found == Some(of_two), "{version} {columns}");
+        require_at(&rt, found == Some(of_two), (version, columns));
         let found = fault_of_version(rt.alloc(), &three, version, columns);
-        assert!(rt; found == Some(of_three), "{version} {columns}");
+        require_at(&rt, found == Some(of_three), (version, columns));
     }
     Ok(())
 }
@@ -102,12 +103,12 @@ fn read_again(alloc: Global, mate: &[(u32, u16)], zeroing: &[(u32, u16)]) -> Res
 #[test]
 fn columns_are_told_apart(rt: HostRuntime) -> Result<(), Fail> {
     let table = read_again(rt.alloc(), &[(4, 64_003)], &[(4, 7), (1279, 0x0102)])?;
-    for (column, code, wanted) in [
+    for &(column, code, wanted) in &[
         (Column::Mate, 4, 64_003),
         (Column::Zeroing, 4, 7),
         (Column::Zeroing, 1279, 0x0102),
     ] {
-        assert!(rt; entry_of(&table, column, code) == Some(wanted), "{code}");
+        require_at(&rt, entry_of(&table, column, code) == Some(wanted), code);
     }
     Ok(())
 }
@@ -125,14 +126,14 @@ fn parts_are_short(alloc: Global, bytes: &[u8]) -> bool {
 #[test]
 fn cut_to_each_length(rt: HostRuntime) -> Result<(), Fail> {
     let bytes = kings_file(rt.alloc())?;
-    assert_eq!(rt; bytes.len(), LENGTH);
-    assert!(rt; parts_are_short(rt.alloc(), &bytes));
+    agree(&rt, bytes.len(), LENGTH);
+    require(&rt, parts_are_short(rt.alloc(), &bytes));
     Ok(())
 }
 
 #[test]
 fn fifteen_bytes_of_zeros(rt: HostRuntime) {
-    assert_eq!(rt; fault_of(rt.alloc(), class(), &[0; 15]), 2);
+    agree(&rt, fault_of(rt.alloc(), class(), &[0; 15]), 2);
 }
 
 /// The fault of so many of the bytes, with these bits of the bytes at some places changed, and with those behind.
@@ -158,9 +159,9 @@ fn each_byte_of_the_header_changed(rt: HostRuntime) -> Result<(), Fail> {
     let bytes = kings_file(rt.alloc())?;
     let faults = [3, 3, 3, 3, 4, 4, 5, 5, 6, 6, 7, 7, 8, 8, 8, 8];
     for (place, fault) in faults.iter().enumerate() {
-        for bits in [1, 0x80] {
+        for &bits in &[1, 0x80] {
             let found = fault_with(rt.alloc(), &bytes, &[place], bits, LENGTH, &[]);
-            assert!(rt; found == Some(*fault), "{place}");
+            require_at(&rt, found == Some(*fault), place);
         }
     }
     Ok(())
@@ -180,21 +181,21 @@ const TWO_FAULTS: [([usize; 2], usize, u8); 7] = [
 #[test]
 fn the_first_of_two_faults(rt: HostRuntime) -> Result<(), Fail> {
     let bytes = kings_file(rt.alloc())?;
-    for (places, length, fault) in TWO_FAULTS {
+    for &(places, length, fault) in &TWO_FAULTS {
         let found = fault_with(rt.alloc(), &bytes, &places, 1, length, &[]);
-        assert!(rt; found == Some(fault), "{fault}");
+        require_at(&rt, found == Some(fault), fault);
     }
     // The file of another class than the one asked for.
-    assert_eq!(rt; fault_of(rt.alloc(), Class::at(1), &bytes), 6);
+    agree(&rt, fault_of(rt.alloc(), Class::at(1), &bytes), 6);
     Ok(())
 }
 
 #[test]
 fn bytes_behind_the_last_entry(rt: HostRuntime) -> Result<(), Fail> {
     let bytes = kings_file(rt.alloc())?;
-    for (places, fault) in [([].as_slice(), 9), ([8].as_slice(), 6)] {
+    for &(places, fault) in &[([].as_slice(), 9), ([8].as_slice(), 6)] {
         let found = fault_with(rt.alloc(), &bytes, places, 1, LENGTH, &[0]);
-        assert!(rt; found == Some(fault), "{fault}");
+        require_at(&rt, found == Some(fault), fault);
     }
     Ok(())
 }
@@ -214,9 +215,9 @@ fn each_pull_fails_in_turn(rt: HostRuntime) -> Result<(), Fail> {
     let bytes = kings_file(rt.alloc())?;
     // A header, two columns of one piece each, and the end.
     for k in 1..=4 {
-        assert_eq!(rt; fault_at_pull(rt.alloc(), &bytes, k), (1, 0));
+        agree(&rt, fault_at_pull(rt.alloc(), &bytes, k), (1, 0));
     }
-    assert_eq!(rt; fault_at_pull(rt.alloc(), &bytes, 5), (0, 1));
+    agree(&rt, fault_at_pull(rt.alloc(), &bytes, 5), (0, 1));
     Ok(())
 }
 
@@ -233,23 +234,23 @@ fn pulled(source: &mut FailingSource<MemorySource<'_>>, wanted: &[u8]) -> bool {
 #[test]
 fn a_source_goes_on_behind_its_failure(rt: HostRuntime) {
     let mut source = FailingSource::new(MemorySource::new(&[1, 2, 3, 4, 5]), 2);
-    assert_eq!(rt; source.calls_to_failure(), 2);
-    assert!(rt; pulled(&mut source, &[1, 2]));
-    assert_eq!(rt; source.calls_to_failure(), 1);
-    assert_eq!(rt; source.pull(&mut [0; 2]), Err(Device));
-    assert_eq!(rt; source.calls_to_failure(), 0);
-    assert!(rt; pulled(&mut source, &[3, 4]));
-    assert!(rt; pulled(&mut source, &[5]));
-    assert!(rt; pulled(&mut source, &[]));
-    assert_eq!(rt; source.calls_to_failure(), 0);
+    agree(&rt, source.calls_to_failure(), 2);
+    require(&rt, pulled(&mut source, &[1, 2]));
+    agree(&rt, source.calls_to_failure(), 1);
+    agree(&rt, source.pull(&mut [0; 2]), Err(Device));
+    agree(&rt, source.calls_to_failure(), 0);
+    require(&rt, pulled(&mut source, &[3, 4]));
+    require(&rt, pulled(&mut source, &[5]));
+    require(&rt, pulled(&mut source, &[]));
+    agree(&rt, source.calls_to_failure(), 0);
 }
 
 #[test]
 fn a_source_that_never_fails(rt: HostRuntime) {
     let mut source = FailingSource::new(MemorySource::new(&[1, 2]), 0);
-    assert!(rt; pulled(&mut source, &[1, 2]));
-    assert!(rt; pulled(&mut source, &[]));
-    assert_eq!(rt; source.calls_to_failure(), 0);
+    require(&rt, pulled(&mut source, &[1, 2]));
+    require(&rt, pulled(&mut source, &[]));
+    agree(&rt, source.calls_to_failure(), 0);
 }
 
 const FAULTS: [(FileFault, u8, &str); 10] = [
@@ -267,8 +268,8 @@ const FAULTS: [(FileFault, u8, &str); 10] = [
 
 #[test]
 fn faults_by_number_and_name(rt: HostRuntime) {
-    for (fault, number, name) in FAULTS {
-        assert!(rt; fault.number() == number && fault.name() == name, "{name}");
+    for &(fault, number, name) in &FAULTS {
+        require_at(&rt, fault.number() == number && fault.name() == name, name);
     }
 }
 
@@ -281,7 +282,7 @@ fn faults_of_headers_take_no_memory(rt: HostRuntime) -> Result<(), Fail> {
     match Table::read(rt.alloc(), class(), &mut MemorySource::new(&bytes)) {
         Ok(_table) => Err(Fail::from("a table without entries")),
         Err(fault) => {
-            assert_eq!(rt; fault.number(), 8);
+            agree(&rt, fault.number(), 8);
             Ok(())
         }
     }

@@ -2,6 +2,7 @@
 ghost use Rattle.std.specs.Prelude.{◌<◌};
 
 use super::has_kings;
+use crate::asserts::{require, require_at};
 use crate::kings::{LENGTH, class, kings_file, table_with};
 use crate::shelf::entry_of;
 use egt_table::{Column, Device, FromStd, MemorySink, MemorySource, Sink, Source, Table, ToStd};
@@ -65,8 +66,8 @@ fn is_read(alloc: Global, bytes: &[u8], most: usize) -> Option<bool>
 #[test]
 fn few_bytes_a_pull(rt: HostRuntime) -> Result<(), Fail> {
     let bytes = kings_file(rt.alloc())?;
-    for most in [1, 3, 4095] {
-        assert!(rt; is_read(rt.alloc(), &bytes, most) == Some(true), "{most}");
+    for &most in &[1, 3, 4095] {
+        require_at(&rt, is_read(rt.alloc(), &bytes, most) == Some(true), most);
     }
     Ok(())
 }
@@ -87,11 +88,9 @@ fn is_written(alloc: Global, table: &Table, bytes: &[u8], most: usize) -> Option
 fn few_bytes_a_push(rt: HostRuntime) -> Result<(), Fail> {
     let whole = kings_file(rt.alloc())?;
     let table = table_with(rt.alloc(), &[], &[])?;
-    for most in [1, 3, 4095] {
-        assert!(rt;
-            is_written(rt.alloc(), &table, &whole, most) == Some(true),
-            "{most}"
-        );
+    for &most in &[1, 3, 4095] {
+        let right = is_written(rt.alloc(), &table, &whole, most) == Some(true);
+        require_at(&rt, right, most);
     }
     Ok(())
 }
@@ -107,9 +106,9 @@ fn through_a_file(rt: &HostRuntime, table: &Table) -> Result<Table, Fail> {
 fn a_real_file(rt: HostRuntime) -> Result<(), Fail> {
     let written = table_with(rt.alloc(), &[(4, 64_003)], &[(4, 7)])?;
     let table = through_a_file(&rt, &written)?;
-    assert!(rt; entry_of(&table, Column::Mate, 4) == Some(64_003));
-    assert!(rt; entry_of(&table, Column::Zeroing, 4) == Some(7));
-    assert!(rt; has_kings(&table, Column::Mate, 5));
+    require(&rt, entry_of(&table, Column::Mate, 4) == Some(64_003));
+    require(&rt, entry_of(&table, Column::Zeroing, 4) == Some(7));
+    require(&rt, has_kings(&table, Column::Mate, 5));
     fs::remove_file(&rt, "kings.egt")?;
     Ok(())
 }

@@ -1,4 +1,5 @@
 //! The bytes of a file as written.
+use crate::asserts::{agree, require, require_at};
 use crate::kings::{LENGTH, kings_file, table_with, whole_kings_file};
 use crate::shelf::file_of;
 use egt_table::{Device, FailingSink, MemorySink, Sink, Table};
@@ -18,11 +19,11 @@ const HEADER: [u8; 16] = [0x45, 0x47, 0x54, 0x42, 1, 0, 1, 0, 0, 0, 2, 0, 0, 5, 
 #[test]
 fn two_kings(rt: HostRuntime) -> Result<(), Fail> {
     let bytes = kings_file(rt.alloc())?;
-    assert_eq!(rt; bytes.len(), 5136);
-    assert!(rt; has(&bytes, 0, &HEADER));
+    agree(&rt, bytes.len(), 5136);
+    require(&rt, has(&bytes, 0, &HEADER));
     // Both kings on a1; the kings on a1 and c1, White to move.
-    assert!(rt; has(&bytes, 16, &[0, 0]));
-    assert!(rt; has(&bytes, 24, &[1, 0]));
+    require(&rt, has(&bytes, 16, &[0, 0]));
+    require(&rt, has(&bytes, 24, &[1, 0]));
     Ok(())
 }
 
@@ -31,10 +32,10 @@ const WHOLE_HEADER: [u8; 16] = [0x45, 0x47, 0x54, 0x42, 2, 0, 1, 0, 0, 0, 3, 0, 
 #[test]
 fn two_kings_with_three_columns(rt: HostRuntime) -> Result<(), Fail> {
     let bytes = whole_kings_file(rt.alloc())?;
-    assert_eq!(rt; bytes.len(), 7696);
-    assert!(rt; has(&bytes, 0, &WHOLE_HEADER));
+    agree(&rt, bytes.len(), 7696);
+    require(&rt, has(&bytes, 0, &WHOLE_HEADER));
     // The kings on a1 and c1, White to move: a dead position.
-    assert!(rt; has(&bytes, 5144, &[1, 0]));
+    require(&rt, has(&bytes, 5144, &[1, 0]));
     Ok(())
 }
 
@@ -46,9 +47,9 @@ fn file_with(alloc: Global, mate: &[(u32, u16)], zeroing: &[(u32, u16)]) -> Resu
 #[test]
 fn each_entry_has_its_place(rt: HostRuntime) -> Result<(), Fail> {
     let bytes = file_with(rt.alloc(), &[(4, 64_003)], &[(4, 7), (1279, 0x0102)])?;
-    assert_eq!(rt; bytes.len(), 5136);
-    for (place, part) in [(24, [0x03, 0xfa]), (2584, [7, 0]), (5134, [2, 1])] {
-        assert!(rt; has(&bytes, place, &part), "{place}");
+    agree(&rt, bytes.len(), 5136);
+    for &(place, part) in &[(24, [0x03, 0xfa]), (2584, [7, 0]), (5134, [2, 1])] {
+        require_at(&rt, has(&bytes, place, &part), place);
     }
     Ok(())
 }
@@ -64,11 +65,9 @@ fn is_filled(alloc: Global, table: &Table, whole: &[u8], room: usize) -> Option<
 fn sinks_that_are_too_small(rt: HostRuntime) -> Result<(), Fail> {
     let table = table_with(rt.alloc(), &[], &[])?;
     let whole = kings_file(rt.alloc())?;
-    for room in [0, 1, 15, 16, 17, 2575, 2576, 2577, 5135] {
-        assert!(rt;
-            is_filled(rt.alloc(), &table, &whole, room) == Some(true),
-            "{room}"
-        );
+    for &room in &[0, 1, 15, 16, 17, 2575, 2576, 2577, 5135] {
+        let right = is_filled(rt.alloc(), &table, &whole, room) == Some(true);
+        require_at(&rt, right, room);
     }
     Ok(())
 }
@@ -93,13 +92,11 @@ fn each_push_fails_in_turn(rt: HostRuntime) -> Result<(), Fail> {
     let table = table_with(rt.alloc(), &[], &[])?;
     let whole = kings_file(rt.alloc())?;
     // A header and two columns of one piece each.
-    for (k, length) in [(1, 0), (2, 16), (3, 2576)] {
-        assert!(rt;
-            fails_behind(rt.alloc(), &table, &whole, k, length) == Some(true),
-            "{k}"
-        );
+    for &(k, length) in &[(1, 0), (2, 16), (3, 2576)] {
+        let right = fails_behind(rt.alloc(), &table, &whole, k, length) == Some(true);
+        require_at(&rt, right, k);
     }
-    assert!(rt; fails_once(rt.alloc(), &table) == Some(true));
+    require(&rt, fails_once(rt.alloc(), &table) == Some(true));
     Ok(())
 }
 
@@ -107,24 +104,24 @@ fn each_push_fails_in_turn(rt: HostRuntime) -> Result<(), Fail> {
 #[test]
 fn a_sink_goes_on_behind_its_failure(rt: HostRuntime) -> Result<(), Fail> {
     let mut sink = FailingSink::new(MemorySink::new(rt.alloc(), 5)?, 2);
-    assert_eq!(rt; sink.calls_to_failure(), 2);
-    assert_eq!(rt; sink.push(&[1, 2]), Ok(2));
-    assert_eq!(rt; sink.calls_to_failure(), 1);
-    assert_eq!(rt; sink.push(&[3]), Err(Device));
-    assert_eq!(rt; sink.calls_to_failure(), 0);
-    assert_eq!(rt; sink.push(&[4, 5]), Ok(2));
-    assert_eq!(rt; sink.push(&[6, 7]), Ok(1));
-    assert_eq!(rt; sink.push(&[7]), Err(Device));
-    assert!(rt; sink.into_inner().bytes() == [1, 2, 4, 5, 6].as_slice());
+    agree(&rt, sink.calls_to_failure(), 2);
+    agree(&rt, sink.push(&[1, 2]), Ok(2));
+    agree(&rt, sink.calls_to_failure(), 1);
+    agree(&rt, sink.push(&[3]), Err(Device));
+    agree(&rt, sink.calls_to_failure(), 0);
+    agree(&rt, sink.push(&[4, 5]), Ok(2));
+    agree(&rt, sink.push(&[6, 7]), Ok(1));
+    agree(&rt, sink.push(&[7]), Err(Device));
+    require(&rt, sink.into_inner().bytes() == [1, 2, 4, 5, 6].as_slice());
     Ok(())
 }
 
 #[test]
 fn a_sink_that_never_fails(rt: HostRuntime) -> Result<(), Fail> {
     let mut sink = FailingSink::new(MemorySink::new(rt.alloc(), 5)?, 0);
-    assert_eq!(rt; sink.push(&[1, 2]), Ok(2));
-    assert_eq!(rt; sink.push(&[3]), Ok(1));
-    assert_eq!(rt; sink.calls_to_failure(), 0);
-    assert!(rt; sink.into_inner().bytes() == [1, 2, 3].as_slice());
+    agree(&rt, sink.push(&[1, 2]), Ok(2));
+    agree(&rt, sink.push(&[3]), Ok(1));
+    agree(&rt, sink.calls_to_failure(), 0);
+    require(&rt, sink.into_inner().bytes() == [1, 2, 3].as_slice());
     Ok(())
 }

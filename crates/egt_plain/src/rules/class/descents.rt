@@ -1,4 +1,5 @@
 //! Moves from each class into each of its children: captures, promotions and both.
+use crate::asserts::{require, require_at};
 use crate::rules::men::{move_of, position_of};
 use egt_class::{Class, by_name, children, of};
 use egt_moves::play;
@@ -203,7 +204,7 @@ fn led_behind(last: (u8, u8), row: (&str, &str)) -> Option<(u8, u8)> {
 fn descents() -> Option<usize> {
     let mut last = (0, 0);
     let mut found: usize = 0;
-    for rows in ROWS {
+    for &rows in &ROWS {
         for row in rows {
             last = led_behind(last, *row)?;
             found = found.checked_add(1)?;
@@ -223,17 +224,18 @@ fn all_children() -> Option<usize> {
 
 #[test]
 fn a_move_leads_into_each_child(rt: HostRuntime) {
-    assert!(rt; descents() == Some(111));
-    assert!(rt; all_children() == Some(111));
+    require(&rt, descents() == Some(111));
+    require(&rt, all_children() == Some(111));
 }
 
 #[test]
 fn colours_are_told(rt: HostRuntime) {
-    for rows in ROWS {
+    for &rows in &ROWS {
         for row in rows {
-            assert!(rt; tells_colours(*row) == Some(true), "{}", row.0);
+            require_at(&rt, tells_colours(*row) == Some(true), row.0);
         }
     }
     let kings = position_of("Kd4 kg7 b");
-    assert!(rt; matches!(&kings, Some(kings) if of(kings) == (Class::default(), false)));
+    let right = matches!(&kings, Some(kings) if of(kings) == (Class::default(), false));
+    require(&rt, right);
 }

@@ -1,4 +1,5 @@
 //! Where a man may go: pins, checks and the answers to them.
+use crate::asserts::{require, require_at};
 use crate::rules::men::{move_of, position_of, square_of};
 use egt_board::SquareSet;
 use egt_moves::{legal_moves, legal_targets};
@@ -40,8 +41,8 @@ const PINS: [(&str, &str, &str); 8] = [
 
 #[test]
 fn pinned_men_keep_to_their_line(rt: HostRuntime) {
-    for (words, from, names) in PINS {
-        assert!(rt; goes(words, from, names) == Some(true), "{words}");
+    for &(words, from, names) in &PINS {
+        require_at(&rt, goes(words, from, names) == Some(true), words);
     }
 }
 
@@ -69,10 +70,10 @@ fn has_move(words: &str, text: &str) -> Option<bool> {
 
 #[test]
 fn checks_are_answered(rt: HostRuntime) {
-    for (words, from, names) in CHECKS {
-        assert!(rt; goes(words, from, names) == Some(true), "{words} {from}");
+    for &(words, from, names) in &CHECKS {
+        require_at(&rt, goes(words, from, names) == Some(true), (words, from));
     }
-    assert!(rt; has_move("Ka8 Pg7 ka1 rh8 w", "g7g8n") == Some(true));
+    require(&rt, has_move("Ka8 Pg7 ka1 rh8 w", "g7g8n") == Some(true));
 }
 
 const PASSING: [(&str, &str, &str); 6] = [
@@ -90,7 +91,7 @@ const PASSING: [(&str, &str, &str); 6] = [
 
 #[test]
 fn pawns_take_in_passing(rt: HostRuntime) {
-    for (words, from, names) in PASSING {
-        assert!(rt; goes(words, from, names) == Some(true), "{words} {from}");
+    for &(words, from, names) in &PASSING {
+        require_at(&rt, goes(words, from, names) == Some(true), (words, from));
     }
 }
