@@ -1,4 +1,5 @@
 //! Answers to whole inputs.
+use crate::asserts::{require, require_at};
 use egt_check::Library;
 use egt_plain::shelf::{library_below, whole_library_below};
 use egt_probe::answer;
@@ -20,9 +21,9 @@ fn expect_answers(
     library: &Library,
     cases: &[(&str, &str)],
 ) -> Result<(), Fail> {
-    for (input, output) in cases {
+    for &(input, output) in cases {
         let answer = answered(alloc, library, input.as_bytes())?;
-        assert!(rt; answer.as_slice() == output.as_bytes(), "{input}");
+        require_at(rt, answer.as_slice() == output.as_bytes(), input);
     }
     Ok(())
 }
@@ -37,7 +38,7 @@ fn expect_rows(
     for row in rows {
         let (fen, line) = row.split_once(": ").unwrap_or((row, ""));
         let answer = answered(alloc, library, fen.as_bytes())?;
-        assert!(rt; answer.as_slice() == line.as_bytes(), "{row}");
+        require_at(rt, answer.as_slice() == line.as_bytes(), row);
     }
     Ok(())
 }
@@ -96,8 +97,8 @@ fn pawns_and_knights(rt: HostRuntime) -> Result<(), Fail> {
     )?;
     let passed = answered(rt.alloc(), &library, b"8/8/8/8/4P3/8/8/k1K5 b - e3 0 1")?;
     let quiet = answered(rt.alloc(), &library, b"8/8/8/8/4P3/8/8/k1K5 b - - 0 1")?;
-    assert!(rt; passed.as_slice() == quiet.as_slice());
-    assert!(rt; quiet.as_slice().starts_with(b"KPK "));
+    require(&rt, passed.as_slice() == quiet.as_slice());
+    require(&rt, quiet.as_slice().starts_with(b"KPK "));
     Ok(())
 }
 
@@ -143,9 +144,8 @@ fn ends_of_lines(rt: HostRuntime) -> Result<(), Fail> {
 fn bytes_that_are_no_text(rt: HostRuntime) -> Result<(), Fail> {
     let library = library_below(rt.alloc(), 1)?;
     let answer = answered(rt.alloc(), &library, &[255, 0, 192, 10, 128])?;
-    assert!(rt;
-        answer.as_slice() == b"error fen 1 FieldCount\nerror fen 1 FieldCount\n".as_slice()
-    );
+    let right = answer.as_slice() == b"error fen 1 FieldCount\nerror fen 1 FieldCount\n".as_slice();
+    require(&rt, right);
     Ok(())
 }
 
@@ -179,9 +179,9 @@ fn long_lines(rt: HostRuntime) -> Result<(), Fail> {
         (5000, b"\n", long),
         (4096, b"\r\n", long),
     ];
-    for (length, end, expected) in cases {
+    for &(length, end, expected) in &cases {
         let answer = behind_long(rt.alloc(), &library, length, end)?;
-        assert!(rt; answer.as_slice() == expected, "{length}");
+        require_at(&rt, answer.as_slice() == expected, length);
     }
     Ok(())
 }
@@ -198,6 +198,6 @@ fn many_lines(rt: HostRuntime) -> Result<(), Fail> {
         output.extend_from_slice(b"KK draw hold e3d2\n")?;
     }
     let answer = answered(alloc, &library, &input)?;
-    assert!(rt; answer.as_slice() == output.as_slice());
+    require(&rt, answer.as_slice() == output.as_slice());
     Ok(())
 }

@@ -1,5 +1,6 @@
 //! Each pull and each push fails in turn: the answer is `Device`, and what was written is a beginning of the reports.
 use super::answers::answered;
+use crate::asserts::{agree, require};
 use egt_plain::shelf::library_below;
 use egt_probe::{AnswerFault, answer};
 use egt_table::{FailingSink, FailingSource, MemorySink, MemorySource};
@@ -29,15 +30,15 @@ fn each_pull_fails(rt: HostRuntime) -> Result<(), Fail> {
         match answer(alloc, &library, &mut source, &mut sink) {
             Err(AnswerFault::Device) => {
                 failed = failed.wrapping_add(1);
-                assert_eq!(rt; failed, k);
-                assert!(rt; whole.as_slice().starts_with(sink.bytes()));
-                assert!(rt; sink.bytes().len() < whole.len());
+                agree(&rt, failed, k);
+                require(&rt, whole.as_slice().starts_with(sink.bytes()));
+                require(&rt, sink.bytes().len() < whole.len());
             }
             Err(AnswerFault::NoMemory) => return Err(Fail::from("no memory")),
-            Ok(()) => assert!(rt; sink.bytes() == whole.as_slice()),
+            Ok(()) => require(&rt, sink.bytes() == whole.as_slice()),
         }
     }
-    assert_eq!(rt; failed, 3);
+    agree(&rt, failed, 3);
     Ok(())
 }
 
@@ -56,15 +57,15 @@ fn each_push_fails(rt: HostRuntime) -> Result<(), Fail> {
         match answer {
             Err(AnswerFault::Device) => {
                 failed = failed.wrapping_add(1);
-                assert_eq!(rt; failed, k);
-                assert!(rt; whole.as_slice().starts_with(written.bytes()));
-                assert!(rt; written.bytes().len() < whole.len());
+                agree(&rt, failed, k);
+                require(&rt, whole.as_slice().starts_with(written.bytes()));
+                require(&rt, written.bytes().len() < whole.len());
             }
             Err(AnswerFault::NoMemory) => return Err(Fail::from("no memory")),
-            Ok(()) => assert!(rt; written.bytes() == whole.as_slice()),
+            Ok(()) => require(&rt, written.bytes() == whole.as_slice()),
         }
     }
-    assert_eq!(rt; failed, 3);
+    agree(&rt, failed, 3);
     Ok(())
 }
 
@@ -79,6 +80,6 @@ fn a_sink_that_is_full(rt: HostRuntime) -> Result<(), Fail> {
         Err(AnswerFault::Device) => {}
         _ => return Err(Fail::from("there was room")),
     }
-    assert!(rt; sink.bytes() == b"KK draw hold e3d2\ner".as_slice());
+    require(&rt, sink.bytes() == b"KK draw hold e3d2\ner".as_slice());
     Ok(())
 }

@@ -1,5 +1,6 @@
 //! The verdicts of all positions of the first six classes, against plain tables, with the column of the nearest mates
 //! and without.
+use crate::asserts::{agree, require};
 use egt_board::{Position, Side};
 use egt_check::Library;
 use egt_plain::shelf::{library_of, whole_library_of};
@@ -71,12 +72,12 @@ fn every_position_of_three_men(rt: HostRuntime) -> Result<(), Fail> {
     let tables = PlainTables::solve(rt.alloc(), 6)?;
     let library = whole_library_of(rt.alloc(), &tables, 6)?;
     let (unlike, kings) = compared(&library, &tables, 0, true);
-    assert_eq!(rt; unlike, 0);
-    assert_eq!(rt; kings, 7224);
+    agree(&rt, unlike, 0);
+    agree(&rt, kings, 7224);
     for class in 1..6u8 {
         let (unlike, positions) = compared(&library, &tables, class, true);
-        assert_eq!(rt; unlike, 0);
-        assert!(rt; positions > 300_000);
+        agree(&rt, unlike, 0);
+        require(&rt, positions > 300_000);
     }
     Ok(())
 }
@@ -85,9 +86,9 @@ fn every_position_of_three_men(rt: HostRuntime) -> Result<(), Fail> {
 fn every_position_without_the_column(rt: HostRuntime) -> Result<(), Fail> {
     let tables = PlainTables::solve(rt.alloc(), 2)?;
     let library = library_of(rt.alloc(), &tables, 2)?;
-    assert_eq!(rt; compared(&library, &tables, 0, false), (0, 7224));
+    agree(&rt, compared(&library, &tables, 0, false), (0, 7224));
     let (unlike, positions) = compared(&library, &tables, 1, false);
-    assert_eq!(rt; unlike, 0);
-    assert!(rt; positions > 300_000);
+    agree(&rt, unlike, 0);
+    require(&rt, positions > 300_000);
     Ok(())
 }

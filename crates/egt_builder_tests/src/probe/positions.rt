@@ -1,4 +1,5 @@
 //! Verdicts, lines and holding moves of single positions.
+use crate::asserts::{agree, require};
 use egt_board::{Position, Side};
 use egt_class::Class;
 use egt_fen::read;
@@ -20,22 +21,20 @@ fn a_won_position(rt: HostRuntime) -> Result<(), Fail> {
     let Ok(verdict) = verdict(&library, &here) else {
         return Err(Fail::from("the table is there"));
     };
-    assert_eq!(rt; verdict.class, Class::at(1));
-    assert_eq!(rt;
-        verdict.value,
-        Outcome::Decided {
-            winner: Side::White,
-            plies: 2,
-            zeroing: 2
-        }
-    );
+    agree(&rt, verdict.class, Class::at(1));
+    let wanted = Outcome::Decided {
+        winner: Side::White,
+        plies: 2,
+        zeroing: 2,
+    };
+    agree(&rt, verdict.value, wanted);
     let Ok(moves) = line(rt.alloc(), &library, &here) else {
         return Err(Fail::from("a side mates"));
     };
     assert_eq!(rt; moves.len(), 2);
-    assert!(rt; moves.as_slice()[0].text().as_str() == "a8b8");
-    assert!(rt; moves.as_slice()[1].text().as_str() == "d1d8");
-    assert_eq!(rt; hold(&library, &here), Err(HoldFault::Decisive));
+    require(&rt, moves.as_slice()[0].text().as_str() == "a8b8");
+    require(&rt, moves.as_slice()[1].text().as_str() == "d1d8");
+    agree(&rt, hold(&library, &here), Err(HoldFault::Decisive));
     Ok(())
 }
 
@@ -46,17 +45,17 @@ fn a_drawn_position(rt: HostRuntime) -> Result<(), Fail> {
     let Ok(verdict) = verdict(&library, &here) else {
         return Err(Fail::from("the table is there"));
     };
-    assert_eq!(rt; verdict.value, Outcome::Draw);
+    agree(&rt, verdict.value, Outcome::Draw);
     let Ok(Some(held)) = hold(&library, &here) else {
         return Err(Fail::from("a draw with a move"));
     };
-    assert!(rt; held.text().as_str() == "b2c2");
+    require(&rt, held.text().as_str() == "b2c2");
     let Err(fault) = line(rt.alloc(), &library, &here) else {
         return Err(Fail::from("nobody mates"));
     };
-    assert_eq!(rt; fault, LineFault::Drawn);
+    agree(&rt, fault, LineFault::Drawn);
     let stalemate = position("k7/2Q5/8/8/8/8/8/4K3 b - - 0 1")?;
-    assert_eq!(rt; hold(&library, &stalemate), Ok(None));
+    agree(&rt, hold(&library, &stalemate), Ok(None));
     Ok(())
 }
 
@@ -67,15 +66,15 @@ fn a_dead_position(rt: HostRuntime) -> Result<(), Fail> {
     let Ok(verdict) = verdict(&library, &here) else {
         return Err(Fail::from("the table is there"));
     };
-    assert_eq!(rt; verdict.value, Outcome::Dead);
+    agree(&rt, verdict.value, Outcome::Dead);
     let Err(fault) = line(rt.alloc(), &library, &here) else {
         return Err(Fail::from("nobody mates"));
     };
-    assert_eq!(rt; fault, LineFault::Drawn);
+    agree(&rt, fault, LineFault::Drawn);
     let Ok(Some(held)) = hold(&library, &here) else {
         return Err(Fail::from("a draw with a move"));
     };
-    assert!(rt; held.text().as_str() == "e3d2");
+    require(&rt, held.text().as_str() == "e3d2");
     Ok(())
 }
 
@@ -86,39 +85,39 @@ fn a_position_of_no_table(rt: HostRuntime) -> Result<(), Fail> {
     let Err(missing) = verdict(&library, &here) else {
         return Err(Fail::from("there is no table"));
     };
-    assert_eq!(rt; missing.class.number(), 1);
-    assert!(rt; missing.number() == 11 && missing.name() == "Missing");
+    agree(&rt, missing.class.number(), 1);
+    require(&rt, missing.number() == 11 && missing.name() == "Missing");
     let Err(fault) = hold(&library, &here) else {
         return Err(Fail::from("there is no table"));
     };
-    assert_eq!(rt; fault.name(), "Missing");
+    agree(&rt, fault.name(), "Missing");
     let Err(fault) = line(rt.alloc(), &library, &here) else {
         return Err(Fail::from("there is no table"));
     };
-    assert_eq!(rt; fault.name(), "Missing");
+    agree(&rt, fault.name(), "Missing");
     Ok(())
 }
 
 #[test]
 fn faults_by_number_and_name(rt: HostRuntime) {
     let class = Class::at(0);
-    for (fault, number, name) in [
+    for &(fault, number, name) in &[
         (LineFault::NoMemory, 10, "NoMemory"),
         (LineFault::Missing(class), 11, "Missing"),
         (LineFault::Drawn, 15, "Drawn"),
     ] {
-        assert!(rt; fault.number() == number && fault.name() == name);
+        require(&rt, fault.number() == number && fault.name() == name);
     }
-    for (fault, number, name) in [
+    for &(fault, number, name) in &[
         (HoldFault::Missing(class), 11, "Missing"),
         (HoldFault::Decisive, 16, "Decisive"),
     ] {
-        assert!(rt; fault.number() == number && fault.name() == name);
+        require(&rt, fault.number() == number && fault.name() == name);
     }
-    for (fault, number, name) in [
+    for &(fault, number, name) in &[
         (AnswerFault::Device, 1, "Device"),
         (AnswerFault::NoMemory, 10, "NoMemory"),
     ] {
-        assert!(rt; fault.number() == number && fault.name() == name);
+        require(&rt, fault.number() == number && fault.name() == name);
     }
 }

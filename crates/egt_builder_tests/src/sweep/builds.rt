@@ -1,5 +1,6 @@
 //! Tables that are built pass the check and are admitted. The numbers of plies are those of the literature.
 use super::{built, built_over, longest_win};
+use crate::asserts::{agree, require, require_at};
 use egt_check::{Library, Reject, check};
 use egt_class::Class;
 use egt_graph::Ranks;
@@ -18,13 +19,13 @@ fn made(answer: Result<Table, BuildFault>) -> Result<Table, Fail> {
 fn two_kings_are_built_and_admitted(rt: HostRuntime) -> Result<(), Fail> {
     let mut library = Library::new(rt.alloc())?;
     let table = build(rt.alloc(), named("KK")?, &library, 0)?;
-    assert_eq!(rt; check(&table, &library), Ok(()));
-    assert!(rt; library.admit(table).is_ok());
+    agree(&rt, check(&table, &library), Ok(()));
+    require(&rt, library.admit(table).is_ok());
     let again = build(rt.alloc(), named("KK")?, &library, 0)?;
     let Err((_table, reject)) = library.admit(again) else {
         return Err(Fail::from("admitted twice"));
     };
-    assert_eq!(rt; reject, Reject::AlreadyThere);
+    agree(&rt, reject, Reject::AlreadyThere);
     Ok(())
 }
 
@@ -32,17 +33,17 @@ fn two_kings_are_built_and_admitted(rt: HostRuntime) -> Result<(), Fail> {
 fn a_queen_mates_within_ten_moves(rt: HostRuntime) -> Result<(), Fail> {
     let mut library = built(rt.alloc(), &["KK"])?;
     let table = build(rt.alloc(), named("KQK")?, &library, 20)?;
-    assert_eq!(rt; check(&table, &library), Ok(()));
-    assert_eq!(rt; longest_win(&table), 19);
+    agree(&rt, check(&table, &library), Ok(()));
+    agree(&rt, longest_win(&table), 19);
 
     // Kings on b6 and a8, a queen on d1: mate in one with White to move, and in two plies with Black to move.
-    for column in [Column::Mate, Column::Zeroing] {
-        assert_eq!(rt; entry_of(&table, column, 41_022), Some(4));
-        assert_eq!(rt; entry_of(&table, column, 41_023), Some(7));
+    for &column in &[Column::Mate, Column::Zeroing] {
+        agree(&rt, entry_of(&table, column, 41_022), Some(4));
+        agree(&rt, entry_of(&table, column, 41_023), Some(7));
     }
-    assert_eq!(rt; entry_of(&table, Column::Reach, 41_022), Some(3));
-    assert_eq!(rt; entry_of(&table, Column::Reach, 41_023), Some(4));
-    assert!(rt; library.admit(table).is_ok());
+    agree(&rt, entry_of(&table, Column::Reach, 41_022), Some(3));
+    agree(&rt, entry_of(&table, Column::Reach, 41_023), Some(4));
+    require(&rt, library.admit(table).is_ok());
     Ok(())
 }
 
@@ -52,16 +53,16 @@ fn some_need_more_than_nine_moves(rt: HostRuntime) -> Result<(), Fail> {
     let Err(fault) = answer else {
         return Err(Fail::from("built within eighteen plies"));
     };
-    assert_eq!(rt; fault, BuildFault::TooDeep(18));
-    assert_eq!(rt; fault.number(), 2);
-    assert_eq!(rt; fault.name(), "TooDeep");
+    agree(&rt, fault, BuildFault::TooDeep(18));
+    agree(&rt, fault.number(), 2);
+    agree(&rt, fault.name(), "TooDeep");
     Ok(())
 }
 
 #[test]
 fn a_rook_mates_within_sixteen_moves(rt: HostRuntime) -> Result<(), Fail> {
     let table = made(built_over(rt.alloc(), &["KK"], "KRK", 32_000)?)?;
-    assert_eq!(rt; longest_win(&table), 31);
+    agree(&rt, longest_win(&table), 31);
     Ok(())
 }
 
@@ -92,10 +93,10 @@ const PAWN_BYTES: [(usize, &[u8]); 3] = [
 fn a_pawn_zeroes_before_it_mates(rt: HostRuntime) -> Result<(), Fail> {
     let library = built(rt.alloc(), &["KK", "KQK", "KRK", "KBK", "KNK"])?;
     let table = build(rt.alloc(), named("KPK")?, &library, 32_000)?;
-    assert_eq!(rt; check(&table, &library), Ok(()));
-    assert_eq!(rt; entry_of(&table, Column::Mate, 164_434), Some(8));
-    assert_eq!(rt; entry_of(&table, Column::Zeroing, 164_434), Some(4));
-    assert!(rt; have(&file_of(rt.alloc(), &table)?, &PAWN_BYTES));
+    agree(&rt, check(&table, &library), Ok(()));
+    agree(&rt, entry_of(&table, Column::Mate, 164_434), Some(8));
+    agree(&rt, entry_of(&table, Column::Zeroing, 164_434), Some(4));
+    require(&rt, have(&file_of(rt.alloc(), &table)?, &PAWN_BYTES));
     Ok(())
 }
 
@@ -105,15 +106,15 @@ fn the_least_child_is_missing(rt: HostRuntime) -> Result<(), Fail> {
     let Err(fault) = build(rt.alloc(), named("KPK")?, &library, 32_000) else {
         return Err(Fail::from("built without children"));
     };
-    assert_eq!(rt; fault, BuildFault::Missing(named("KK")?));
-    assert_eq!(rt; fault.number(), 3);
-    assert_eq!(rt; fault.name(), "Missing");
+    agree(&rt, fault, BuildFault::Missing(named("KK")?));
+    agree(&rt, fault.number(), 3);
+    agree(&rt, fault.name(), "Missing");
 
     // With the kings and a queen there, the rook's table is the next.
     let Err(fault) = built_over(rt.alloc(), &["KK", "KQK"], "KPK", 32_000)? else {
         return Err(Fail::from("built without a rook's table"));
     };
-    assert_eq!(rt; fault, BuildFault::Missing(named("KRK")?));
+    agree(&rt, fault, BuildFault::Missing(named("KRK")?));
     Ok(())
 }
 
@@ -132,15 +133,12 @@ const QUEEN_BYTES: [(usize, &[u8]); 3] = [
 fn the_file_of_a_queen(rt: HostRuntime) -> Result<(), Fail> {
     let table = made(built_over(rt.alloc(), &["KK"], "KQK", 20)?)?;
     let bytes = file_of(rt.alloc(), &table)?;
-    assert_eq!(rt; bytes.len(), 491_536);
-    assert_eq!(rt;
-        bytes.get(..16),
-        Some([
-            0x45, 0x47, 0x54, 0x42, 2, 0, 1, 0, 1, 0, 3, 0, 0, 0x40, 1, 0
-        ]
-        .as_slice())
-    );
-    assert!(rt; have(&bytes, &QUEEN_BYTES));
+    agree(&rt, bytes.len(), 491_536);
+    let header = [
+        0x45, 0x47, 0x54, 0x42, 2, 0, 1, 0, 1, 0, 3, 0, 0, 0x40, 1, 0,
+    ];
+    agree(&rt, bytes.get(..16), Some(header.as_slice()));
+    require(&rt, have(&bytes, &QUEEN_BYTES));
     Ok(())
 }
 
@@ -159,35 +157,32 @@ fn without_reach(alloc: Global, table: &Table) -> Result<Table, Fail> {
 fn the_file_of_a_queen_without_the_third_column(rt: HostRuntime) -> Result<(), Fail> {
     let table = made(built_over(rt.alloc(), &["KK"], "KQK", 20)?)?;
     let bytes = file_of(rt.alloc(), &without_reach(rt.alloc(), &table)?)?;
-    assert_eq!(rt; bytes.len(), 327_696);
-    assert_eq!(rt;
-        bytes.get(..16),
-        Some([
-            0x45, 0x47, 0x54, 0x42, 1, 0, 1, 0, 1, 0, 2, 0, 0, 0x40, 1, 0
-        ]
-        .as_slice())
-    );
-    assert!(rt; have(&bytes, &QUEEN_BYTES[..2]));
+    agree(&rt, bytes.len(), 327_696);
+    let header = [
+        0x45, 0x47, 0x54, 0x42, 1, 0, 1, 0, 1, 0, 2, 0, 0, 0x40, 1, 0,
+    ];
+    agree(&rt, bytes.get(..16), Some(header.as_slice()));
+    require(&rt, have(&bytes, &QUEEN_BYTES[..2]));
     Ok(())
 }
 
 #[test]
 fn faults_by_number_and_name(rt: HostRuntime) {
     let class = Class::at(0);
-    for (fault, number, name) in [
+    for &(fault, number, name) in &[
         (BuildFault::NoMemory, 1, "NoMemory"),
         (BuildFault::TooDeep(18), 2, "TooDeep"),
         (BuildFault::Missing(class), 3, "Missing"),
         (BuildFault::NoReach(class), 4, "NoReach"),
     ] {
-        assert!(rt; fault.number() == number && fault.name() == name, "{name}");
+        require_at(&rt, fault.number() == number && fault.name() == name, name);
     }
-    for (fault, number, name) in [
+    for &(fault, number, name) in &[
         (MigrateFault::NoMemory, 1, "NoMemory"),
         (MigrateFault::TooDeep, 2, "TooDeep"),
         (MigrateFault::NoReach(class), 4, "NoReach"),
         (MigrateFault::HasReach, 5, "HasReach"),
     ] {
-        assert!(rt; fault.number() == number && fault.name() == name, "{name}");
+        require_at(&rt, fault.number() == number && fault.name() == name, name);
     }
 }

@@ -1,5 +1,6 @@
 //! Tables of four men with other entries: what the checker names first.
 use super::built;
+use crate::asserts::require_at;
 use egt_check::{Library, Reject, check};
 use egt_class::Class;
 use egt_graph::{Nears, Ranks};
@@ -78,15 +79,15 @@ fn two_rooks(alloc: Global) -> Result<(Library, Table), Fail> {
 fn codes_of_no_position(rt: HostRuntime) -> Result<(), Fail> {
     let (library, table) = two_rooks(rt.alloc())?;
     for column in Column::ALL {
-        for code in [0, ROOKS_EXCHANGED, LAST] {
-            for entry in [1, 2, 65_535] {
+        for &code in &[0, ROOKS_EXCHANGED, LAST] {
+            for &entry in &[1, 2, 65_535] {
                 let change = Change {
                     column,
                     code,
                     entry,
                 };
                 let found = named_first(rt.alloc(), &table, &library, change);
-                assert!(rt; found == Some((column, code)), "{code} {entry}");
+                require_at(&rt, found == Some((column, code)), (code, entry));
             }
         }
     }
@@ -99,7 +100,7 @@ fn an_entry_of_a_position(rt: HostRuntime) -> Result<(), Fail> {
     let (library, table) = two_rooks(rt.alloc())?;
     for column in Column::ALL {
         let right = entries_of(&table, column).get(ROOKS as usize).copied();
-        for entry in [0, 1, 2, 3, 4, 252, 253, 254, 255, 256, 257, 64_003, 65_535] {
+        for &entry in &[0, 1, 2, 3, 4, 252, 253, 254, 255, 256, 257, 64_003, 65_535] {
             let change = Change {
                 column,
                 code: ROOKS,
@@ -110,7 +111,7 @@ fn an_entry_of_a_position(rt: HostRuntime) -> Result<(), Fail> {
                 Some((named, index)) => named == column && index <= ROOKS,
                 None => right == Some(entry),
             };
-            assert!(rt; is_named, "{entry}");
+            require_at(&rt, is_named, entry);
         }
     }
     Ok(())

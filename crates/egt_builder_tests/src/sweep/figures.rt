@@ -1,5 +1,6 @@
 //! Tables that are built, beside public figures and beside tables of sweeps forward.
 use super::{built, longest_win};
+use crate::asserts::{agree, require, require_at};
 use egt_check::Library;
 use egt_class::Class;
 use egt_index::size;
@@ -34,18 +35,18 @@ fn count(table: &Table, entry: u16) -> u32 {
 fn a_rook_wins_as_often_as_counted(rt: HostRuntime) -> Result<(), Fail> {
     let library = built(rt.alloc(), &["KK"])?;
     let table = build(rt.alloc(), named("KRK")?, &library, 32_000)?;
-    assert_eq!(rt; count(&table, 1), ROOK_DRAWS);
+    agree(&rt, count(&table, 1), ROOK_DRAWS);
     // A loss in so many moves of White's is one in twice as many plies.
     let mut entry = 3u16;
     let mut all = ROOK_DRAWS;
-    for losses in ROOK_LOSSES {
-        assert_eq!(rt; count(&table, entry), losses, "{entry}");
+    for &losses in &ROOK_LOSSES {
+        require_at(&rt, count(&table, entry) == losses, entry);
         entry = entry.wrapping_add(4);
         all = all.wrapping_add(losses);
     }
     // There is no other position.
-    assert_eq!(rt; all, 28_056);
-    assert_eq!(rt; count(&table, 0), 40_960 - 28_056);
+    agree(&rt, all, 28_056);
+    agree(&rt, count(&table, 0), 40_960 - 28_056);
     Ok(())
 }
 
@@ -63,20 +64,20 @@ fn longest(alloc: Global, below: &[&str], name: &str) -> Result<u16, Fail> {
 // Two bishops mate in 19 moves at most, a bishop and a knight in 33.
 #[test]
 fn two_bishops(rt: HostRuntime) -> Result<(), Fail> {
-    assert_eq!(rt; longest(rt.alloc(), &["KK", "KBK"], "KBBK")?, 37);
+    agree(&rt, longest(rt.alloc(), &["KK", "KBK"], "KBBK")?, 37);
     Ok(())
 }
 
 #[test]
 fn a_bishop_and_a_knight(rt: HostRuntime) -> Result<(), Fail> {
-    assert_eq!(rt; longest(rt.alloc(), &["KK", "KBK", "KNK"], "KBNK")?, 65);
+    agree(&rt, longest(rt.alloc(), &["KK", "KBK", "KNK"], "KBNK")?, 65);
     Ok(())
 }
 
 // A rook mates a rook in 19 moves at most, a knight and a pawn mate in 27.
 #[test]
 fn two_rooks(rt: HostRuntime) -> Result<(), Fail> {
-    assert_eq!(rt; longest(rt.alloc(), &["KK", "KRK"], "KRKR")?, 37);
+    agree(&rt, longest(rt.alloc(), &["KK", "KRK"], "KRKR")?, 37);
     Ok(())
 }
 
@@ -87,7 +88,7 @@ const KNIGHTS: [&str; 10] = [
 
 #[test]
 fn a_knight_and_a_pawn(rt: HostRuntime) -> Result<(), Fail> {
-    assert_eq!(rt; longest(rt.alloc(), &KNIGHTS, "KNPK")?, 53);
+    agree(&rt, longest(rt.alloc(), &KNIGHTS, "KNPK")?, 53);
     Ok(())
 }
 
@@ -105,13 +106,13 @@ const BOTH_SIDES: [&str; 20] = [
 // Two pawns mate in 32 moves at most, a pawn against a pawn in 33.
 #[test]
 fn two_pawns(rt: HostRuntime) -> Result<(), Fail> {
-    assert_eq!(rt; longest(rt.alloc(), &ONE_SIDE, "KPPK")?, 63);
+    agree(&rt, longest(rt.alloc(), &ONE_SIDE, "KPPK")?, 63);
     Ok(())
 }
 
 #[test]
 fn a_pawn_against_a_pawn(rt: HostRuntime) -> Result<(), Fail> {
-    assert_eq!(rt; longest(rt.alloc(), &BOTH_SIDES, "KPKP")?, 65);
+    agree(&rt, longest(rt.alloc(), &BOTH_SIDES, "KPKP")?, 65);
     Ok(())
 }
 
@@ -126,8 +127,8 @@ fn is_solved(alloc: Global, library: &Library, name: &str) -> Result<bool, Fail>
 #[test]
 fn looks_and_moves_backward_tell_the_same(rt: HostRuntime) -> Result<(), Fail> {
     let library = built(rt.alloc(), &["KK", "KNK"])?;
-    for name in ["KBK", "KRK", "KQK", "KNNK"] {
-        assert!(rt; is_solved(rt.alloc(), &library, name)?, "{name}");
+    for &name in &["KBK", "KRK", "KQK", "KNNK"] {
+        require_at(&rt, is_solved(rt.alloc(), &library, name)?, name);
     }
     Ok(())
 }
@@ -146,7 +147,7 @@ fn is_swept(alloc: Global, tables: &PlainTables, number: u8) -> Result<bool, Fai
 fn pieces_are_built_as_swept(rt: HostRuntime) -> Result<(), Fail> {
     let tables = PlainTables::solve(rt.alloc(), 5)?;
     for number in 0..5 {
-        assert!(rt; is_swept(rt.alloc(), &tables, number)?, "{number}");
+        require_at(&rt, is_swept(rt.alloc(), &tables, number)?, number);
     }
     Ok(())
 }
@@ -154,6 +155,6 @@ fn pieces_are_built_as_swept(rt: HostRuntime) -> Result<(), Fail> {
 #[test]
 fn a_pawn_is_built_as_swept(rt: HostRuntime) -> Result<(), Fail> {
     let tables = PlainTables::solve(rt.alloc(), 6)?;
-    assert!(rt; is_swept(rt.alloc(), &tables, 5)?);
+    require(&rt, is_swept(rt.alloc(), &tables, 5)?);
     Ok(())
 }

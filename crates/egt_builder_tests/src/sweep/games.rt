@@ -4,6 +4,7 @@ ghost use Rattle.egt_entries.specs.Tables.{table_at};
 ghost use Rattle.egt_sweep.specs.MateColumn.{AreMateRanks};
 
 use super::{built, mates};
+use crate::asserts::agree;
 use egt_check::Library;
 use egt_class::Class;
 use egt_graph::{Ranks, SolveFault, solve};
@@ -73,11 +74,11 @@ fn two_kings_draw(rt: HostRuntime) -> Result<(), Fail> {
     let library = Library::new(rt.alloc())?;
     let class = named("KK")?;
     let mate = solved_mates(rt.alloc(), class, &library, 0)??;
-    assert_eq!(rt; count(&mate, 1), 462);
-    assert_eq!(rt; count(&mate, 0), 818);
+    agree(&rt, count(&mate, 1), 462);
+    agree(&rt, count(&mate, 0), 818);
     let zeroing = solved_zeroing(rt.alloc(), class, &library, 0)??;
-    assert_eq!(rt; count(&zeroing, 1), 462);
-    assert_eq!(rt; count(&zeroing, 0), 818);
+    agree(&rt, count(&zeroing, 1), 462);
+    agree(&rt, count(&zeroing, 0), 818);
     Ok(())
 }
 
@@ -85,14 +86,10 @@ fn two_kings_draw(rt: HostRuntime) -> Result<(), Fail> {
 fn a_queen_needs_some_plies(rt: HostRuntime) -> Result<(), Fail> {
     let library = built(rt.alloc(), &["KK"])?;
     let class = named("KQK")?;
-    assert_eq!(rt;
-        solved_mates(rt.alloc(), class, &library, 0)?.err(),
-        Some(SolveFault::TooDeep)
-    );
-    assert_eq!(rt;
-        solved_zeroing(rt.alloc(), class, &library, 0)?.err(),
-        Some(SolveFault::TooDeep)
-    );
+    let found = solved_mates(rt.alloc(), class, &library, 0)?.err();
+    agree(&rt, found, Some(SolveFault::TooDeep));
+    let found = solved_zeroing(rt.alloc(), class, &library, 0)?.err();
+    agree(&rt, found, Some(SolveFault::TooDeep));
     Ok(())
 }
 
@@ -114,6 +111,7 @@ fn a_child_without_a_table_is_missing(rt: HostRuntime) -> Result<(), Fail> {
     let kings = Missing {
         class: named("KK")?,
     };
-    assert_eq!(rt; missing(named("KQK")?, &library, &ranks)?, (kings, kings));
+    let found = missing(named("KQK")?, &library, &ranks)?;
+    agree(&rt, found, (kings, kings));
     Ok(())
 }

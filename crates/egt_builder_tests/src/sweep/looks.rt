@@ -1,6 +1,7 @@
 //! How often the builder looks at a block or a row.
 
 use super::built;
+use crate::asserts::{require, require_at};
 use egt_check::first_missing;
 use egt_plain::shelf::named;
 use egt_sweep::{Looks, ROUNDS, filled_values};
@@ -31,8 +32,8 @@ fn looks_at(alloc: Global, below: &[&str], name: &str) -> Result<Looks, Fail> {
 fn blocks_are_looked_at_where_something_changed(rt: HostRuntime) -> Result<(), Fail> {
     let looks = looks_at(rt.alloc(), &["KK", "KNK", "KBK"], "KBNK")?;
     assert_eq!(rt; looks.items, 2 * PAIRS);
-    assert!(rt; looks.taken >= looks.items);
-    assert!(rt; looks.taken <= 40 * looks.items, "{}", looks.taken);
+    require(&rt, looks.taken >= looks.items);
+    require_at(&rt, looks.taken <= 40 * looks.items, looks.taken);
     Ok(())
 }
 
@@ -42,6 +43,6 @@ fn blocks_are_looked_at_where_something_changed(rt: HostRuntime) -> Result<(), F
 fn rows_are_looked_at_in_few_rounds(rt: HostRuntime) -> Result<(), Fail> {
     let looks = looks_at(rt.alloc(), &["KK"], "KRK")?;
     assert_eq!(rt; looks.items, 2 * 10 * 64);
-    assert!(rt; looks.taken <= 34 * looks.items, "{}", looks.taken);
+    require_at(&rt, looks.taken <= 34 * looks.items, looks.taken);
     Ok(())
 }

@@ -4,6 +4,7 @@ ghost use Rattle.egt_entries.specs.Library.{IsAccepted};
 ghost use Rattle.egt_entries.specs.Tables.{table_at};
 
 use super::built;
+use crate::asserts::{agree, require, require_at};
 use egt_check::{Library, check};
 use egt_class::Class;
 use egt_plain::kings::{table_with, whole_kings_file, whole_table_with};
@@ -53,13 +54,11 @@ fn is_as_built(
 fn migrated_tables_are_those_that_are_built(rt: HostRuntime) -> Result<(), Fail> {
     let tables = PlainTables::solve(rt.alloc(), 5)?;
     let empty = Library::new(rt.alloc())?;
-    assert!(rt; is_as_built(rt.alloc(), &tables, named("KK")?, &empty)?);
+    require(&rt, is_as_built(rt.alloc(), &tables, named("KK")?, &empty)?);
     let kings = built(rt.alloc(), &["KK"])?;
-    for name in ["KQK", "KNK"] {
-        assert!(rt;
-            is_as_built(rt.alloc(), &tables, named(name)?, &kings)?,
-            "{name}"
-        );
+    for &name in &["KQK", "KNK"] {
+        let right = is_as_built(rt.alloc(), &tables, named(name)?, &kings)?;
+        require_at(&rt, right, name);
     }
     Ok(())
 }
@@ -71,10 +70,11 @@ fn a_table_that_has_the_column(rt: HostRuntime) -> Result<(), Fail> {
     let Err((table, fault)) = migrated(rt.alloc(), table, &library)? else {
         return Err(Fail::from("the table was migrated"));
     };
-    assert_eq!(rt; fault, MigrateFault::HasReach);
-    assert!(rt; fault.number() == 5 && fault.name() == "HasReach");
+    agree(&rt, fault, MigrateFault::HasReach);
+    require(&rt, fault.number() == 5 && fault.name() == "HasReach");
     let file = file_of(rt.alloc(), &table)?;
-    assert!(rt; file.as_slice() == whole_kings_file(rt.alloc())?.as_slice());
+    let right = file.as_slice() == whole_kings_file(rt.alloc())?.as_slice();
+    require(&rt, right);
     Ok(())
 }
 
@@ -88,7 +88,8 @@ fn the_own_table_is_not_asked(rt: HostRuntime) -> Result<(), Fail> {
         return Err(Fail::from("the table was refused"));
     };
     let file = file_of(rt.alloc(), &table)?;
-    assert!(rt; file.as_slice() == whole_kings_file(rt.alloc())?.as_slice());
+    let right = file.as_slice() == whole_kings_file(rt.alloc())?.as_slice();
+    require(&rt, right);
     Ok(())
 }
 
@@ -102,14 +103,15 @@ fn a_child_lacks_the_column(rt: HostRuntime) -> Result<(), Fail> {
     let Err((queen, fault)) = migrated(rt.alloc(), queen, &library)? else {
         return Err(Fail::from("the table was migrated"));
     };
-    assert_eq!(rt; fault, MigrateFault::NoReach(kings));
-    assert!(rt; fault.number() == 4 && fault.name() == "NoReach");
-    assert!(rt; file_of(rt.alloc(), &queen)?.as_slice() == before.as_slice());
+    agree(&rt, fault, MigrateFault::NoReach(kings));
+    require(&rt, fault.number() == 4 && fault.name() == "NoReach");
+    let right = file_of(rt.alloc(), &queen)?.as_slice() == before.as_slice();
+    require(&rt, right);
 
     let Err(fault) = build(rt.alloc(), named("KQK")?, &library, 32_000) else {
         return Err(Fail::from("the table was built"));
     };
-    assert_eq!(rt; fault, BuildFault::NoReach(kings));
-    assert!(rt; fault.number() == 4 && fault.name() == "NoReach");
+    agree(&rt, fault, BuildFault::NoReach(kings));
+    require(&rt, fault.number() == 4 && fault.name() == "NoReach");
     Ok(())
 }

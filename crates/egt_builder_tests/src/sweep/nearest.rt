@@ -1,4 +1,5 @@
 //! How far the nearest mate is, and the game that tells it.
+use crate::asserts::{agree, require};
 use egt_check::Library;
 use egt_class::Class;
 use egt_graph::{Exit, Game, nearest};
@@ -24,13 +25,13 @@ fn kings_and_a_queen(rt: HostRuntime) -> Result<(), Fail> {
             _ => {}
         }
     }
-    assert_eq!(rt; (dead, void, nears.entries().len()), (462, 818, 1_280));
+    agree(&rt, (dead, void, nears.entries().len()), (462, 818, 1_280));
     let Ok(queen) = ReachGame::new(named("KQK")?, &library) else {
         return Err(Fail::from("a child is missing"));
     };
     let nears = nearest(rt.alloc(), &queen)?;
-    assert_eq!(rt; nears.entries().get(41_022), Some(&3));
-    assert_eq!(rt; nears.entries().get(41_023), Some(&4));
+    agree(&rt, nears.entries().get(41_022), Some(&3));
+    agree(&rt, nears.entries().get(41_023), Some(&4));
     Ok(())
 }
 
@@ -64,13 +65,11 @@ fn a_pawn_that_promotes(rt: HostRuntime) -> Result<(), Fail> {
     if pawn.size() <= 164_434 || pawn.void(164_434) {
         return Err(Fail::from("no position has the number"));
     }
-    assert_eq!(rt;
-        pawn.exits(164_434).as_slice(),
-        [Exit::Win(2), Exit::Win(4), Exit::Draw, Exit::Draw].as_slice()
-    );
+    let wanted = [Exit::Win(2), Exit::Win(4), Exit::Draw, Exit::Draw];
+    agree(&rt, pawn.exits(164_434).as_slice(), wanted.as_slice());
     // No exit is a loss, though who is to move is mated after some: what counts is how far away that is.
     let (leaving, losing) = count_leaving(&pawn);
-    assert!(rt; leaving > 0 && losing == 0);
+    require(&rt, leaving > 0 && losing == 0);
     Ok(())
 }
 
@@ -87,13 +86,12 @@ fn children_that_are_wanted(rt: HostRuntime) -> Result<(), Fail> {
     let kings = named("KK")?;
     let empty = Library::new(rt.alloc())?;
     let queen = named("KQK")?;
-    assert_eq!(rt; lacked(queen, &empty), Some(BuildFault::Missing(kings)));
+    agree(&rt, lacked(queen, &empty), Some(BuildFault::Missing(kings)));
     let lacking = library_below(rt.alloc(), 1)?;
-    assert_eq!(rt; lacked(queen, &lacking), Some(BuildFault::NoReach(kings)));
+    let found = lacked(queen, &lacking);
+    agree(&rt, found, Some(BuildFault::NoReach(kings)));
     // A table that is missing is named before one that lacks the column.
-    assert_eq!(rt;
-        lacked(named("KPK")?, &lacking),
-        Some(BuildFault::Missing(queen))
-    );
+    let found = lacked(named("KPK")?, &lacking);
+    agree(&rt, found, Some(BuildFault::Missing(queen)));
     Ok(())
 }

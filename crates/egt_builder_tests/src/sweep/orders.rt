@@ -3,6 +3,7 @@ ghost use Rattle.egt_entries.specs.Tables.{table_at};
 ghost use Rattle.egt_sweep.specs.MateColumn.{AreMateRanks};
 
 use super::{built, mates};
+use crate::asserts::{agree, require};
 use egt_check::Library;
 use egt_class::Class;
 use egt_graph::{Batch, Close, Game, Post, Ranks, Rounds, solve};
@@ -30,12 +31,12 @@ fn from_the_last_block_to_the_first(rt: HostRuntime) -> Result<(), Fail> {
     let Ok(game) = MateGame::new(named("KQK")?, &library) else {
         return Err(Fail::from("two kings are there"));
     };
-    assert_eq!(rt; Rounds::new(rt.alloc(), &game, 20)?.blocks(), 20);
+    agree(&rt, Rounds::new(rt.alloc(), &game, 20)?.blocks(), 20);
     let (answers, late, ranks) = with_held(rt.alloc(), &game, &DOWN, 7, 3)?;
-    assert_eq!(rt; answers, (Post::Repeat, Close::NotAll, Post::Posted));
-    assert_eq!(rt; late, Post::Stale);
+    agree(&rt, answers, (Post::Repeat, Close::NotAll, Post::Posted));
+    agree(&rt, late, Post::Stale);
     let want = solve(rt.alloc(), &game, 32_000)?;
-    assert_eq!(rt; ranks.entries(), want.entries());
+    agree(&rt, ranks.entries(), want.entries());
     Ok(())
 }
 
@@ -47,9 +48,9 @@ fn with_lost_batches_and_in_drawn_orders(rt: HostRuntime) -> Result<(), Fail> {
     };
     let want = solve(rt.alloc(), &game, 32_000)?;
     let lost = with_losses(rt.alloc(), &game, &UP)?;
-    assert_eq!(rt; lost.entries(), want.entries());
+    agree(&rt, lost.entries(), want.entries());
     let drawn = with_draws(rt.alloc(), &game)?;
-    assert_eq!(rt; drawn.entries(), want.entries());
+    agree(&rt, drawn.entries(), want.entries());
     Ok(())
 }
 
@@ -89,8 +90,8 @@ fn opposite_orders_give_one_file(rt: HostRuntime) -> Result<(), Fail> {
     let library = built(rt.alloc(), &["KK"])?;
     let up = file(rt.alloc(), &library, &UP)?;
     let down = file(rt.alloc(), &library, &DOWN)?;
-    assert_eq!(rt; up.len(), 327_696);
-    assert_eq!(rt; up.as_slice(), down.as_slice());
+    agree(&rt, up.len(), 327_696);
+    agree(&rt, up.as_slice(), down.as_slice());
     Ok(())
 }
 
@@ -101,13 +102,13 @@ fn two_kings_take_one_round(rt: HostRuntime) -> Result<(), Fail> {
         return Err(Fail::from("two kings have no children"));
     };
     let mut rounds = Rounds::new(rt.alloc(), &game, 0)?;
-    assert_eq!(rt; rounds.blocks(), 1);
-    assert_eq!(rt; rounds.close(), Close::NotAll);
-    assert_eq!(rt; post_block(rt.alloc(), &mut rounds, 0)?, Post::Posted);
-    assert_eq!(rt; rounds.close(), Close::Finished);
-    assert_eq!(rt; expand(rt.alloc(), &rounds, 0)?.nodes().len(), 0);
-    assert_eq!(rt; post_block(rt.alloc(), &mut rounds, 0)?, Post::Stale);
-    assert_eq!(rt; rounds.close(), Close::Finished);
+    agree(&rt, rounds.blocks(), 1);
+    agree(&rt, rounds.close(), Close::NotAll);
+    agree(&rt, post_block(rt.alloc(), &mut rounds, 0)?, Post::Posted);
+    agree(&rt, rounds.close(), Close::Finished);
+    agree(&rt, expand(rt.alloc(), &rounds, 0)?.nodes().len(), 0);
+    agree(&rt, post_block(rt.alloc(), &mut rounds, 0)?, Post::Stale);
+    agree(&rt, rounds.close(), Close::Finished);
     Ok(())
 }
 
@@ -120,11 +121,11 @@ fn past_the_limit_no_ranks_are_given(rt: HostRuntime) -> Result<(), Fail> {
     let mut rounds = Rounds::new(rt.alloc(), &game, 18)?;
     for _round in 0..18 {
         post_all(rt.alloc(), &mut rounds, &UP)?;
-        assert_eq!(rt; rounds.close(), Close::Next);
+        agree(&rt, rounds.close(), Close::Next);
     }
     post_all(rt.alloc(), &mut rounds, &UP)?;
-    assert_eq!(rt; rounds.close(), Close::TooDeep);
-    assert!(rt; rounds.into_ranks().is_err());
+    agree(&rt, rounds.close(), Close::TooDeep);
+    require(&rt, rounds.into_ranks().is_err());
     Ok(())
 }
 
@@ -158,6 +159,6 @@ fn targets_of_each_checkmate_of_a_queen(rt: HostRuntime) -> Result<(), Fail> {
         let targets = most_targets(&batch, &game).ok_or("other moves than the game tells")?;
         most = most.max(targets);
     }
-    assert!(rt; most > 1);
+    require(&rt, most > 1);
     Ok(())
 }
