@@ -30,7 +30,7 @@ unfoldable pub use Rattle.egt_class.specs.Material.{has_equal_sides, material_of
 pub use Rattle.egt_index.proofs.NumbersOfCodes.{code_high, code_low, code_plain, half_targets, of_targets}
 pub use Rattle.egt_index.proofs.OnePosition.{a_pawn_each, one_pawn_each}
 pub use Rattle.egt_index.specs.Code.{king_square, men_at, placed, square_by_digit, square_of}
-pub use Rattle.egt_index.specs.Digits.{AreDigits, number_from, number_of, product}
+pub use Rattle.egt_index.specs.Digits.{AreDigits, number_from, number_of}
 pub use Rattle.egt_index.specs.Home.{AreHome, IsTurnWith, symmetries}
 pub use Rattle.egt_index.specs.Index.{IsVoid}
 pub use Rattle.egt_index.specs.LoneCodes.{IsLoneMan, IsLoneRow, lone_stand}
@@ -38,8 +38,9 @@ unfoldable pub use Rattle.egt_index.specs.Numbers.{code_of, half_of, places}
 pub use Rattle.egt_index.specs.Scales.{digits_at, kind_digits, kind_less}
 pub use Rattle.egt_index.specs.Shelf.{last_of}
 pub use Rattle.egt_index.specs.ShelfCodes.{AreMenOf, IsShelfOf, IsWithin, number_in, stand_with}
-pub use Rattle.egt_index.specs.Size.{base_by, base_of, bases, has_pawns, has_target, king_base, men_bases, men_beside}
-unfoldable pub use Rattle.egt_index.specs.Size.{size_of}
+pub use Rattle.egt_class.specs.Size.{base_by, base_of, bases, has_pawns, has_target, king_base, men_bases}
+pub use Rattle.egt_class.specs.Size.{men_beside, product}
+unfoldable pub use Rattle.egt_class.specs.Size.{size_of}
 pub use Rattle.egt_index.specs.Spelled.{IsListed, SpellsMen}
 pub use Rattle.egt_index.specs.Stood.{list_of}
 pub use Rattle.egt_index.specs.TellsMen.{TellsMen}

@@ -1,6 +1,6 @@
 -- Entries told by scores in bytes.
 use Rattle.std.specs.Prelude.{◌≡◌, ◌≢◌, ℕ, ◌+◌, ◌*◌, ◌-◌, ◌%◌, ◌<◌, ◌≤◌, ◌⊎◌, ◌==◌, nat_lt, if◌then◌else◌, List, length, map, Option, Some, None, IsSome, slice_index}
-use Rattle.egt_index.specs.Size.{size_of}
+use Rattle.egt_class.specs.Size.{size_of}
 use Rattle.egt_lanes.specs.Scores.{zeroing_score}
 use Rattle.egt_table.specs.Table.{HasColumn, IsTable, TableValue, entries_of}
 use Rattle.egt_table.specs.declared.column.Column.{Column}

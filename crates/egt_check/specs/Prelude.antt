@@ -120,8 +120,8 @@ unfoldable pub use Rattle.egt_index.specs.Numbers.{code_of, half_of, number_of, 
 pub use Rattle.egt_index.specs.Scales.{ends_of, kind_digits, kind_less}
 pub use Rattle.egt_index.specs.ShelfCodes.{AreIndexed, AreIndexes, AreMenOf, HasTwoBeside, IsShelf, IsShelfOf, IsWithin}
 pub use Rattle.egt_index.specs.ShelfCodes.{number_in, stand_with}
-pub use Rattle.egt_index.specs.Size.{has_target, men_in_order}
-unfoldable pub use Rattle.egt_index.specs.Size.{size_of}
+pub use Rattle.egt_class.specs.Size.{has_target, men_in_order}
+unfoldable pub use Rattle.egt_class.specs.Size.{size_of}
 pub use Rattle.egt_index.specs.Spelled.{IsListed}
 pub use Rattle.egt_index.specs.Stood.{AllStand, HasStand, IsFilled, list_of, men_among}
 pub use Rattle.egt_index.specs.TellsMen.{TellsMen}

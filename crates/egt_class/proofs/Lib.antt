@@ -7,3 +7,4 @@ pub mod NonKings
 pub mod TwoNonKings
 pub mod ClassTests
 pub mod OneClass
+pub mod SizeTable

@@ -5,4 +5,5 @@ pub mod Children
 pub mod Listing
 pub mod Membership
 pub mod Pair
+pub mod Size
 pub mod Prelude

@@ -31,8 +31,10 @@ pub use Rattle.egt_class.specs.Name.{is_letter}
 unfoldable pub use Rattle.egt_class.specs.Name.{name_of}
 pub use Rattle.egt_class.specs.Pair.{AreNonKings, first_slot, kind_slot, slot_of}
 unfoldable pub use Rattle.egt_class.specs.Pair.{class_at, flip_at}
+unfoldable pub use Rattle.egt_class.specs.Size.{size_of}
 pub use Rattle.egt_class.specs.declared.descent.TheConstants.{CHILDREN, STARTS}
 pub use Rattle.egt_class.specs.declared.naming.TheConstants.{NAMES}
+pub use Rattle.egt_class.specs.declared.sizes.TheConstants.{SIZES}
 pub use Rattle.std.proofs.lemmas.Bool.{and_parts, eq-eqb, eqb-true, false≢true, leb-true, ltb-true}
 pub use Rattle.std.proofs.lemmas.Bool.Decides.{eqb_tells}
 pub use Rattle.std.proofs.lemmas.Grind.{common_steps}

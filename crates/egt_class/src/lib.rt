@@ -6,8 +6,10 @@ pub mod descent;
 pub mod laws;
 pub mod membership;
 pub mod naming;
+pub mod sizes;
 
 pub use class::Class;
 pub use descent::children;
 pub use membership::{of, of_men};
 pub use naming::{by_name, name};
+pub use sizes::size;

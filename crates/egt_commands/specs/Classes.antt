@@ -1,7 +1,7 @@
 -- The list of classes.
 use Rattle.std.specs.Prelude.{ℕ, zero, suc, List, [], ◌∷◌, ◌++◌, decimal}
 use Rattle.egt_class.specs.Name.{name_of}
-use Rattle.egt_index.specs.Size.{size_of}
+use Rattle.egt_class.specs.Size.{size_of}
 
 -- a class's number, its name and its size; 32 is the space, and 10 the line feed
 abbrev pub class_line : ℕ → List ℕ

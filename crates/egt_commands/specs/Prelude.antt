@@ -11,7 +11,7 @@ pub use Rattle.egt_entries.specs.Tables.{Tables, table_at}
 pub use Rattle.egt_fen.specs.Fen.{IsFirstFault, Spells}
 pub use Rattle.egt_fen.specs.declared.fault.FenFault.{FenFault}
 pub use Rattle.egt_fen.specs.declared.fen.Fen.{Fen}
-unfoldable pub use Rattle.egt_index.specs.Size.{size_of}
+unfoldable pub use Rattle.egt_class.specs.Size.{size_of}
 pub use Rattle.egt_table.specs.Table.{HasColumn, entries_of}
 pub use Rattle.egt_table.specs.declared.column.Column.TheVariants.{Mate}
 pub use Rattle.std.proofs.lemmas.Bool.{cases_lt, false≢true}

@@ -5,7 +5,7 @@ ghost use Rattle.egt_commands.specs.Prelude.{IsAccepted, table_at};
 use crate::line::name_line;
 use crate::loading::load_whole;
 use crate::present::load_present;
-use crate::printer::print;
+use crate::printer::print_line;
 use crate::run_fault::RunFault;
 use egt_check::{Library, check};
 use egt_class::Class;
@@ -30,7 +30,7 @@ pub fn check_table<R: Files + AllocGlobal, O: Sink>(
     out: &mut O,
 ) -> Result<(), RunFault> {
     let _library = load_whole(rt, folder, class)?;
-    print(out, name_line(rt.alloc(), "ok", class)?.as_bytes())
+    print_line(out, name_line(rt.alloc(), "ok", class))
 }
 
 /// `egtb check DIR`: the line of each class whose file is there, in ascending number, up to the first fault.
@@ -42,10 +42,7 @@ pub fn check_all<R: Files + AllocGlobal, O: Sink>(
     let mut library = Library::new(rt.alloc())?;
     for number in 0..36 {
         if load_present(rt, folder, Class::at(number), &mut library)? {
-            print(
-                out,
-                name_line(rt.alloc(), "ok", Class::at(number))?.as_bytes(),
-            )?;
+            print_line(out, name_line(rt.alloc(), "ok", Class::at(number)))?;
         }
     }
     Ok(())

@@ -10,7 +10,7 @@ pub fn name_line(alloc: Global, word: &str, class: Class) -> Result<String, Allo
 }
 
 /// The line of a word, the class's name and the number of its codes: `built KQK entries 81920`.
-pub fn entries_line(alloc: Global, word: &str, class: Class) -> Result<String, AllocError> {
+pub(crate) fn entries_line(alloc: Global, word: &str, class: Class) -> Result<String, AllocError> {
     let entries = size(class);
     let class = name(class);
     format!(in alloc; "{word} {class} entries {entries}\n")

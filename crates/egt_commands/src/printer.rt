@@ -1,6 +1,7 @@
 //! Text that goes to a sink.
 use crate::run_fault::RunFault;
 use egt_table::Sink;
+use std::alloc::AllocError;
 use std::io::{self, ErrorKind, Write};
 
 /// A sink as a writer of the standard library.
@@ -34,5 +35,13 @@ pub fn print<S: Sink>(out: &mut S, text: &[u8]) -> Result<(), RunFault> {
     match Printer::new(out).write_all(text) {
         Ok(()) => Ok(()),
         Err(_) => Err(RunFault::Device),
+    }
+}
+
+/// Prints the line, or tells that there was no memory to make it.
+pub fn print_line<S: Sink>(out: &mut S, line: Result<String, AllocError>) -> Result<(), RunFault> {
+    match line {
+        Ok(line) => print(out, line.as_bytes()),
+        Err(_) => Err(RunFault::NoMemory),
     }
 }

@@ -1,4 +1,8 @@
 //! Why a command ended before all was done: what is printed then, and with which status the run ends.
+ghost use Rattle.std.specs.Prelude.{◌≡◌};
+ghost use Rattle.egt_commands.specs.Ending.{ends_with};
+ghost use Rattle.egt_commands.specs.declared.run_fault.RunFault.TheVariants as faults;
+
 use crate::fault::MovesFault;
 use crate::status::Status;
 use egt_check::Reject;
@@ -116,9 +120,6 @@ impl fmt::Display for RunFault {
 }
 
 impl From<AllocError> for RunFault {
-    ghost use Rattle.std.specs.Prelude.{◌≡◌};
-    ghost use Rattle.egt_commands.specs.declared.run_fault.RunFault.TheVariants as faults;
-
     ghost from_gives = { λ _ fault. fault ≡ faults.NoMemory };
 
     fn from(_error: AllocError) -> RunFault {
@@ -127,9 +128,6 @@ impl From<AllocError> for RunFault {
 }
 
 impl From<NoMemory> for RunFault {
-    ghost use Rattle.std.specs.Prelude.{◌≡◌};
-    ghost use Rattle.egt_commands.specs.declared.run_fault.RunFault.TheVariants as faults;
-
     ghost from_gives = { λ _ fault. fault ≡ faults.NoMemory };
 
     fn from(_error: NoMemory) -> RunFault {
@@ -138,9 +136,6 @@ impl From<NoMemory> for RunFault {
 }
 
 impl From<MovesFault> for RunFault {
-    ghost use Rattle.std.specs.Prelude.{◌≡◌};
-    ghost use Rattle.egt_commands.specs.Ending.{ends_with};
-
     ghost from_gives = { λ fault ending. ending ≡ ends_with fault };
 
     fn from(fault: MovesFault) -> RunFault {

@@ -1,8 +1,10 @@
 //! Tables put into the files of a folder, so that no file is lost where that fails.
+use crate::line::entries_line;
 use crate::loading::path_of;
+use crate::printer::print_line;
 use crate::run_fault::RunFault;
 use egt_class::{Class, name};
-use egt_table::{Table, ToStd};
+use egt_table::{Sink, Table, ToStd};
 use std::alloc::{AllocError, Global};
 use std::fs::{self, OpenFile, OpenOptions};
 use std::io::{ErrorKind, Write};
@@ -102,4 +104,16 @@ pub fn save<R: Files + AllocGlobal>(rt: &R, folder: &str, table: &Table) -> Resu
         let _ = fs::remove_file(rt, new.as_path());
     }
     replaced
+}
+
+/// Puts the table into the file of its class, and says so by the line of this word.
+pub fn keep<R: Files + AllocGlobal, O: Sink>(
+    rt: &R,
+    folder: &str,
+    word: &str,
+    table: &Table,
+    out: &mut O,
+) -> Result<(), RunFault> {
+    save(rt, folder, table)?;
+    print_line(out, entries_line(rt.alloc(), word, table.class()))
 }

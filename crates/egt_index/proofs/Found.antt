@@ -1,5 +1,5 @@
 -- The code that a position's digits make.
-use Rattle.std.proofs.Common.{◌≡◌, ℕ, ◌+◌, ◌<◌, false, cond, [], ◌∷◌, ◌++◌, arith, subst}
+use Rattle.std.proofs.Common.{◌≡◌, ℕ, ◌<◌, false, cond, [], ◌∷◌, ◌++◌, arith, subst}
 use Rattle.egt_index.specs.Prelude.{White, Black, king_of, side_number, Setup, IsAdmissible, IsKingOn, IsSettled}
 use Rattle.egt_index.specs.Prelude.{Material, material_of, IsOf, number_from, number_of, king_base, bases, men_beside}
 use Rattle.egt_index.specs.Prelude.{has_pawns, has_target, king_square, target_digits, Goes, IsLeastCode}

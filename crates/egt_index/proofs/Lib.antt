@@ -1,4 +1,3 @@
-pub mod SizeTable
 pub mod MixedDigits
 pub mod Coding
 pub mod Listing

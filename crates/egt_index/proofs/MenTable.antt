@@ -1,6 +1,6 @@
 -- The table of the men beside the kings, and what the classes' numbers tell of pawns.
 use Rattle.std.proofs.Common.{◌≡◌, ℕ, ◌<◌, ◌++◌, Bool, true, false, eqb, List, map, Option, Some, None, IfSome, ◌≢◌}
-use Rattle.std.proofs.Common.{◌&&◌, not, arith, ◌+◌, refl, ◌∙◌, subst, slice_index_or}
+use Rattle.std.proofs.Common.{◌&&◌, not, arith, refl, ◌∙◌, subst, slice_index_or}
 use Rattle.egt_index.specs.Prelude.{range_with_len, option_to_list, get_or-map, get_or_default, eq-eqb, and_parts}
 use Rattle.egt_index.specs.Prelude.{get_or-map-range_with_len, Man, man_number, king_of, White, all_below, passes_below}
 use Rattle.egt_index.specs.Prelude.{material_of, materials, has_equal_sides, men_beside, has_pawns, has_target}

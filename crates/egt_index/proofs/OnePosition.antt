@@ -1,5 +1,5 @@
 -- A code spells one position.
-use Rattle.std.proofs.Common.{◌≡◌, ℕ, ◌-◌, ◌||◌, ◌==◌, not, Bool, true, false, List, [], ◌∷◌, Option, arith, refl, sym}
+use Rattle.std.proofs.Common.{◌≡◌, ℕ, ◌||◌, ◌==◌, not, Bool, true, List, [], ◌∷◌, Option, arith, refl, sym}
 use Rattle.std.proofs.Common.{ap, ◌∙◌, inl, inr, subst}
 use Rattle.egt_index.specs.Prelude.{false≢true, cases_lt, eqb-true, Side, P, Man, other_side, king_of, pawn_of}
 use Rattle.egt_index.specs.Prelude.{Placement, Stands, men_of, Setup, IsTarget, FitsTarget, all_below, passes_below}

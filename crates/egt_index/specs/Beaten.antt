@@ -6,7 +6,7 @@ use Rattle.egt_board.specs.declared.man.Side.{Side}
 use Rattle.egt_board.specs.declared.man.Man.{Man}
 use Rattle.egt_index.specs.Code.{Spells, men_at}
 use Rattle.egt_index.specs.Home.{BringsHome}
-use Rattle.egt_index.specs.Size.{has_pawns, men_beside}
+use Rattle.egt_class.specs.Size.{has_pawns, men_beside}
 use Rattle.egt_index.specs.Stood.{Entry, HasStand, list_of}
 use Rattle.egt_index.specs.Turns.{IsTurn}
 use Rattle.egt_index.specs.declared.stand.Stand.{Stand}

@@ -10,7 +10,7 @@ use Rattle.egt_board.specs.declared.man.Kind.{Kind}
 use Rattle.egt_board.specs.declared.man.Kind.TheVariants.{Q, R, B, N, P, K}
 use Rattle.egt_board.specs.declared.man.Man.{Man}
 use Rattle.egt_index.specs.Digits.{number_of, AreDigits}
-use Rattle.egt_index.specs.Size.{has_pawns, has_target, men_in_order, men_bases, bases}
+use Rattle.egt_class.specs.Size.{has_pawns, has_target, men_in_order, men_bases, bases}
 
 -- a1 b1 c1 d1 b2 c2 d2 c3 d3 d4
 abbrev pub triangle : List ℕ

@@ -12,7 +12,7 @@ use Rattle.egt_board.specs.Setup.{Setup, IsAdmissible}
 use Rattle.egt_class.specs.Material.{Material}
 use Rattle.egt_index.specs.Code.{SpellsBy, men_at, target_digits, HasTargetDigit}
 use Rattle.egt_index.specs.Digits.{AreDigits, number_of}
-use Rattle.egt_index.specs.Size.{bases, men_bases, has_target}
+use Rattle.egt_class.specs.Size.{bases, men_bases, has_target}
 
 -- some digits of these bases
 decided_digits : (bs : List ℕ) (P : List ℕ → Type 0) → ((ds : List ℕ) → Decided (P ds)) → Decided ((ds : List ℕ) × AreDigits bs ds × P ds)

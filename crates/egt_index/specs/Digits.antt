@@ -17,8 +17,3 @@ AreDigits [] [] = Unit {0}
 AreDigits (base ∷ bases) (digit ∷ digits) = (digit < base) × AreDigits bases digits
 AreDigits [] (digit ∷ digits) = ⊥
 AreDigits (base ∷ bases) [] = ⊥
-
--- how many numbers digits of these bases spell
-abbrev pub product : List ℕ → ℕ
-product [] = 1
-product (base ∷ bases) = base * product bases

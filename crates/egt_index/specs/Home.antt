@@ -2,7 +2,7 @@
 use Rattle.std.specs.Prelude.{◌≡◌, ◌≢◌, ℕ, ◌<◌, ◌≤◌, ◌/◌, ◌%◌, ◌==◌, Bool, if◌then◌else◌, Option, Some, None, IfSome}
 use Rattle.egt_board.specs.Prelude.{Setup, turned_square}
 use Rattle.egt_index.specs.Code.{Spells, king_square}
-use Rattle.egt_index.specs.Size.{king_base}
+use Rattle.egt_class.specs.Size.{king_base}
 use Rattle.egt_index.specs.Turns.{IsTurn}
 
 -- how many symmetries keep play

@@ -5,7 +5,7 @@ use Rattle.egt_board.specs.declared.man.Man.{Man}
 use Rattle.egt_board.specs.declared.man.Side.{Side}
 use Rattle.egt_board.specs.declared.man.Side.TheVariants.{White, Black}
 use Rattle.egt_index.specs.Scales.{kind_digits, kind_less}
-use Rattle.egt_index.specs.Size.{has_target, men_in_order, size_of}
+use Rattle.egt_class.specs.Size.{has_target, men_in_order, size_of}
 use Rattle.egt_index.specs.TellsMen.{TellsMen}
 use Rattle.egt_index.specs.declared.stand.Stand.{Stand}
 

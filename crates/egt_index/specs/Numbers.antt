@@ -6,7 +6,7 @@ use Rattle.egt_class.specs.Prelude.{material_of}
 use Rattle.egt_index.specs.Code.{Spells}
 use Rattle.egt_index.specs.Scales.{digits_at}
 use Rattle.egt_index.specs.Shelf.{last_of}
-use Rattle.egt_index.specs.Size.{has_target, men_beside, size_of}
+use Rattle.egt_class.specs.Size.{has_target, men_beside, size_of}
 
 -- how many digits the last man has: so many places a word of numbers has
 unfoldable pub places : ℕ → ℕ

@@ -4,7 +4,7 @@ use Rattle.egt_board.specs.Prelude.{king_of, is_man, count_of, PawnsFit, Placeme
 use Rattle.egt_board.specs.declared.man.Side.TheVariants.{White}
 use Rattle.egt_board.specs.declared.man.Man.{Man}
 use Rattle.egt_index.specs.Digits.{number_from, AreDigits}
-use Rattle.egt_index.specs.Size.{base_of}
+use Rattle.egt_class.specs.Size.{base_of}
 use Rattle.egt_index.specs.Code.{Spells, square_of}
 use Rattle.std.specs.FinMap as placement
 

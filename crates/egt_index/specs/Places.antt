@@ -9,7 +9,7 @@ use Rattle.egt_index.specs.Prefix.{IsPrefix}
 use Rattle.egt_index.specs.Index.{IsVoid}
 use Rattle.egt_index.specs.Scales.{kind_digits, kind_less}
 use Rattle.egt_index.specs.Shelf.{last_of}
-use Rattle.egt_index.specs.Size.{men_beside}
+use Rattle.egt_class.specs.Size.{men_beside}
 use Rattle.egt_index.specs.Stood.{Entry, HasStand, IsInOrder, with_last}
 use Rattle.egt_index.specs.declared.prefix.Prefix.{Prefix}
 use Rattle.egt_index.specs.declared.places.Places.{Places}

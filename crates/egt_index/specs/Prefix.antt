@@ -7,7 +7,7 @@ use Rattle.egt_class.specs.Material.{material_of}
 use Rattle.egt_index.specs.Beaten.{AllSpelled}
 use Rattle.egt_index.specs.Index.{IsIndex, IsVoid}
 use Rattle.egt_index.specs.Shelf.{last_of, row_len}
-use Rattle.egt_index.specs.Size.{men_beside}
+use Rattle.egt_class.specs.Size.{men_beside}
 use Rattle.egt_index.specs.Spelled.{Tells, SpellsMen, SpellsNoMen}
 use Rattle.egt_index.specs.Stood.{Entry, AllApart, IsFilled, IsInOrder, list_of, with_last}
 use Rattle.egt_index.specs.declared.prefix.Prefix.{Prefix}

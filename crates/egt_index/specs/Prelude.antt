@@ -36,16 +36,20 @@ pub use Rattle.egt_board.specs.declared.mirror.Mirror.TheVariants.{Colours}
 pub use Rattle.egt_board.specs.declared.step.Step.{Step}
 pub use Rattle.egt_class.specs.Below.{passes_below}
 unfoldable pub use Rattle.egt_class.specs.Below.{all_below}
+pub use Rattle.egt_class.specs.Children.{man_of}
 pub use Rattle.egt_class.specs.Material.{Material, beside, count_in, is_kind, kinds_of}
 unfoldable pub use Rattle.egt_class.specs.Material.{has_equal_sides, material_of, materials, men_in}
 pub use Rattle.egt_class.specs.Membership.{IsOf}
 pub use Rattle.egt_class.specs.Pair.{AreNonKings}
+pub use Rattle.egt_class.specs.Size.{base_by, base_of, bases, has_pawn, has_pawns, has_target, king_base, men_bases}
+pub use Rattle.egt_class.specs.Size.{men_beside, men_in_order, product}
+unfoldable pub use Rattle.egt_class.specs.Size.{size_of}
 pub use Rattle.egt_index.specs.Beaten.{AllSpelled, AreBehind, Beats, HasPrefix, HasKingsOn, IfMoved, IsBeaten}
 pub use Rattle.egt_index.specs.Beaten.{IsFirstOfTwo, Keeps, KeepsWith, SpellsAt, TurnBeats, TurnKeeps}
 pub use Rattle.egt_index.specs.Code.{HasTargetDigit, Spells, SpellsBy, king_square, men_at, placed, square_by_digit}
 pub use Rattle.egt_index.specs.Code.{square_of, target_digit, target_digits}
 pub use Rattle.egt_index.specs.DecidedSpelled.{decided_spelled}
-pub use Rattle.egt_index.specs.Digits.{AreDigits, number_from, number_of, product}
+pub use Rattle.egt_index.specs.Digits.{AreDigits, number_from, number_of}
 pub use Rattle.egt_index.specs.Facts.{Facts}
 unfoldable pub use Rattle.egt_index.specs.First.{tells_colours}
 pub use Rattle.egt_index.specs.Prefix.{IsBefore, IsPrefix, IsPrefixOf, IsNoneBefore, IsVoidPrefix, TellsLast}
@@ -63,9 +67,6 @@ pub use Rattle.egt_index.specs.Shelf.{last_of, row_len}
 pub use Rattle.egt_index.specs.ShelfCodes.{AreIndexed, AreIndexes, AreMenOf, HasShelf, HasTwoBeside, IsShelf}
 pub use Rattle.egt_index.specs.ShelfCodes.{IsShelfBehind, IsShelfOf, IsWithin, PassesNothing, SpellsNothing, number_in}
 pub use Rattle.egt_index.specs.ShelfCodes.{stand_with}
-pub use Rattle.egt_index.specs.Size.{base_by, base_of, bases, has_pawn, has_pawns, has_target, king_base, man_of}
-pub use Rattle.egt_index.specs.Size.{men_bases, men_beside, men_in_order}
-unfoldable pub use Rattle.egt_index.specs.Size.{size_of}
 pub use Rattle.egt_index.specs.Spelled.{Ends, HasPawns, IsBehind, IsListed, IsTold, SpellsMen, SpellsNoMen, Splits}
 pub use Rattle.egt_index.specs.Spelled.{Tells}
 pub use Rattle.egt_index.specs.Stood.{AllApart, AllStand, AreEqual, AreExchanged, AreNear, Entry, HasDigit, HasStand}
@@ -82,7 +83,6 @@ pub use Rattle.egt_index.specs.declared.home.TheConstants.{FIRST, LAST}
 pub use Rattle.egt_index.specs.declared.men.TheConstants.{EQUAL_SIDES, NON_KINGS, PAWNS}
 pub use Rattle.egt_index.specs.declared.places.Places.{Places}
 pub use Rattle.egt_index.specs.declared.shelf_codes.ShelfMen.{ShelfMen}
-pub use Rattle.egt_index.specs.declared.sizes.TheConstants.{SIZES}
 pub use Rattle.egt_index.specs.declared.stand.Stand.{Stand}
 pub use Rattle.egt_index.specs.declared.turning.TheConstants.{TURNED}
 pub use Rattle.std.proofs.Math.ListN.{get_or-map}

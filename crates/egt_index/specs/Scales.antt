@@ -4,7 +4,7 @@ use Rattle.egt_board.specs.declared.man.Kind.{Kind}
 use Rattle.egt_board.specs.declared.man.Kind.TheVariants.{Q, R, B, N, P, K}
 use Rattle.egt_board.specs.declared.man.Man.{Man}
 use Rattle.egt_class.specs.Material.{Material}
-use Rattle.egt_index.specs.Size.{has_target}
+use Rattle.egt_class.specs.Size.{has_target}
 
 -- how many digits a man other than the white king has, and how much less they are than his square
 abbrev pub kind_digits : Kind → ℕ

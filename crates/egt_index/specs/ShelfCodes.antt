@@ -11,7 +11,7 @@ use Rattle.egt_index.specs.Index.{IsVoid}
 use Rattle.egt_index.specs.Numbers.{code_of, half_of, places}
 use Rattle.egt_index.specs.Shelf.{row_len}
 use Rattle.egt_index.specs.Scales.{kind_digits, kind_less}
-use Rattle.egt_index.specs.Size.{has_pawns, has_target, men_in_order, size_of}
+use Rattle.egt_class.specs.Size.{has_pawns, has_target, men_in_order, size_of}
 use Rattle.egt_index.specs.Spelled.{Ends}
 use Rattle.egt_index.specs.TellsMen.{TellsMen}
 use Rattle.egt_index.specs.Stood.{Entry}

@@ -7,7 +7,7 @@ use Rattle.egt_board.specs.declared.man.Side.{Side}
 use Rattle.egt_board.specs.declared.man.Man.{Man}
 use Rattle.egt_board.specs.declared.man.Side.TheVariants.{White, Black}
 use Rattle.egt_index.specs.Digits.{number_from, number_of, AreDigits}
-use Rattle.egt_index.specs.Size.{base_of, men_bases, has_target}
+use Rattle.egt_class.specs.Size.{base_of, men_bases, has_target}
 use Rattle.egt_index.specs.Code.{square_of, placed, men_at}
 
 -- the lowest digit is that of the man on the square, and `high` is what stands before it

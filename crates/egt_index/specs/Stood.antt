@@ -8,7 +8,7 @@ use Rattle.egt_class.specs.Prelude.{material_of, IsOf}
 use Rattle.egt_board.specs.declared.man.Side.{Side}
 use Rattle.egt_board.specs.declared.man.Side.TheVariants.{White, Black}
 use Rattle.egt_board.specs.declared.man.Man.{Man}
-use Rattle.egt_index.specs.Size.{men_in_order}
+use Rattle.egt_class.specs.Size.{men_in_order}
 use Rattle.egt_index.specs.declared.stand.Stand.{Stand}
 use Rattle.std.specs.FinMap as placement
 

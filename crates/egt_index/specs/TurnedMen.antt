@@ -5,7 +5,7 @@ use Rattle.egt_board.specs.Turned.{turned_side, turned_square}
 use Rattle.egt_board.specs.declared.man.Side.{Side}
 use Rattle.egt_class.specs.Material.{has_equal_sides, material_of}
 use Rattle.egt_index.specs.Home.{symmetries}
-use Rattle.egt_index.specs.Size.{has_pawns}
+use Rattle.egt_class.specs.Size.{has_pawns}
 use Rattle.egt_index.specs.TellsMen.{TellsMen}
 use Rattle.egt_index.specs.Stood.{entry_after, men_among, on_square_of}
 use Rattle.egt_index.specs.declared.stand.Stand.{Stand}

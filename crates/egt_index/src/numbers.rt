@@ -5,8 +5,7 @@ ghost use Rattle.egt_index.specs.Prelude.{code_of, half_of, places, IsShelfBehin
 
 use crate::men::has_target;
 use crate::shelf::last_digits;
-use crate::sizes::size;
-use egt_class::Class;
+use egt_class::{Class, size};
 
 /// How many numbers of the class have no target.
 fn half(class: Class) -> u32

@@ -1,5 +1,7 @@
 //! Why a call of the prober gives no answer.
 ghost use Rattle.std.specs.Prelude.{◌≡◌};
+ghost use Rattle.egt_probe.specs.Fault.{line_number, line_name, hold_number, hold_name, answer_number, answer_name};
+ghost use Rattle.egt_probe.specs.declared.fault.AnswerFault.TheVariants as faults;
 
 use egt_class::Class;
 use egt_table::Device;
@@ -43,8 +45,6 @@ pub enum AnswerFault {
 }
 
 impl LineFault {
-    ghost use Rattle.egt_probe.specs.Fault.{line_number, line_name};
-
     /// The fault's number: 10, 11 or 15.
     pub fn number(&self) -> u8
         ensures { result ≡ line_number self.now }
@@ -69,8 +69,6 @@ impl LineFault {
 }
 
 impl HoldFault {
-    ghost use Rattle.egt_probe.specs.Fault.{hold_number, hold_name};
-
     /// The fault's number: 11 or 16.
     pub fn number(&self) -> u8
         ensures { result ≡ hold_number self.now }
@@ -93,8 +91,6 @@ impl HoldFault {
 }
 
 impl AnswerFault {
-    ghost use Rattle.egt_probe.specs.Fault.{answer_number, answer_name};
-
     /// The fault's number: 1 among the faults of files, or 10 among those of the prober.
     pub fn number(&self) -> u8
         ensures { result ≡ answer_number self.now }
@@ -117,9 +113,6 @@ impl AnswerFault {
 }
 
 impl From<Device> for AnswerFault {
-    ghost use Rattle.std.specs.Prelude.{◌≡◌};
-    ghost use Rattle.egt_probe.specs.declared.fault.AnswerFault.TheVariants as faults;
-
     ghost from_gives = { λ _ fault. fault ≡ faults.Device };
 
     fn from(_device: Device) -> AnswerFault {
@@ -128,9 +121,6 @@ impl From<Device> for AnswerFault {
 }
 
 impl From<AllocError> for AnswerFault {
-    ghost use Rattle.std.specs.Prelude.{◌≡◌};
-    ghost use Rattle.egt_probe.specs.declared.fault.AnswerFault.TheVariants as faults;
-
     ghost from_gives = { λ _ fault. fault ≡ faults.NoMemory };
 
     fn from(_error: AllocError) -> AnswerFault {

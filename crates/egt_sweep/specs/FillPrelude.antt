@@ -96,8 +96,8 @@ pub use Rattle.egt_index.specs.LoneCodes.{IsLoneMan, IsLoneRow}
 unfoldable pub use Rattle.egt_index.specs.Numbers.{code_of, number_of}
 pub use Rattle.egt_index.specs.Scales.{kind_digits, kind_less}
 pub use Rattle.egt_index.specs.ShelfCodes.{AreMenOf, number_in, stand_with}
-pub use Rattle.egt_index.specs.Size.{has_pawns, has_target, men_bases}
-unfoldable pub use Rattle.egt_index.specs.Size.{size_of}
+pub use Rattle.egt_class.specs.Size.{has_pawns, has_target, men_bases}
+unfoldable pub use Rattle.egt_class.specs.Size.{size_of}
 pub use Rattle.egt_index.specs.Stood.{list_of}
 pub use Rattle.egt_index.specs.TellsMen.{TellsMen}
 pub use Rattle.egt_index.specs.TurnedMen.{IsInEitherOrder, IsSeenBy, IsSomeTurnedCodeWith, turned_by}

@@ -40,7 +40,7 @@ pub use Rattle.egt_graph.specs.declared.game.Exit.{Exit}
 pub use Rattle.egt_index.specs.Code.{Spells, SpellsBy}
 pub use Rattle.egt_index.specs.DecidedSpelled.{decided_spelled}
 pub use Rattle.egt_index.specs.Index.{IsIndex, IsVoid}
-unfoldable pub use Rattle.egt_index.specs.Size.{size_of}
+unfoldable pub use Rattle.egt_class.specs.Size.{size_of}
 pub use Rattle.egt_moves.proofs.Admissible.{pawn_told}
 pub use Rattle.egt_moves.specs.AllMen.{AreMenOf}
 pub use Rattle.egt_moves.specs.WinLossDraw.{AvoidsMateFor, CannotMateWithin, Draw, HasMove, HasValue, IsLost, IsMatedWithin}

@@ -1,7 +1,7 @@
 -- Where the numbers of a table's file stand.
 use Rattle.std.specs.Prelude.{◌≡◌, ℕ, ◌+◌, ◌*◌, ◌<◌, List, length, drop, slice_get, slice_index, Some}
 use Rattle.byteorder.specs.Endian.{little_number}
-use Rattle.egt_index.specs.Size.{size_of}
+use Rattle.egt_class.specs.Size.{size_of}
 use Rattle.egt_table.specs.declared.column.Column.{Column}
 use Rattle.egt_table.specs.File.{header_length, layout, magic, version_of}
 use Rattle.egt_table.specs.Table.{HasColumn, TableValue, columns_of, entries_of}

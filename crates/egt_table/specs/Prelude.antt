@@ -2,7 +2,7 @@
 pub use Rattle.byteorder.specs.Endian.{IsRead, little_bytes, little_from, little_number}
 pub use Rattle.byteorder.specs.Numbers.{length-bytes_low_first, little_from-append, little_from-cons}
 pub use Rattle.byteorder.specs.Numbers.{little_number-reads_back}
-unfoldable pub use Rattle.egt_index.specs.Size.{size_of}
+unfoldable pub use Rattle.egt_class.specs.Size.{size_of}
 pub use Rattle.egt_table.specs.File.{AreBytes, Field, HasHeader, IsAnswer, Reads, bytes_of, column_bytes, columns_in}
 pub use Rattle.egt_table.specs.File.{entries_bytes, field_bytes, file_fault, file_length, first_fault, header_fault}
 pub use Rattle.egt_table.specs.File.{header_of, stated_version, version_of}

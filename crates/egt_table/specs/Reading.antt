@@ -1,6 +1,6 @@
 -- The result of reading a part of a file.
 use Rattle.std.specs.Prelude.{◌≡◌, ℕ, ◌<◌, ◌==◌, ◌⊎◌, if◌then◌else◌, List, length, Option, Some, None, Result, MatchResult}
-use Rattle.egt_index.specs.Size.{size_of}
+use Rattle.egt_class.specs.Size.{size_of}
 use Rattle.egt_table.specs.declared.fault.FileFault.{FileFault}
 use Rattle.egt_table.specs.declared.fault.FileFault.TheVariants as faults
 use Rattle.egt_table.specs.Stream.{risen}

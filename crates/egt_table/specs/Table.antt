@@ -2,7 +2,7 @@
 -- spells no position, 1 for a draw, 2 + 2n for a win and 3 + 2n for a loss in n plies. The column of the nearest mates may be there too: an
 -- entry of it is 0 likewise, 1 for a dead position and 2 + n where n plies of both sides lead to a checkmate.
 use Rattle.std.specs.Prelude.{◌≡◌, ℕ, ◌<◌, List, [], ◌∷◌, length, Option, Some, None, IsSome}
-use Rattle.egt_index.specs.Size.{size_of}
+use Rattle.egt_class.specs.Size.{size_of}
 use Rattle.egt_table.specs.declared.column.Column.{Column}
 use Rattle.egt_table.specs.declared.column.Column.TheVariants.{Mate, Zeroing, Reach}
 

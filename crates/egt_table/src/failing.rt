@@ -1,5 +1,8 @@
 //! Streams that fail at one call, for tests of what meets failures.
-ghost use Rattle.std.specs.Prelude.{◌≡◌};
+ghost use Rattle.std.specs.Io.KnownBytes.{ReadConsumes, WriteAppends};
+ghost use Rattle.std.specs.Prelude.{◌≡◌, ◌≢◌, ◌-◌, ◌<◌, ◌≤◌, length, IfOk, IsErr};
+ghost use Rattle.egt_table.specs.Failing.{Failing};
+ghost use Rattle.egt_table.specs.Stream.{CountsFailure};
 
 use crate::device::Device;
 use crate::stream::{Sink, Source};
@@ -14,8 +17,6 @@ pub struct FailingSource<S> {
 }
 
 impl<S> Model for FailingSource<S> {
-    ghost use Rattle.egt_table.specs.Failing.{Failing};
-
     ghost Value = { Failing S };
 
     ghost view = { λ s. record { inner = s.inner; calls_to_failure = s.calls; failures = s.failures } };
@@ -45,10 +46,6 @@ impl<S: Source> FailingSource<S> {
 }
 
 impl<S: Source> Source for FailingSource<S> {
-    ghost use Rattle.std.specs.Prelude.{◌≡◌, ◌≢◌, ◌-◌, ◌<◌, ◌≤◌, length, IfOk, IsErr};
-    ghost use Rattle.std.specs.Io.KnownBytes.{ReadConsumes};
-    ghost use Rattle.egt_table.specs.Stream.{CountsFailure};
-
     ghost left = { λ s. S.left s.inner };
 
     ghost failures = { λ s. s.failures };
@@ -92,8 +89,6 @@ pub struct FailingSink<S> {
 }
 
 impl<S> Model for FailingSink<S> {
-    ghost use Rattle.egt_table.specs.Failing.{Failing};
-
     ghost Value = { Failing S };
 
     ghost view = { λ s. record { inner = s.inner; calls_to_failure = s.calls; failures = s.failures } };
@@ -130,10 +125,6 @@ impl<S: Sink> FailingSink<S> {
 }
 
 impl<S: Sink> Sink for FailingSink<S> {
-    ghost use Rattle.std.specs.Prelude.{◌≡◌, ◌≢◌, ◌-◌, ◌<◌, ◌≤◌, length, IfOk, IsErr};
-    ghost use Rattle.std.specs.Io.KnownBytes.{WriteAppends};
-    ghost use Rattle.egt_table.specs.Stream.{CountsFailure};
-
     ghost written = { λ s. S.written s.inner };
 
     ghost failures = { λ s. s.failures };

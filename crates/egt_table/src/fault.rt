@@ -1,4 +1,8 @@
 //! Why a table was not read.
+ghost use Rattle.std.specs.Prelude.{◌≡◌};
+ghost use Rattle.egt_table.specs.Fault.{number_of, name_of};
+ghost use Rattle.egt_table.specs.declared.fault.FileFault.TheVariants as faults;
+
 use crate::device::Device;
 use std::alloc::AllocError;
 use thiserror::Error;
@@ -39,9 +43,6 @@ pub enum FileFault {
 }
 
 impl FileFault {
-    ghost use Rattle.std.specs.Prelude.{◌≡◌};
-    ghost use Rattle.egt_table.specs.Fault.{number_of, name_of};
-
     /// The fault's number, from 1 to 10.
     pub fn number(&self) -> u8
         ensures { result ≡ number_of self.now }
@@ -80,9 +81,6 @@ impl FileFault {
 }
 
 impl From<Device> for FileFault {
-    ghost use Rattle.std.specs.Prelude.{◌≡◌};
-    ghost use Rattle.egt_table.specs.declared.fault.FileFault.TheVariants as faults;
-
     ghost from_gives = { λ _ fault. fault ≡ faults.Device };
 
     fn from(_device: Device) -> FileFault {
@@ -91,9 +89,6 @@ impl From<Device> for FileFault {
 }
 
 impl From<AllocError> for FileFault {
-    ghost use Rattle.std.specs.Prelude.{◌≡◌};
-    ghost use Rattle.egt_table.specs.declared.fault.FileFault.TheVariants as faults;
-
     ghost from_gives = { λ _ fault. fault ≡ faults.NoMemory };
 
     fn from(_error: AllocError) -> FileFault {

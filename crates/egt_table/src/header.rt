@@ -6,8 +6,7 @@ ghost use Rattle.egt_table.specs.File.{stated_version};
 
 use crate::fault::FileFault;
 use byteorder::{ByteOrder, LittleEndian};
-use egt_class::Class;
-use egt_index::size;
+use egt_class::{Class, size};
 
 /// How many bytes a header has.
 pub(crate) const LENGTH: usize = 16;

@@ -3,8 +3,7 @@ ghost use Rattle.std.specs.Prelude.{◌≡◌, ◌<◌, ◌^◌, ℕ, List, leng
 ghost use Rattle.egt_table.specs.Prelude.{little_bytes, little_number, AreBytes, bytes_of, file_fault, EntriesFit};
 ghost use Rattle.egt_table.specs.Prelude.{EntriesStand, HeaderStands, IsTable, TableValue};
 
-use egt_class::Class;
-use egt_index::size;
+use egt_class::{Class, size};
 
 /// The bytes of a number, the lowest first, determine it.
 pub fn bytes_tell_their_number()

@@ -1,5 +1,8 @@
 //! Streams over memory.
-ghost use Rattle.std.specs.Prelude.{◌≡◌, [], IfOk};
+ghost use Rattle.std.specs.Io.KnownBytes.{ReadConsumes, WriteAppends};
+ghost use Rattle.std.specs.Prelude.{◌≡◌, [], IfOk, List, ℕ, ◌<◌, ◌≤◌, min, Some, length, IsOk, vec_len, vec_capacity};
+ghost use Rattle.std.specs.Prelude.{◌-◌, OnErr};
+ghost use Rattle.egt_table.specs.Stream.{CountsFailure, Kept};
 
 use crate::device::Device;
 use crate::stream::{Sink, Source};
@@ -13,8 +16,6 @@ pub struct MemorySource<'a> {
 }
 
 impl<'a> Model for MemorySource<'a> {
-    ghost use Rattle.std.specs.Prelude.{List, ℕ};
-
     ghost Value = { List ℕ };
 
     ghost view = { λ s. s.rest.now };
@@ -29,10 +30,6 @@ impl<'a> MemorySource<'a> {
 }
 
 impl Source for MemorySource<'_> {
-    ghost use Rattle.std.specs.Prelude.{◌≡◌, ◌<◌, ◌≤◌, min, Some, length, IfOk, IsOk};
-    ghost use Rattle.std.specs.Io.KnownBytes.{ReadConsumes};
-    ghost use Rattle.egt_table.specs.Stream.{CountsFailure};
-
     ghost left = { λ s. Some s };
 
     ghost failures = { λ _. 0 };
@@ -67,9 +64,6 @@ pub struct MemorySink {
 }
 
 impl Model for MemorySink {
-    ghost use Rattle.std.specs.Prelude.{◌≤◌, vec_len, vec_capacity};
-    ghost use Rattle.egt_table.specs.Stream.{Kept};
-
     ghost Value = { Kept };
 
     ghost view = { λ s. record { bytes = s.bytes.items; room = s.room; failures = s.failures } };
@@ -103,10 +97,6 @@ impl MemorySink {
 }
 
 impl Sink for MemorySink {
-    ghost use Rattle.std.specs.Prelude.{◌≡◌, ◌-◌, ◌<◌, ◌≤◌, min, Some, length, IfOk, OnErr};
-    ghost use Rattle.std.specs.Io.KnownBytes.{WriteAppends};
-    ghost use Rattle.egt_table.specs.Stream.{CountsFailure};
-
     ghost written = { λ s. Some s.bytes };
 
     ghost failures = { λ s. s.failures };

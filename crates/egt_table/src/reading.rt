@@ -10,9 +10,8 @@ use crate::stream::Source;
 use crate::table::Table;
 use crate::transfer::{PIECE, PIECE_BYTES, fill};
 use byteorder::{ByteOrder, LittleEndian};
-use egt_class::Class;
+use egt_class::{Class, size};
 use egt_graph::{Nears, Ranks};
-use egt_index::size;
 use std::alloc::Global;
 
 /// Takes the header off the source, and gives the version that it tells.

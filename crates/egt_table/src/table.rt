@@ -4,9 +4,8 @@ ghost use Rattle.std.specs.Prelude.{IfErr, IsTrue};
 ghost use Rattle.egt_table.specs.Prelude.{size_of, HasColumn, IsTable, columns_of, entries_of, Reach};
 
 use crate::column::Column;
-use egt_class::Class;
+use egt_class::{Class, size};
 use egt_graph::{Nears, Ranks};
-use egt_index::size;
 use std::marker::Model;
 
 /// The table of a class: in each column one entry a code. What the entries say is not judged here.
@@ -27,7 +26,7 @@ pub struct Table {
 
 impl Model for Table {
     ghost use Rattle.std.specs.Prelude.{◌≡◌, ◌<◌, length, IfSome};
-    ghost use Rattle.egt_index.specs.Size.{size_of};
+    ghost use Rattle.egt_class.specs.Size.{size_of};
     ghost use Rattle.egt_table.specs.Table.{TableValue};
 
     ghost Value = { TableValue };

@@ -4,12 +4,10 @@ ghost use Rattle.std.specs.Prelude.{◌≤◌};
 use crate::tool_fault::ToolFault;
 use egt_class::Class;
 use egt_commands::RunFault;
-use egt_commands::line::entries_line;
 use egt_commands::loading::load_below;
-use egt_commands::printer::print;
-use egt_commands::saving::save;
+use egt_commands::saving::keep;
 use egt_sweep::{BuildFault, build};
-use egt_table::Sink;
+use egt_table::{Sink, Table};
 use std::rt::Files;
 
 /// A file that is not there keeps a class from being built by its own name.
@@ -17,6 +15,21 @@ fn of_loading(fault: RunFault) -> ToolFault {
     match fault {
         RunFault::NoFile(child) => ToolFault::Build(BuildFault::Missing(child)),
         other => ToolFault::Run(other),
+    }
+}
+
+/// The table of the class, from those of the folder that it rests on.
+fn built<R: Files + AllocGlobal>(
+    rt: &R,
+    folder: &str,
+    class: Class,
+    limit: u16,
+) -> Result<Table, ToolFault>
+    requires { limit ≤ 32000 }
+{
+    match load_below(rt, folder, class) {
+        Ok(library) => build(rt.alloc(), class, &library, limit).map_err(ToolFault::of_build),
+        Err(fault) => Err(of_loading(fault)),
     }
 }
 
@@ -30,13 +43,8 @@ pub(crate) fn build_table<R: Files + AllocGlobal, O: Sink>(
 ) -> Result<(), ToolFault>
     requires { limit ≤ 32000 }
 {
-    let library = match load_below(rt, folder, class) {
-        Ok(library) => library,
-        Err(fault) => return Err(of_loading(fault)),
-    };
-    match build(rt.alloc(), class, &library, limit) {
-        Ok(table) => save(rt, folder, &table)?,
-        Err(fault) => return Err(ToolFault::of_build(fault)),
+    match built(rt, folder, class, limit) {
+        Ok(table) => Ok(keep(rt, folder, "built", &table, out)?),
+        Err(fault) => Err(fault),
     }
-    Ok(print(out, entries_line(rt.alloc(), "built", class)?.as_bytes())?)
 }

@@ -26,22 +26,41 @@ fn word<'a>(given: &ArgMatches<'a>, name: &str) -> &'a str {
     given.get_str(name).unwrap_or("")
 }
 
-/// The class that the word names.
-fn class_word(given: &ArgMatches<'_>) -> Result<Class, RunFault> {
-    match by_name(word(given, "CLASS")) {
-        Some(class) => Ok(class),
-        None => Err(RunFault::NoSuchClass),
-    }
-}
-
 /// The class that the word names, where there is one.
-fn class_or_all(given: &ArgMatches<'_>) -> Result<Option<Class>, RunFault> {
+fn class_word(given: &ArgMatches<'_>) -> Result<Option<Class>, RunFault> {
     match given.get_str("CLASS") {
         Some(name) => match by_name(name) {
             Some(class) => Ok(Some(class)),
             None => Err(RunFault::NoSuchClass),
         },
         None => Ok(None),
+    }
+}
+
+/// Runs a command that writes no file.
+fn read_only<R: Files + AllocGlobal, I: Source, O: Sink>(
+    rt: &R,
+    name: &str,
+    given: &ArgMatches<'_>,
+    class: Option<Class>,
+    input: &mut I,
+    out: &mut O,
+) -> Result<(), RunFault> {
+    let folder = word(given, "DIR");
+    match (name, class) {
+        ("moves", _) => print_moves(rt.alloc(), word(given, "FEN"), out),
+        ("search", _) => match given.get_one::<u8>("N") {
+            Some(plies) if 1 <= plies && plies <= 6 => {
+                print_mate(rt.alloc(), plies, word(given, "FEN"), out)
+            }
+            _ => Err(RunFault::Usage),
+        },
+        ("list", _) => print_classes(rt.alloc(), out),
+        ("probe", _) => probe_lines(rt, folder, class, input, out),
+        ("check", Some(class)) => check_table(rt, folder, class, out),
+        ("check", None) => check_all(rt, folder, out),
+        ("stats", Some(class)) => print_statistics(rt, folder, class, out),
+        _ => Err(RunFault::Usage),
     }
 }
 
@@ -53,30 +72,13 @@ fn dispatch<R: Files + AllocGlobal, I: Source, O: Sink>(
     out: &mut O,
 ) -> Result<(), ToolFault> {
     let (name, given) = matches.subcommand().ok_or(RunFault::Usage)?;
-    match name {
-        "moves" => Ok(print_moves(rt.alloc(), word(given, "FEN"), out)?),
-        "search" => match given.get_one::<u8>("N") {
-            Some(plies) if 1 <= plies && plies <= 6 => {
-                Ok(print_mate(rt.alloc(), plies, word(given, "FEN"), out)?)
-            }
-            _ => Err(ToolFault::Run(RunFault::Usage)),
-        },
-        "list" => Ok(print_classes(rt.alloc(), out)?),
-        "build" => match given.get_one::<u16>("limit") {
-            None => build_table(rt, word(given, "DIR"), class_word(given)?, LONGEST, out),
-            Some(limit) if limit <= LONGEST => {
-                build_table(rt, word(given, "DIR"), class_word(given)?, limit, out)
-            }
-            Some(_) => Err(ToolFault::Run(RunFault::Usage)),
-        },
-        "probe" => Ok(probe_lines(rt, word(given, "DIR"), class_or_all(given)?, input, out)?),
-        "check" => match class_or_all(given)? {
-            Some(class) => Ok(check_table(rt, word(given, "DIR"), class, out)?),
-            None => Ok(check_all(rt, word(given, "DIR"), out)?),
-        },
-        "migrate" => migrate_table(rt, word(given, "DIR"), class_word(given)?, out),
-        "stats" => Ok(print_statistics(rt, word(given, "DIR"), class_word(given)?, out)?),
-        _ => Err(ToolFault::Run(RunFault::Usage)),
+    let class = class_word(given)?;
+    let folder = word(given, "DIR");
+    let limit = given.get_one::<u16>("limit").unwrap_or(LONGEST);
+    match (name, class) {
+        ("build", Some(class)) if limit <= LONGEST => build_table(rt, folder, class, limit, out),
+        ("migrate", Some(class)) => migrate_table(rt, folder, class, out),
+        _ => Ok(read_only(rt, name, given, class, input, out)?),
     }
 }
 

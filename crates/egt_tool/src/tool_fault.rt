@@ -1,4 +1,10 @@
 //! Why a run ended before all was done.
+ghost use Rattle.std.specs.Prelude.{◌≡◌, ◌≢◌, ℕ};
+ghost use Rattle.egt_commands.specs.declared.run_fault.RunFault.TheVariants as run_faults;
+ghost use Rattle.egt_sweep.specs.declared.build_fault.BuildFault.TheVariants as build_faults;
+ghost use Rattle.egt_sweep.specs.declared.migrate_fault.MigrateFault.TheVariants as migrate_faults;
+ghost use Rattle.egt_tool.specs.declared.tool_fault.ToolFault.TheVariants as faults;
+
 use egt_class::name;
 use egt_commands::{RunFault, Status};
 use egt_sweep::{BuildFault, MigrateFault};
@@ -15,12 +21,6 @@ pub enum ToolFault {
 }
 
 impl ToolFault {
-    ghost use Rattle.std.specs.Prelude.{◌≡◌, ◌≢◌, ℕ};
-    ghost use Rattle.egt_commands.specs.declared.run_fault.RunFault.TheVariants as run_faults;
-    ghost use Rattle.egt_sweep.specs.declared.build_fault.BuildFault.TheVariants as build_faults;
-    ghost use Rattle.egt_sweep.specs.declared.migrate_fault.MigrateFault.TheVariants as migrate_faults;
-    ghost use Rattle.egt_tool.specs.declared.tool_fault.ToolFault.TheVariants as faults;
-
     /// What a fault of the builder ends a run with.
     pub(crate) fn of_build(fault: BuildFault) -> ToolFault {
         match fault {
@@ -82,9 +82,6 @@ impl fmt::Display for ToolFault {
 }
 
 impl From<RunFault> for ToolFault {
-    ghost use Rattle.std.specs.Prelude.{◌≡◌};
-    ghost use Rattle.egt_tool.specs.declared.tool_fault.ToolFault.TheVariants as faults;
-
     ghost from_gives = { λ fault ending. ending ≡ faults.Run fault };
 
     fn from(fault: RunFault) -> ToolFault {
@@ -93,10 +90,6 @@ impl From<RunFault> for ToolFault {
 }
 
 impl From<AllocError> for ToolFault {
-    ghost use Rattle.std.specs.Prelude.{◌≡◌};
-    ghost use Rattle.egt_commands.specs.declared.run_fault.RunFault.TheVariants as run_faults;
-    ghost use Rattle.egt_tool.specs.declared.tool_fault.ToolFault.TheVariants as faults;
-
     ghost from_gives = { λ _ ending. ending ≡ faults.Run run_faults.NoMemory };
 
     fn from(_error: AllocError) -> ToolFault {

@@ -9,6 +9,9 @@ use std::alloc::{AllocError, Global};
 /// The number that `egtb --version` prints. The library for C has it too, as `EGTB_VERSION`.
 pub const VERSION: &str = "1.0";
 
+/// A command, where there was memory for it.
+type Made<'a> = Result<Command<'a>, AllocError>;
+
 /// The word that is a position.
 fn fen_word<'a>(alloc: Global) -> Arg<'a> {
     Arg::new(alloc, "FEN")
@@ -48,7 +51,21 @@ fn limit_word<'a>(alloc: Global) -> Arg<'a> {
         .value_parser(value_parser!(u16).range(0..32001))
 }
 
-fn moves_command<'a>(alloc: Global) -> Result<Command<'a>, AllocError> {
+/// The command with one word more. Here and below what failed is handed on, so that nothing is left to drop where the
+/// next call fails: such proofs are short.
+fn with_word<'a>(command: Made<'a>, word: Arg<'a>) -> Made<'a> {
+    match command {
+        Ok(command) => command.arg(word),
+        Err(fault) => Err(fault),
+    }
+}
+
+/// The command with the words of a folder and a class, which it may do without.
+fn of_class<'a>(alloc: Global, command: Command<'a>, required: bool) -> Made<'a> {
+    with_word(command.arg(folder_word(alloc)), class_word(alloc, required))
+}
+
+fn moves_command<'a>(alloc: Global) -> Made<'a> {
     Command::new(alloc, "moves")
         .about("Prints the legal moves, one a line")
         .after_help(
@@ -58,15 +75,15 @@ fn moves_command<'a>(alloc: Global) -> Result<Command<'a>, AllocError> {
         .arg(fen_word(alloc))
 }
 
-fn search_command<'a>(alloc: Global) -> Result<Command<'a>, AllocError> {
-    Command::new(alloc, "search")
+fn search_command<'a>(alloc: Global) -> Made<'a> {
+    let command = Command::new(alloc, "search")
         .about("Searches for a mate within so many plies")
         .after_help(
             "Example: egtb search 2 \"k7/8/1K6/8/8/8/8/3Q4 b - - 0 1\" prints white mates in 2 plies\n\
              Status: 0 done, 1 the FEN is refused",
         )
-        .arg(plies_word(alloc))?
-        .arg(fen_word(alloc))
+        .arg(plies_word(alloc));
+    with_word(command, fen_word(alloc))
 }
 
 fn list_command<'a>(alloc: Global) -> Command<'a> {
@@ -75,62 +92,56 @@ fn list_command<'a>(alloc: Global) -> Command<'a> {
         .after_help("Example: egtb list prints 36 lines, the first of them 0 KK 1280")
 }
 
-fn build_command<'a>(alloc: Global) -> Result<Command<'a>, AllocError> {
-    Command::new(alloc, "build")
+fn build_command<'a>(alloc: Global) -> Made<'a> {
+    let command = Command::new(alloc, "build")
         .about("Builds the table of a class from those of its children")
         .after_help(
             "Example: egtb build tables KQK, after egtb build tables KK\n\
              Status: 0 the file is written, 1 a file that it needs is not there, is refused or lacks the column of \
              the nearest mates, or a mate is deeper than N",
-        )
-        .arg(folder_word(alloc))?
-        .arg(class_word(alloc, true))?
-        .arg(limit_word(alloc))
+        );
+    with_word(of_class(alloc, command, true), limit_word(alloc))
 }
 
-fn probe_command<'a>(alloc: Global) -> Result<Command<'a>, AllocError> {
-    Command::new(alloc, "probe")
+fn probe_command<'a>(alloc: Global) -> Made<'a> {
+    let command = Command::new(alloc, "probe")
         .about("Reports of each FEN of the standard input, one a line")
         .after_help(
             "Example: echo \"k7/8/1K6/8/8/8/8/3Q4 b - - 0 1\" | egtb probe tables KQK\n\
              Without CLASS the tables of all files in DIR answer\n\
              Status: 0 each line has its report, 1 a file that it needs is not there or is refused",
-        )
-        .arg(folder_word(alloc))?
-        .arg(class_word(alloc, false))
+        );
+    of_class(alloc, command, false)
 }
 
-fn check_command<'a>(alloc: Global) -> Result<Command<'a>, AllocError> {
-    Command::new(alloc, "check")
+fn check_command<'a>(alloc: Global) -> Made<'a> {
+    let command = Command::new(alloc, "check")
         .about("Checks the table of a class and all that it rests on")
         .after_help(
             "Example: egtb check tables KQK prints ok KQK\n\
              Without CLASS it checks all files in DIR\n\
              Status: 0 every entry is right, 1 a file that it needs is not there or is refused",
-        )
-        .arg(folder_word(alloc))?
-        .arg(class_word(alloc, false))
+        );
+    of_class(alloc, command, false)
 }
 
-fn migrate_command<'a>(alloc: Global) -> Result<Command<'a>, AllocError> {
-    Command::new(alloc, "migrate")
+fn migrate_command<'a>(alloc: Global) -> Made<'a> {
+    let command = Command::new(alloc, "migrate")
         .about("Gives the table of a class the column of the nearest mates, if it lacks it")
         .after_help(
             "Example: egtb migrate tables KNK, after egtb migrate tables KK\n\
              Status: 0 the file has the column, 1 a file that it needs is not there, is refused or lacks the column",
-        )
-        .arg(folder_word(alloc))?
-        .arg(class_word(alloc, true))
+        );
+    of_class(alloc, command, true)
 }
 
-fn stats_command<'a>(alloc: Global) -> Result<Command<'a>, AllocError> {
-    Command::new(alloc, "stats")
+fn stats_command<'a>(alloc: Global) -> Made<'a> {
+    let command = Command::new(alloc, "stats")
         .about("Prints how many positions of a class are won, drawn, lost and dead")
         .after_help(
             "Example: egtb stats tables KQK\nStatus: 0 done, 1 a file that it needs is not there or is refused",
-        )
-        .arg(folder_word(alloc))?
-        .arg(class_word(alloc, true))
+        );
+    of_class(alloc, command, true)
 }
 
 /// The program by itself, before it has commands.
@@ -148,12 +159,9 @@ fn program<'a>(alloc: Global) -> Command<'a> {
 }
 
 /// The program with one command more.
-fn with<'a>(
-    program: Command<'a>,
-    command: Result<Command<'a>, AllocError>,
-) -> Result<Command<'a>, AllocError> {
+fn with<'a>(program: Made<'a>, command: Made<'a>) -> Made<'a> {
     match command {
-        Ok(command) => program.subcommand(command),
+        Ok(command) => program?.subcommand(command),
         Err(fault) => Err(fault),
     }
 }
@@ -161,13 +169,12 @@ fn with<'a>(
 /// All commands of the program, of which each run has one, as `clap` reads words by them. Want of memory is the only
 /// fault.
 pub fn command<'a>(alloc: Global) -> Result<Command<'a>, AllocError> {
-    // Each call takes what the one before gave, so that nothing is left to drop where one fails: that proof is short.
-    let program = with(program(alloc), moves_command(alloc))?;
-    let program = with(program, search_command(alloc))?;
-    let program = with(program, Ok(list_command(alloc)))?;
-    let program = with(program, build_command(alloc))?;
-    let program = with(program, check_command(alloc))?;
-    let program = with(program, migrate_command(alloc))?;
-    let program = with(program, probe_command(alloc))?;
+    let program = with(Ok(program(alloc)), moves_command(alloc));
+    let program = with(program, search_command(alloc));
+    let program = with(program, Ok(list_command(alloc)));
+    let program = with(program, build_command(alloc));
+    let program = with(program, check_command(alloc));
+    let program = with(program, migrate_command(alloc));
+    let program = with(program, probe_command(alloc));
     with(program, stats_command(alloc))
 }

@@ -1,6 +1,6 @@
 use Rattle.std.proofs.Common.{◌≡◌, ℕ, List, ◌∷◌, [], ◌++◌, IfSome, arith, sym, ap, subst}
 use Rattle.egt_index.specs.Prelude.{option_to_list, king_of, men_of, Placement, IsFree, Man, White, Black, list_of}
-use Rattle.egt_index.specs.Prelude.{with_entry, Stand}
+use Rattle.egt_index.specs.Prelude.{Stand}
 use Rattle.std.specs.FinMap as map
 use Rattle.egt_index.proofs.Boarding.{apart_before, entry_free, entry_put, one_at_most, two_at_most}
 use Rattle.egt_index.proofs.spelling.board_of.Goals.{After-with_entry}

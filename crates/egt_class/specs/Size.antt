@@ -1,13 +1,14 @@
 -- The digits of a class's codes, and how many codes they make.
-use Rattle.std.specs.Prelude.{ℕ, ◌&&◌, Bool, if◌then◌else◌, List, [], ◌∷◌, ◌++◌, map}
-use Rattle.egt_class.specs.Prelude.{list_any, king_of, Material, material_of}
+use Rattle.std.specs.Prelude.{ℕ, ◌*◌, ◌&&◌, Bool, if◌then◌else◌, List, [], ◌∷◌, ◌++◌, map}
+use Rattle.std.specs.List.{list_any}
+use Rattle.egt_board.specs.Attack.{king_of}
 use Rattle.egt_board.specs.declared.man.Side.{Side}
 use Rattle.egt_board.specs.declared.man.Side.TheVariants.{White, Black}
 use Rattle.egt_board.specs.declared.man.Kind.{Kind}
 use Rattle.egt_board.specs.declared.man.Kind.TheVariants.{Q, R, B, N, P, K}
 use Rattle.egt_board.specs.declared.man.Man.{Man}
-use Rattle.egt_class.specs.Material.{is_kind}
-use Rattle.egt_index.specs.Digits.{product}
+use Rattle.egt_class.specs.Material.{Material, is_kind, material_of}
+use Rattle.egt_class.specs.Children.{man_of}
 
 abbrev pub has_pawn : List Kind → Bool
 has_pawn kinds = list_any (is_kind P) kinds
@@ -18,9 +19,6 @@ has_pawns m = has_pawn (m.strong ++ m.weak)
 -- a target needs a pawn that advanced and a pawn that may take it
 abbrev pub has_target : Material → Bool
 has_target m = has_pawn m.strong && has_pawn m.weak
-
-abbrev pub man_of : Side → Kind → Man
-man_of side kind = record { side = side; kind = kind }
 
 -- the men beside the kings in the order of the name
 abbrev pub men_beside : Material → List Man
@@ -54,6 +52,11 @@ men_bases m = map (base_of (has_pawns m)) (men_in_order m)
 -- behind them come the side to move and, where there may be one, the target
 abbrev pub bases : Material → List ℕ
 bases m = men_bases m ++ 2 ∷ (if has_target m then 2 ∷ [] else [])
+
+-- how many numbers digits of these bases spell
+abbrev pub product : List ℕ → ℕ
+product [] = 1
+product (base ∷ bases) = base * product bases
 
 -- how many codes a class has
 unfoldable pub size_of : ℕ → ℕ

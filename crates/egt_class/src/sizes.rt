@@ -1,8 +1,8 @@
 //! How many codes each class has.
 ghost use Rattle.std.specs.Prelude.{◌≡◌};
-ghost use Rattle.egt_index.specs.Prelude.{size_of};
+ghost use Rattle.egt_class.specs.Prelude.{size_of};
 
-use egt_class::Class;
+use crate::class::Class;
 
 /// The sizes in order of the classes' numbers.
 static SIZES: [u32; 36] = [

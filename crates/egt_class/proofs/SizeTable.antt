@@ -1,6 +1,6 @@
 -- The table of sizes is right at each class.
 use Rattle.std.specs.Prelude.{◌≡◌, ℕ, ◌<◌, ◌==◌, Bool, true, refl, slice_index}
-use Rattle.egt_index.specs.Prelude.{eqb-true, all_below, passes_below, materials, material_of, size_of, SIZES}
+use Rattle.egt_class.specs.Prelude.{eqb-true, all_below, passes_below, materials, material_of, size_of, SIZES}
 
 abbrev is_right : ℕ → Bool
 is_right c = slice_index SIZES c == size_of c
