@@ -5,8 +5,8 @@
  *
  *     cc -std=c99 -o engine engine.c $(pkg-config --cflags --libs egtb)
  *
- * Without it, where `rt lib` was run in crates/egt_c (from nothing that takes as long as the first call of scripts/egtb: 15 to 31 minutes;
- * KIT is the toolchain's folder):
+ * Without it, behind `scripts/prove egt_c` (from nothing that takes as long as the first call of scripts/egtb; KIT is the toolchain's
+ * folder):
  *
  *     cc -std=c99 -I crates/egt_c -o engine engine.c crates/egt_c/out/libegt_c.a KIT/c/liblibc_c.a
  *

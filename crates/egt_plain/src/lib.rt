@@ -1,34 +1,20 @@
 //! The base of the crates of tests. Plain tables of the first six classes: every position by its own code, with no
 //! symmetry, solved by sweeps forward, from the rules of play alone (`filling` and `shelf` alone ask for indexes
 //! and sizes, and put the entries there). The table of two kings by the rule of kings alone; tables' files and
-//! libraries; runs by rounds in whatever order. And the tests over the public calls of the rules, of games, tables,
-//! their files and the checker: the crates that the program stands on have none, since a crate with tests is proved
-//! twice.
+//! libraries; runs by rounds in whatever order. It has no tests, since a crate with tests is proved twice.
 #![tactic(auto)]
 
-#[cfg(test)]
-mod asserts;
-#[cfg(test)]
-mod check;
 mod code;
 mod filling;
-#[cfg(test)]
-mod graph;
 pub mod kings;
 mod mates;
 mod moves;
 mod outcome;
-#[cfg(test)]
-mod plain;
 mod reach;
-#[cfg(test)]
-mod rules;
 pub mod runs;
 pub mod shelf;
 mod solving;
 pub mod steps;
-#[cfg(test)]
-mod table;
 mod tables;
 mod zeroing;
 

@@ -1,11 +1,11 @@
 //! Reading of files, and the fault that other bytes have.
 use super::has_kings;
 use crate::asserts::{agree, require, require_at};
-use crate::kings::{
+use egt_class::Class;
+use egt_plain::kings::{
     LENGTH, class, flip, kings_file, table_with, whole_kings_file, whole_table_with,
 };
-use crate::shelf::{entry_of, file_of};
-use egt_class::Class;
+use egt_plain::shelf::{entry_of, file_of};
 use egt_table::{Column, Device, FailingSource, FileFault, MemorySource, Source, Table};
 use std::alloc::Global;
 use std::test::*;

@@ -2,8 +2,8 @@
 ghost use Rattle.std.specs.Prelude.{◌<◌};
 
 use crate::asserts::{agree, require_at};
-use crate::{PlainPosition, PlainTables, plain_code};
 use egt_board::{Kind, Man, Position, Side, Square};
+use egt_plain::{PlainPosition, PlainTables, plain_code};
 use egt_table::Column;
 use std::test::*;
 

@@ -1,12 +1,12 @@
 //! Wins that lean on each other in a circle: each move of the one side leads on to one, and none ends in mate.
 use crate::asserts::require;
-use crate::{PlainTables, table_of};
 use egt_board::{Position, Side};
 use egt_check::{Library, Reject, Rule, check};
 use egt_class::{Class, of};
 use egt_graph::Ranks;
 use egt_index::{index, position, size};
 use egt_moves::{Move, legal_moves, play};
+use egt_plain::{PlainTables, table_of};
 use egt_table::{Column, Table};
 use std::alloc::Global;
 use std::test::*;

@@ -1,11 +1,11 @@
 //! The checker's answers to tables that are not true.
 use crate::asserts::{agree, require, require_at};
-use crate::kings::{table_with, whole_table_with};
-use crate::shelf::library_of;
-use crate::{PlainTables, table_of};
 use egt_check::{Library, Reject, Rule, check};
 use egt_class::Class;
 use egt_graph::{Nears, Ranks};
+use egt_plain::kings::{table_with, whole_table_with};
+use egt_plain::shelf::library_of;
+use egt_plain::{PlainTables, table_of};
 use egt_table::{Column, Table};
 use std::alloc::Global;
 use std::test::*;

@@ -1,11 +1,11 @@
 //! Tables put into a library and taken from it.
 use super::refused::rejected;
-use crate::PlainTables;
 use crate::asserts::{agree, require};
-use crate::kings::table_with;
-use crate::shelf::{entry_of, library_of, whole_library_of};
 use egt_check::{Library, Reject, Rule};
 use egt_class::Class;
+use egt_plain::PlainTables;
+use egt_plain::kings::table_with;
+use egt_plain::shelf::{entry_of, library_of, whole_library_of};
 use egt_table::Column;
 use std::test::*;
 

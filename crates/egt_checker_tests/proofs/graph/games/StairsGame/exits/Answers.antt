@@ -1,9 +1,9 @@
 use Rattle.std.proofs.Common.{ℕ, filter, take, length, ap, arith}
 use Rattle.std.proofs.lemmas.List.{length-map, length-take}
 use Rattle.std.proofs.lemmas.List.Sums.{length-filter, count_by-le-length}
-use Rattle.egt_plain.specs.Stairs.{is_exit_of}
+use Rattle.egt_checker_tests.specs.Stairs.{is_exit_of}
 use Rattle.egt_graph.specs.declared.game.Exit.{Exit}
-use Rattle.egt_plain.proofs.graph.games.StairsGame.exits.Goals as goal
+use Rattle.egt_checker_tests.proofs.graph.games.StairsGame.exits.Goals as goal
 
 pub push-requires : goal.push-requires
 push-requires c =

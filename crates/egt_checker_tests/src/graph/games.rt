@@ -1,6 +1,6 @@
 //! Stairs, and a game that counts what it is asked.
 ghost use Rattle.std.specs.Prelude.{◌≡◌, ◌+◌, ◌<◌, ◌≤◌, ◌^◌, length};
-ghost use Rattle.egt_plain.specs.Stairs.{stairs, stairs_are_a_game, is_short};
+ghost use Rattle.egt_checker_tests.specs.Stairs.{stairs, stairs_are_a_game, is_short};
 
 use arrayvec::ArrayVec;
 use egt_graph::{Exit, Game, NoMemory, Ranks};

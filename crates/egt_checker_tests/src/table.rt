@@ -3,8 +3,8 @@ mod reading;
 mod streams;
 mod writing;
 
-use crate::kings::{SIZE, entry};
-use crate::shelf::entry_of;
+use egt_plain::kings::{SIZE, entry};
+use egt_plain::shelf::entry_of;
 use egt_table::{Column, Table};
 
 /// Whether the column has the entries of two kings, from a code on.

@@ -4,10 +4,10 @@ ghost use Rattle.std.specs.Prelude.{◌≡◌};
 use super::games::{Counted, STAIRS, Stairs, are_stair_ranks};
 use super::hand_made::STALEMATE;
 use crate::asserts::{agree, require};
-use crate::runs::{
+use egt_graph::{Close, Post, Rounds, solve};
+use egt_plain::runs::{
     expand, is_posted, played, post_all, post_block, with_draws, with_held, with_losses,
 };
-use egt_graph::{Close, Post, Rounds, solve};
 use std::alloc::Global;
 use std::process::Abort;
 use std::test::*;

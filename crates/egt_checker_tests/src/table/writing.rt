@@ -1,7 +1,7 @@
 //! The bytes of a file as written.
 use crate::asserts::{agree, require, require_at};
-use crate::kings::{LENGTH, kings_file, table_with, whole_kings_file};
-use crate::shelf::file_of;
+use egt_plain::kings::{LENGTH, kings_file, table_with, whole_kings_file};
+use egt_plain::shelf::file_of;
 use egt_table::{Device, FailingSink, MemorySink, Sink, Table};
 use std::alloc::Global;
 use std::test::*;

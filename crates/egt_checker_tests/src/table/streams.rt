@@ -3,8 +3,8 @@ ghost use Rattle.std.specs.Prelude.{◌<◌};
 
 use super::has_kings;
 use crate::asserts::{require, require_at};
-use crate::kings::{LENGTH, class, kings_file, table_with};
-use crate::shelf::entry_of;
+use egt_plain::kings::{LENGTH, class, kings_file, table_with};
+use egt_plain::shelf::entry_of;
 use egt_table::{Column, Device, FromStd, MemorySink, MemorySource, Sink, Source, Table, ToStd};
 use std::alloc::Global;
 use std::fs;
