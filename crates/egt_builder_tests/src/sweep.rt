@@ -15,8 +15,7 @@ ghost use Rattle.egt_sweep.specs.MateColumn.{AreMateRanks};
 use egt_check::Library;
 use egt_class::Class;
 use egt_graph::{Ranks, solve};
-use egt_index::size;
-use egt_plain::shelf::named;
+use egt_plain::shelf::{file_of, named};
 use egt_sweep::{BuildFault, MateGame, build};
 use egt_table::{Column, Table};
 use std::alloc::Global;
@@ -48,11 +47,22 @@ fn built_over(
     Ok(build(alloc, named(name)?, &library, limit))
 }
 
+/// How many entries are the number.
+fn count(entries: &[u16], number: u16) -> usize {
+    entries.iter().filter(|entry| **entry == number).count()
+}
+
+/// Whether the files of both tables are the same, byte for byte.
+fn have_one_file(alloc: Global, one: &Table, other: &Table) -> Result<bool, Fail> {
+    let file = file_of(alloc, one)?;
+    let same = file_of(alloc, other)?;
+    Ok(file.as_slice() == same.as_slice())
+}
+
 /// The number of plies of the longest win.
 fn longest_win(table: &Table) -> u16 {
     let mut longest = 0;
-    for code in 0..size(table.class()) {
-        let entry = table.entry(Column::Mate, code);
+    for &entry in table.entries(Column::Mate) {
         if entry >= 4 && entry % 2 == 0 {
             longest = longest.max(entry / 2 - 1);
         }

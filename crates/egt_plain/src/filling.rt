@@ -180,6 +180,13 @@ pub fn table_of(alloc: Global, tables: &PlainTables, class: u8) -> Result<Table,
     }
 }
 
+/// The column of the nearest mates of a class that was solved.
+fn reaches(alloc: Global, tables: &PlainTables, class: Class) -> Result<Nears, Unlike> {
+    let indexes = indexes(alloc, class.number())?;
+    let entries = tables.entries(usize::from(class.number()), Column::Reach);
+    Ok(Nears::from_entries(filled(alloc, class, &indexes, entries)?))
+}
+
 /// The product's table of a class that was solved, by number, with all three columns.
 ///
 /// # Errors
@@ -187,9 +194,8 @@ pub fn table_of(alloc: Global, tables: &PlainTables, class: u8) -> Result<Table,
 /// What `table_of` refuses.
 pub fn whole_table_of(alloc: Global, tables: &PlainTables, class: u8) -> Result<Table, Unlike> {
     let table = table_of(alloc, tables, class)?;
-    let reach = tables.entries(usize::from(class), Column::Reach);
-    let reach = filled(alloc, table.class(), &indexes(alloc, class)?, reach)?;
-    match table.with_reach(Nears::from_entries(reach)) {
+    let reaches = reaches(alloc, tables, table.class())?;
+    match table.with_reach(reaches) {
         Ok(table) => Ok(table),
         Err(_both) => Err(Unlike::Position),
     }

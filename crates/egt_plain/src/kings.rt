@@ -132,10 +132,12 @@ fn changed(mut entries: Vec<u16>, changes: &[(u32, u16)]) -> Vec<u16> {
 
 /// The file of the table of two kings.
 pub fn kings_file(alloc: Global) -> Result<Vec<u8>, Fail> {
-    file_of(alloc, &table_with(alloc, &[], &[])?)
+    let table = table_with(alloc, &[], &[])?;
+    file_of(alloc, &table)
 }
 
 /// The file of their table with the column of the nearest mates.
 pub fn whole_kings_file(alloc: Global) -> Result<Vec<u8>, Fail> {
-    file_of(alloc, &whole_table_with(alloc, &[], &[], &[])?)
+    let table = whole_table_with(alloc, &[], &[], &[])?;
+    file_of(alloc, &table)
 }

@@ -68,26 +68,6 @@ fn ranks_of<G: Game>(rounds: Rounds<'_, G>) -> Result<Ranks, Fail> {
     Ok(rounds.into_ranks().ok().ok_or("the run is over")?)
 }
 
-/// Goes on from the present round with the blocks posted in this order, to the ranks in the end.
-fn finished<G: Game>(
-    alloc: Global,
-    mut rounds: Rounds<'_, G>,
-    order: &[u32],
-) -> Result<Ranks, Fail> {
-    for _round in 0..ROUNDS {
-        post_all(alloc, &mut rounds, order)?;
-        if !goes_on(&mut rounds)? {
-            return ranks_of(rounds);
-        }
-    }
-    Err(Fail::from("a run without end"))
-}
-
-/// The ranks by rounds in which the blocks are posted in this order.
-pub fn played<G: Game>(alloc: Global, game: &G, order: &[u32]) -> Result<Ranks, Fail> {
-    finished(alloc, Rounds::new(alloc, game, 32_000)?, order)
-}
-
 /// What is answered to a second post of a block, to a close before the last block is posted, and to its post.
 fn first_round<G: Game>(
     alloc: Global,
@@ -106,6 +86,20 @@ fn first_round<G: Game>(
     Ok((repeated, close, post_block(alloc, rounds, *last)?))
 }
 
+/// The first rounds of a run that holds a batch: what is answered in the first, and to the batch in the second.
+fn hold<G: Game>(
+    alloc: Global,
+    rounds: &mut Rounds<'_, G>,
+    order: &[u32],
+    again: u32,
+    held: u32,
+) -> Result<((Post, Close, Post), Post), Fail> {
+    let batch = expand(alloc, rounds, held)?;
+    let answers = first_round(alloc, rounds, order, again)?;
+    goes_on(rounds)?;
+    Ok((answers, rounds.post(batch)))
+}
+
 /// What is answered in a run whose first round posts one block a second time, and whose second a batch of the first
 /// that was held: to both, to a close before the last block of the first round is posted, and to its post. And the
 /// ranks in the end.
@@ -117,11 +111,9 @@ pub fn with_held<G: Game>(
     held: u32,
 ) -> Result<((Post, Close, Post), Post, Ranks), Fail> {
     let mut rounds = Rounds::new(alloc, game, 32_000)?;
-    let held = expand(alloc, &rounds, held)?;
-    let answers = first_round(alloc, &mut rounds, order, again)?;
-    goes_on(&mut rounds)?;
-    let late = rounds.post(held);
-    Ok((answers, late, finished(alloc, rounds, order)?))
+    let (answers, late) = hold(alloc, &mut rounds, order, again, held)?;
+    go_on(alloc, &mut rounds, Order::Listed(order))?;
+    Ok((answers, late, ranks_of(rounds)?))
 }
 
 /// Expands every block and posts the odd ones; the other batches are lost. Answers whether just the odd ones count as
@@ -147,38 +139,27 @@ fn lose_even_batches<G: Game>(
     Ok(odd)
 }
 
-/// A round with lost batches: whether just the odd ones count as posted, and what is answered to a close and to a
-/// second post before the others are made again.
+/// A round with lost batches: just the odd ones count as posted, a close and a second post are answered by that, and
+/// then the others are made again.
 fn play_with_losses<G: Game>(
     alloc: Global,
     rounds: &mut Rounds<'_, G>,
     blocks: &[u32],
-) -> Result<(bool, Close, Post), Fail>
+) -> Result<(), Fail>
     ensures { rounds.new.game ≡ rounds.old.game }
 {
     let odd = lose_even_batches(alloc, rounds, blocks)?;
     let close = rounds.close();
     let again = post_block(alloc, rounds, 1)?;
+    if (odd, close, again) != (true, Close::NotAll, Post::Repeat) {
+        return Err(Fail::from("a lost batch counts as posted"));
+    }
     for block in blocks {
         if block % 2 == 0 {
             post_block(alloc, rounds, *block)?;
         }
     }
-    Ok((odd, close, again))
-}
-
-/// The ranks by rounds in each of which the batches of the even blocks are lost and made again.
-pub fn with_losses<G: Game>(alloc: Global, game: &G, blocks: &[u32]) -> Result<Ranks, Fail> {
-    let mut rounds = Rounds::new(alloc, game, 32_000)?;
-    for _round in 0..ROUNDS {
-        if play_with_losses(alloc, &mut rounds, blocks)? != (true, Close::NotAll, Post::Repeat) {
-            return Err(Fail::from("a lost batch counts as posted"));
-        }
-        if !goes_on(&mut rounds)? {
-            return ranks_of(rounds);
-        }
-    }
-    Err(Fail::from("a run without end"))
+    Ok(())
 }
 
 fn are_posted<G: Game>(rounds: &Rounds<'_, G>) -> bool {
@@ -218,15 +199,51 @@ fn draw_round<G: Game>(alloc: Global, rounds: &mut Rounds<'_, G>, from: u64) -> 
     Err(Fail::from("a block is never drawn"))
 }
 
-/// The ranks by rounds in which blocks are drawn until none is missing.
-pub fn with_draws<G: Game>(alloc: Global, game: &G) -> Result<Ranks, Fail> {
-    let mut rounds = Rounds::new(alloc, game, 32_000)?;
-    let mut x = 1;
+/// How the blocks of each round are posted.
+#[derive(Clone, Copy)]
+pub enum Order<'a> {
+    /// These, one after the other.
+    Listed(&'a [u32]),
+    /// These, where the batches of even ones are lost and made again.
+    EvenLost(&'a [u32]),
+    /// Those that are drawn by this number and the next ones, until none is missing.
+    Drawn(u64),
+}
+
+fn post_round<G: Game>(
+    alloc: Global,
+    rounds: &mut Rounds<'_, G>,
+    order: &mut Order<'_>,
+) -> Result<(), Fail> {
+    match order {
+        Order::Listed(blocks) => post_all(alloc, rounds, blocks),
+        Order::EvenLost(blocks) => play_with_losses(alloc, rounds, blocks),
+        Order::Drawn(x) => {
+            *x = draw_round(alloc, rounds, *x)?;
+            Ok(())
+        }
+    }
+}
+
+/// Goes on from the present round until the run is over. It is lent, so that nothing is left to drop where a call fails:
+/// such proofs are short.
+fn go_on<G: Game>(
+    alloc: Global,
+    rounds: &mut Rounds<'_, G>,
+    mut order: Order<'_>,
+) -> Result<(), Fail> {
     for _round in 0..ROUNDS {
-        x = draw_round(alloc, &mut rounds, x)?;
-        if !goes_on(&mut rounds)? {
-            return ranks_of(rounds);
+        post_round(alloc, rounds, &mut order)?;
+        if !goes_on(rounds)? {
+            return Ok(());
         }
     }
     Err(Fail::from("a run without end"))
+}
+
+/// The ranks by rounds in which the blocks are posted so.
+pub fn played<G: Game>(alloc: Global, game: &G, order: Order<'_>) -> Result<Ranks, Fail> {
+    let mut rounds = Rounds::new(alloc, game, 32_000)?;
+    go_on(alloc, &mut rounds, order)?;
+    ranks_of(rounds)
 }

@@ -10,6 +10,9 @@ mod saving;
 mod search;
 mod words;
 
+use egt_plain::kings::{kings_file, whole_kings_file};
+use egt_plain::shelf::file_of;
+use egt_plain::{PlainTables, table_of, whole_table_of};
 use egt_table::{FailingSink, MemorySink, MemorySource};
 use egt_tool::run;
 use std::alloc::Global;
@@ -148,6 +151,33 @@ fn put(rt: &HostRuntime, folder: &str, file: &str, bytes: &[u8]) -> Result<(), F
     let path = format!(in rt.alloc(); "{folder}/{file}")?;
     fs::write(rt, path.as_str(), bytes)?;
     Ok(())
+}
+
+/// Writes the folder's file of two kings, with the column of the nearest mates where `whole`.
+fn put_kings(rt: &HostRuntime, folder: &str, whole: bool) -> Result<(), Fail> {
+    let file = if whole {
+        whole_kings_file(rt.alloc())?
+    } else {
+        kings_file(rt.alloc())?
+    };
+    put(rt, folder, "KK.egt", &file)
+}
+
+/// Whether that file is the one with the column.
+fn has_whole_kings(rt: &HostRuntime, folder: &str) -> Result<bool, Fail> {
+    let file = whole_kings_file(rt.alloc())?;
+    holds(rt, folder, "KK.egt", &file)
+}
+
+/// The file of KNK by plain sweeps, with the column of the nearest mates where `whole`.
+fn knight_file(alloc: Global, whole: bool) -> Result<Vec<u8>, Fail> {
+    let tables = PlainTables::solve(alloc, 5)?;
+    let table = if whole {
+        whole_table_of(alloc, &tables, 4)?
+    } else {
+        table_of(alloc, &tables, 4)?
+    };
+    file_of(alloc, &table)
 }
 
 /// The bytes with another at one place.

@@ -10,8 +10,9 @@ use egt_table::{Column, Table};
 use std::alloc::Global;
 use std::test::*;
 
-/// The table, or a failed test.
-fn made(answer: Result<Table, BuildFault>) -> Result<Table, Fail> {
+/// The table of a class of three men that is built over two kings, within so many plies.
+fn built_within(alloc: Global, name: &str, limit: u16) -> Result<Table, Fail> {
+    let answer = built_over(alloc, &["KK"], name, limit)?;
     Ok(answer?)
 }
 
@@ -47,21 +48,26 @@ fn a_queen_mates_within_ten_moves(rt: HostRuntime) -> Result<(), Fail> {
     Ok(())
 }
 
+/// Why a class is not built over these tables; `None` where it is.
+fn fault(
+    alloc: Global,
+    names: &[&str],
+    name: &str,
+    limit: u16,
+) -> Result<Option<BuildFault>, Fail> {
+    Ok(built_over(alloc, names, name, limit)?.err())
+}
+
 #[test]
 fn some_need_more_than_nine_moves(rt: HostRuntime) -> Result<(), Fail> {
-    let answer = built_over(rt.alloc(), &["KK"], "KQK", 18)?;
-    let Err(fault) = answer else {
-        return Err(Fail::from("built within eighteen plies"));
-    };
-    agree(&rt, fault, BuildFault::TooDeep(18));
-    agree(&rt, fault.number(), 2);
-    agree(&rt, fault.name(), "TooDeep");
+    let fault = fault(rt.alloc(), &["KK"], "KQK", 18)?;
+    agree(&rt, fault, Some(BuildFault::TooDeep(18)));
     Ok(())
 }
 
 #[test]
 fn a_rook_mates_within_sixteen_moves(rt: HostRuntime) -> Result<(), Fail> {
-    let table = made(built_over(rt.alloc(), &["KK"], "KRK", 32_000)?)?;
+    let table = built_within(rt.alloc(), "KRK", 32_000)?;
     agree(&rt, longest_win(&table), 31);
     Ok(())
 }
@@ -96,25 +102,17 @@ fn a_pawn_zeroes_before_it_mates(rt: HostRuntime) -> Result<(), Fail> {
     agree(&rt, check(&table, &library), Ok(()));
     agree(&rt, entry_of(&table, Column::Mate, 164_434), Some(8));
     agree(&rt, entry_of(&table, Column::Zeroing, 164_434), Some(4));
-    require(&rt, have(&file_of(rt.alloc(), &table)?, &PAWN_BYTES));
+    let bytes = file_of(rt.alloc(), &table)?;
+    require(&rt, have(&bytes, &PAWN_BYTES));
     Ok(())
 }
 
 #[test]
 fn the_least_child_is_missing(rt: HostRuntime) -> Result<(), Fail> {
-    let library = Library::new(rt.alloc())?;
-    let Err(fault) = build(rt.alloc(), named("KPK")?, &library, 32_000) else {
-        return Err(Fail::from("built without children"));
-    };
-    agree(&rt, fault, BuildFault::Missing(named("KK")?));
-    agree(&rt, fault.number(), 3);
-    agree(&rt, fault.name(), "Missing");
-
-    // With the kings and a queen there, the rook's table is the next.
-    let Err(fault) = built_over(rt.alloc(), &["KK", "KQK"], "KPK", 32_000)? else {
-        return Err(Fail::from("built without a rook's table"));
-    };
-    agree(&rt, fault, BuildFault::Missing(named("KRK")?));
+    let kings = fault(rt.alloc(), &[], "KPK", 32_000)?;
+    agree(&rt, kings, Some(BuildFault::Missing(named("KK")?)));
+    let rook = fault(rt.alloc(), &["KK", "KQK"], "KPK", 32_000)?;
+    agree(&rt, rook, Some(BuildFault::Missing(named("KRK")?)));
     Ok(())
 }
 
@@ -131,7 +129,7 @@ const QUEEN_BYTES: [(usize, &[u8]); 3] = [
 
 #[test]
 fn the_file_of_a_queen(rt: HostRuntime) -> Result<(), Fail> {
-    let table = made(built_over(rt.alloc(), &["KK"], "KQK", 20)?)?;
+    let table = built_within(rt.alloc(), "KQK", 20)?;
     let bytes = file_of(rt.alloc(), &table)?;
     agree(&rt, bytes.len(), 491_536);
     let header = [
@@ -142,12 +140,12 @@ fn the_file_of_a_queen(rt: HostRuntime) -> Result<(), Fail> {
     Ok(())
 }
 
-/// The table without the column of the nearest mates.
-fn without_reach(alloc: Global, table: &Table) -> Result<Table, Fail> {
+/// The file of the table without the column of the nearest mates.
+fn short_file(alloc: Global, table: &Table) -> Result<Vec<u8>, Fail> {
     let mate = Ranks::from_entries(Vec::from_slice(alloc, table.entries(Column::Mate))?);
     let zeroing = Ranks::from_entries(Vec::from_slice(alloc, table.entries(Column::Zeroing))?);
     match Table::from_ranks(table.class(), mate, zeroing) {
-        Ok(table) => Ok(table),
+        Ok(table) => file_of(alloc, &table),
         Err(_columns) => Err(Fail::from("a column of another length")),
     }
 }
@@ -155,8 +153,8 @@ fn without_reach(alloc: Global, table: &Table) -> Result<Table, Fail> {
 // In version 1 the first two columns stand where they do in version 2, and the file ends behind them.
 #[test]
 fn the_file_of_a_queen_without_the_third_column(rt: HostRuntime) -> Result<(), Fail> {
-    let table = made(built_over(rt.alloc(), &["KK"], "KQK", 20)?)?;
-    let bytes = file_of(rt.alloc(), &without_reach(rt.alloc(), &table)?)?;
+    let table = built_within(rt.alloc(), "KQK", 20)?;
+    let bytes = short_file(rt.alloc(), &table)?;
     agree(&rt, bytes.len(), 327_696);
     let header = [
         0x45, 0x47, 0x54, 0x42, 1, 0, 1, 0, 1, 0, 2, 0, 0, 0x40, 1, 0,

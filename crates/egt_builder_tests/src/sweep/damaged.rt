@@ -62,7 +62,8 @@ fn named_first(
     library: &Library,
     change: Change,
 ) -> Option<(Column, u32)> {
-    match check(&damaged(alloc, table, change)?, library) {
+    let damaged = damaged(alloc, table, change)?;
+    match check(&damaged, library) {
         Err(Reject::Rejected { column, index, .. }) => Some((column, index)),
         _ => None,
     }

@@ -1,9 +1,5 @@
 //! Both games of classes of few men, solved.
-ghost use Rattle.std.specs.Prelude.{◌≤◌};
-ghost use Rattle.egt_entries.specs.Tables.{table_at};
-ghost use Rattle.egt_sweep.specs.MateColumn.{AreMateRanks};
-
-use super::{built, mates};
+use super::{built, count, mates};
 use crate::asserts::agree;
 use egt_check::Library;
 use egt_class::Class;
@@ -13,27 +9,14 @@ use egt_sweep::{MateGame, Missing, ZeroGame};
 use std::alloc::Global;
 use std::test::*;
 
-/// How many entries are the number.
-fn count(ranks: &Ranks, number: u16) -> usize {
-    ranks
-        .entries()
-        .iter()
-        .filter(|entry| **entry == number)
-        .count()
-}
-
-/// What solving the class's game of mates within a limit answers.
+/// What solving the class's game of mates answers, where none may take a ply.
 fn solved_mates(
     alloc: Global,
     class: Class,
     library: &Library,
-    limit: u16,
 ) -> Result<Result<Ranks, SolveFault>, Fail> {
-    if limit > 32_000 {
-        return Err(Fail::from("no limit is above 32,000"));
-    }
     match MateGame::new(class, library) {
-        Ok(game) => Ok(solve(alloc, &game, limit)),
+        Ok(game) => Ok(solve(alloc, &game, 0)),
         Err(_missing) => Err(Fail::from("a child is missing")),
     }
 }
@@ -43,28 +26,10 @@ fn solved_zeroing(
     alloc: Global,
     class: Class,
     library: &Library,
-    limit: u16,
 ) -> Result<Result<Ranks, SolveFault>, Fail> {
-    if limit > 32_000 {
-        return Err(Fail::from("no limit is above 32,000"));
-    }
     let ranks = mates(alloc, class, library)?;
-    zeroing_over(alloc, class, library, &ranks, limit)
-}
-
-/// What solving its game of zeroing moves over these ranks of its game of mates answers.
-fn zeroing_over<'x>(
-    alloc: Global,
-    class: Class,
-    library: &'x Library,
-    ranks: &'x Ranks,
-    limit: u16,
-) -> Result<Result<Ranks, SolveFault>, Fail>
-    requires limit { limit ≤ 32000 }
-    requires ranks { AreMateRanks (table_at library.now) class ranks.now }
-{
-    match ZeroGame::new(class, library, ranks) {
-        Ok(game) => Ok(solve(alloc, &game, limit)),
+    match ZeroGame::new(class, library, &ranks) {
+        Ok(game) => Ok(solve(alloc, &game, 0)),
         Err(_missing) => Err(Fail::from("a child is missing")),
     }
 }
@@ -73,12 +38,12 @@ fn zeroing_over<'x>(
 fn two_kings_draw(rt: HostRuntime) -> Result<(), Fail> {
     let library = Library::new(rt.alloc())?;
     let class = named("KK")?;
-    let mate = solved_mates(rt.alloc(), class, &library, 0)??;
-    agree(&rt, count(&mate, 1), 462);
-    agree(&rt, count(&mate, 0), 818);
-    let zeroing = solved_zeroing(rt.alloc(), class, &library, 0)??;
-    agree(&rt, count(&zeroing, 1), 462);
-    agree(&rt, count(&zeroing, 0), 818);
+    let mate = solved_mates(rt.alloc(), class, &library)??;
+    agree(&rt, count(mate.entries(), 1), 462);
+    agree(&rt, count(mate.entries(), 0), 818);
+    let zeroing = solved_zeroing(rt.alloc(), class, &library)??;
+    agree(&rt, count(zeroing.entries(), 1), 462);
+    agree(&rt, count(zeroing.entries(), 0), 818);
     Ok(())
 }
 
@@ -86,9 +51,9 @@ fn two_kings_draw(rt: HostRuntime) -> Result<(), Fail> {
 fn a_queen_needs_some_plies(rt: HostRuntime) -> Result<(), Fail> {
     let library = built(rt.alloc(), &["KK"])?;
     let class = named("KQK")?;
-    let found = solved_mates(rt.alloc(), class, &library, 0)?.err();
+    let found = solved_mates(rt.alloc(), class, &library)?.err();
     agree(&rt, found, Some(SolveFault::TooDeep));
-    let found = solved_zeroing(rt.alloc(), class, &library, 0)?.err();
+    let found = solved_zeroing(rt.alloc(), class, &library)?.err();
     agree(&rt, found, Some(SolveFault::TooDeep));
     Ok(())
 }

@@ -3,7 +3,7 @@ ghost use Rattle.std.specs.Prelude.{OnOk};
 ghost use Rattle.egt_entries.specs.Library.{IsAccepted};
 ghost use Rattle.egt_entries.specs.Tables.{table_at};
 
-use super::built;
+use super::{built, have_one_file};
 use crate::asserts::{agree, require, require_at};
 use egt_check::{Library, check};
 use egt_class::Class;
@@ -47,7 +47,7 @@ fn is_as_built(
         return Err(Fail::from("the table was refused"));
     };
     let built = build(alloc, class, library, 32_000)?;
-    Ok(file_of(alloc, &table)?.as_slice() == file_of(alloc, &built)?.as_slice())
+    have_one_file(alloc, &table, &built)
 }
 
 #[test]
@@ -63,6 +63,13 @@ fn migrated_tables_are_those_that_are_built(rt: HostRuntime) -> Result<(), Fail>
     Ok(())
 }
 
+/// Whether the table's file is that of two kings with the third column.
+fn is_whole_kings(alloc: Global, table: &Table) -> Result<bool, Fail> {
+    let file = file_of(alloc, table)?;
+    let kings = whole_kings_file(alloc)?;
+    Ok(file.as_slice() == kings.as_slice())
+}
+
 #[test]
 fn a_table_that_has_the_column(rt: HostRuntime) -> Result<(), Fail> {
     let library = Library::new(rt.alloc())?;
@@ -72,9 +79,7 @@ fn a_table_that_has_the_column(rt: HostRuntime) -> Result<(), Fail> {
     };
     agree(&rt, fault, MigrateFault::HasReach);
     require(&rt, fault.number() == 5 && fault.name() == "HasReach");
-    let file = file_of(rt.alloc(), &table)?;
-    let right = file.as_slice() == whole_kings_file(rt.alloc())?.as_slice();
-    require(&rt, right);
+    require(&rt, is_whole_kings(rt.alloc(), &table)?);
     Ok(())
 }
 
@@ -87,9 +92,7 @@ fn the_own_table_is_not_asked(rt: HostRuntime) -> Result<(), Fail> {
     let Ok(table) = migrated(rt.alloc(), table, &library)? else {
         return Err(Fail::from("the table was refused"));
     };
-    let file = file_of(rt.alloc(), &table)?;
-    let right = file.as_slice() == whole_kings_file(rt.alloc())?.as_slice();
-    require(&rt, right);
+    require(&rt, is_whole_kings(rt.alloc(), &table)?);
     Ok(())
 }
 
@@ -105,8 +108,8 @@ fn a_child_lacks_the_column(rt: HostRuntime) -> Result<(), Fail> {
     };
     agree(&rt, fault, MigrateFault::NoReach(kings));
     require(&rt, fault.number() == 4 && fault.name() == "NoReach");
-    let right = file_of(rt.alloc(), &queen)?.as_slice() == before.as_slice();
-    require(&rt, right);
+    let file = file_of(rt.alloc(), &queen)?;
+    require(&rt, file.as_slice() == before.as_slice());
 
     let Err(fault) = build(rt.alloc(), named("KQK")?, &library, 32_000) else {
         return Err(Fail::from("the table was built"));

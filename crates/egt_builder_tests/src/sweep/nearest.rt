@@ -1,4 +1,5 @@
 //! How far the nearest mate is, and the game that tells it.
+use super::count;
 use crate::asserts::{agree, require};
 use egt_check::Library;
 use egt_class::Class;
@@ -16,16 +17,9 @@ fn kings_and_a_queen(rt: HostRuntime) -> Result<(), Fail> {
         return Err(Fail::from("a child is missing"));
     };
     let nears = nearest(rt.alloc(), &kings)?;
-    let mut dead = 0u32;
-    let mut void = 0u32;
-    for entry in nears.entries() {
-        match entry {
-            0 => void = void.wrapping_add(1),
-            1 => dead = dead.wrapping_add(1),
-            _ => {}
-        }
-    }
-    agree(&rt, (dead, void, nears.entries().len()), (462, 818, 1_280));
+    let counts = (count(nears.entries(), 1), count(nears.entries(), 0));
+    agree(&rt, counts, (462, 818));
+    agree(&rt, nears.entries().len(), 1_280);
     let Ok(queen) = ReachGame::new(named("KQK")?, &library) else {
         return Err(Fail::from("a child is missing"));
     };

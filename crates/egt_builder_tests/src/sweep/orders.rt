@@ -1,13 +1,10 @@
 //! Runs by rounds over the game of mates with a queen, in other orders than that of `solve`.
-ghost use Rattle.egt_entries.specs.Tables.{table_at};
-ghost use Rattle.egt_sweep.specs.MateColumn.{AreMateRanks};
-
 use super::{built, mates};
 use crate::asserts::{agree, require};
 use egt_check::Library;
 use egt_class::Class;
 use egt_graph::{Batch, Close, Game, Post, Ranks, Rounds, solve};
-use egt_plain::runs::{expand, played, post_all, post_block, with_draws, with_held, with_losses};
+use egt_plain::runs::{Order, expand, played, post_all, post_block, with_held};
 use egt_plain::shelf::{file_of, named};
 use egt_sweep::{MateGame, ZeroGame};
 use egt_table::Table;
@@ -47,25 +44,18 @@ fn with_lost_batches_and_in_drawn_orders(rt: HostRuntime) -> Result<(), Fail> {
         return Err(Fail::from("two kings are there"));
     };
     let want = solve(rt.alloc(), &game, 32_000)?;
-    let lost = with_losses(rt.alloc(), &game, &UP)?;
+    let lost = played(rt.alloc(), &game, Order::EvenLost(&UP))?;
     agree(&rt, lost.entries(), want.entries());
-    let drawn = with_draws(rt.alloc(), &game)?;
+    let drawn = played(rt.alloc(), &game, Order::Drawn(1))?;
     agree(&rt, drawn.entries(), want.entries());
     Ok(())
 }
 
 /// The ranks of the class's game of zeroing moves, by rounds in this order.
-fn zeroing<'x>(
-    alloc: Global,
-    class: Class,
-    library: &'x Library,
-    mates: &'x Ranks,
-    order: &[u32],
-) -> Result<Ranks, Fail>
-    requires { AreMateRanks (table_at library.now) class mates.now }
-{
-    match ZeroGame::new(class, library, mates) {
-        Ok(game) => played(alloc, &game, order),
+fn zeroing(alloc: Global, class: Class, library: &Library, order: &[u32]) -> Result<Ranks, Fail> {
+    let mates = mates(alloc, class, library)?;
+    match ZeroGame::new(class, library, &mates) {
+        Ok(game) => played(alloc, &game, Order::Listed(order)),
         Err(_missing) => Err(Fail::from("two kings are there")),
     }
 }
@@ -73,10 +63,9 @@ fn zeroing<'x>(
 /// The file of the table with a queen, made by rounds in this order.
 fn file(alloc: Global, library: &Library, order: &[u32]) -> Result<Vec<u8>, Fail> {
     let class = named("KQK")?;
-    let known = mates(alloc, class, library)?;
-    let zeroing = zeroing(alloc, class, library, &known, order)?;
+    let zeroing = zeroing(alloc, class, library, order)?;
     let mate = match MateGame::new(class, library) {
-        Ok(game) => played(alloc, &game, order)?,
+        Ok(game) => played(alloc, &game, Order::Listed(order))?,
         Err(_missing) => return Err(Fail::from("two kings are there")),
     };
     let Ok(table) = Table::from_ranks(class, mate, zeroing) else {

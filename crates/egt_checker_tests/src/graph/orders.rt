@@ -5,9 +5,7 @@ use super::games::{Counted, STAIRS, Stairs, are_stair_ranks};
 use super::hand_made::STALEMATE;
 use crate::asserts::{agree, require};
 use egt_graph::{Close, Post, Rounds, solve};
-use egt_plain::runs::{
-    expand, is_posted, played, post_all, post_block, with_draws, with_held, with_losses,
-};
+use egt_plain::runs::{Order, expand, is_posted, played, post_all, post_block, with_held};
 use std::alloc::Global;
 use std::process::Abort;
 use std::test::*;
@@ -22,7 +20,8 @@ fn by_one_worker(rt: HostRuntime) -> Result<(), Fail> {
 #[test]
 fn in_any_order(rt: HostRuntime) -> Result<(), Fail> {
     for &order in &[[2, 1, 0], [1, 2, 0], [0, 2, 1]] {
-        require(&rt, are_stair_ranks(&played(rt.alloc(), &STAIRS, &order)?));
+        let ranks = played(rt.alloc(), &STAIRS, Order::Listed(&order))?;
+        require(&rt, are_stair_ranks(&ranks));
     }
     Ok(())
 }
@@ -38,9 +37,10 @@ fn repeated_and_late(rt: HostRuntime) -> Result<(), Fail> {
 
 #[test]
 fn lost_and_drawn_at_random(rt: HostRuntime) -> Result<(), Fail> {
-    let right = are_stair_ranks(&with_losses(rt.alloc(), &STAIRS, &[0, 1, 2])?);
-    require(&rt, right);
-    require(&rt, are_stair_ranks(&with_draws(rt.alloc(), &STAIRS)?));
+    for &order in &[Order::EvenLost(&[0, 1, 2]), Order::Drawn(1)] {
+        let ranks = played(rt.alloc(), &STAIRS, order)?;
+        require(&rt, are_stair_ranks(&ranks));
+    }
     Ok(())
 }
 

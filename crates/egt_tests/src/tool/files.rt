@@ -1,5 +1,5 @@
 //! Checks and statistics of tables in files.
-use super::{both_print, changed, fails, folder, is_damaged, prints, put, run_on};
+use super::{both_print, changed, fails, folder, is_damaged, prints, put, put_kings, run_on};
 use crate::asserts::{agree, require, require_at};
 use egt_plain::kings::kings_file;
 use egt_plain::shelf::file_of;
@@ -115,7 +115,7 @@ fn files_that_are_not_there(rt: HostRuntime) -> Result<(), Fail> {
         let right = both_print(&rt, &folder, class, 1, line) == Some(true);
         require_at(&rt, right, class);
     }
-    put(&rt, &folder, "KK.egt", &kings_file(rt.alloc())?)?;
+    put_kings(&rt, &folder, false)?;
     for &(class, line) in &MISSING_BESIDE_KINGS {
         let right = both_print(&rt, &folder, class, 1, line) == Some(true);
         require_at(&rt, right, class);
@@ -134,7 +134,7 @@ fn is_missing_in(rt: &HostRuntime, folder: &str, name: &str) -> Option<bool> {
 #[test]
 fn folders_that_are_not_there(rt: HostRuntime) -> Result<(), Fail> {
     let folder = folder(&rt, "nowhere")?;
-    put(&rt, &folder, "KK.egt", &kings_file(rt.alloc())?)?;
+    put_kings(&rt, &folder, false)?;
     for &name in &["nowhere", "KK.egt"] {
         require_at(&rt, is_missing_in(&rt, &folder, name) == Some(true), name);
     }
@@ -185,7 +185,8 @@ fn put_plain(
     tables: &PlainTables,
     class: u8,
 ) -> Result<(), Fail> {
-    let file = file_of(rt.alloc(), &table_of(rt.alloc(), tables, class)?)?;
+    let table = table_of(rt.alloc(), tables, class)?;
+    let file = file_of(rt.alloc(), &table)?;
     put(rt, folder, name, &file)
 }
 

@@ -1,11 +1,10 @@
 //! Files with the column of the nearest mates, and files that get it.
 use super::{
-    KINGS, Step, all_go, changed, fails, folder, goes, has_file, holds, is_damaged, is_wrong, put,
+    KINGS, Step, all_go, changed, fails, folder, goes, has_file, has_whole_kings, holds,
+    is_damaged, is_wrong, knight_file, put, put_kings,
 };
 use crate::asserts::{agree, require, require_at};
 use egt_plain::kings::{WHOLE_LENGTH, kings_file, whole_kings_file};
-use egt_plain::shelf::file_of;
-use egt_plain::{PlainTables, table_of, whole_table_of};
 use egt_sweep::MigrateFault;
 use egt_tool::ToolFault;
 use std::alloc::Global;
@@ -105,20 +104,6 @@ fn whole_files_of_another_length(rt: HostRuntime) -> Result<(), Fail> {
     Ok(())
 }
 
-/// The files of KNK by plain sweeps: of version 1, and of version 2.
-#[derive(Drop)]
-struct Knights {
-    first: Vec<u8>,
-    second: Vec<u8>,
-}
-
-fn knight_files(alloc: Global) -> Result<Knights, Fail> {
-    let tables = PlainTables::solve(alloc, 5)?;
-    let first = file_of(alloc, &table_of(alloc, &tables, 4)?)?;
-    let second = file_of(alloc, &whole_table_of(alloc, &tables, 4)?)?;
-    Ok(Knights { first, second })
-}
-
 /// What is told of two kings without their third column, and what then gives them it, once.
 const KINGS_MIGRATED: [Step; 6] = [
     ("probe DIR KK", KINGS, 0, "KK draw hold e3d2\n", ""),
@@ -138,11 +123,10 @@ const KINGS_MIGRATED: [Step; 6] = [
 #[test]
 fn two_kings_that_get_the_third_column(rt: HostRuntime) -> Result<(), Fail> {
     let folder = folder(&rt, "migrated-kings")?;
-    put(&rt, &folder, "KK.egt", &kings_file(rt.alloc())?)?;
+    put_kings(&rt, &folder, false)?;
     all_go(&rt, &folder, &KINGS_MIGRATED)?;
     require(&rt, has_file(&rt, &folder, "KQK.egt") == Some(false));
-    let right = holds(&rt, &folder, "KK.egt", &whole_kings_file(rt.alloc())?)?;
-    require(&rt, right);
+    require(&rt, has_whole_kings(&rt, &folder)?);
     fs::remove_dir_all(&rt, folder.as_str())?;
     Ok(())
 }
@@ -168,13 +152,14 @@ const KNIGHT_MIGRATED: [Step; 5] = [
 #[test]
 fn a_knight_that_gets_the_third_column(rt: HostRuntime) -> Result<(), Fail> {
     let folder = folder(&rt, "migrated-knight")?;
-    let knights = knight_files(rt.alloc())?;
-    put(&rt, &folder, "KK.egt", &kings_file(rt.alloc())?)?;
-    put(&rt, &folder, "KNK.egt", &knights.first)?;
+    let first = knight_file(rt.alloc(), false)?;
+    let second = knight_file(rt.alloc(), true)?;
+    put_kings(&rt, &folder, false)?;
+    put(&rt, &folder, "KNK.egt", &first)?;
     require(&rt, goes(&rt, &folder, REFUSED) == Some(true));
-    require(&rt, holds(&rt, &folder, "KNK.egt", &knights.first)?);
+    require(&rt, holds(&rt, &folder, "KNK.egt", &first)?);
     all_go(&rt, &folder, &KNIGHT_MIGRATED)?;
-    require(&rt, holds(&rt, &folder, "KNK.egt", &knights.second)?);
+    require(&rt, holds(&rt, &folder, "KNK.egt", &second)?);
     fs::remove_dir_all(&rt, folder.as_str())?;
     Ok(())
 }
@@ -195,8 +180,9 @@ const ABOVE: [Step; 3] = [
 #[test]
 fn a_third_column_above_none(rt: HostRuntime) -> Result<(), Fail> {
     let folder = folder(&rt, "above")?;
-    put(&rt, &folder, "KK.egt", &kings_file(rt.alloc())?)?;
-    put(&rt, &folder, "KNK.egt", &knight_files(rt.alloc())?.second)?;
+    put_kings(&rt, &folder, false)?;
+    let knight = knight_file(rt.alloc(), true)?;
+    put(&rt, &folder, "KNK.egt", &knight)?;
     all_go(&rt, &folder, &ABOVE)?;
     fs::remove_dir_all(&rt, folder.as_str())?;
     Ok(())
@@ -223,7 +209,8 @@ const FALSE: Step = (
 #[test]
 fn no_third_column_for_a_false_table(rt: HostRuntime) -> Result<(), Fail> {
     let folder = folder(&rt, "false")?;
-    let file = changed(rt.alloc(), &kings_file(rt.alloc())?, 24, 4)?;
+    let kings = kings_file(rt.alloc())?;
+    let file = changed(rt.alloc(), &kings, 24, 4)?;
     put(&rt, &folder, "KK.egt", &file)?;
     require(&rt, goes(&rt, &folder, FALSE) == Some(true));
     require(&rt, holds(&rt, &folder, "KK.egt", &file)?);

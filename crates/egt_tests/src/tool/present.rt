@@ -1,9 +1,6 @@
 //! Checks and reports of all files that a folder has.
-use super::{KINGS, Step, all_go, changed, fails, folder, put};
+use super::{KINGS, Step, all_go, changed, fails, folder, knight_file, put, put_kings};
 use crate::asserts::require_at;
-use egt_plain::kings::{kings_file, whole_kings_file};
-use egt_plain::shelf::file_of;
-use egt_plain::{PlainTables, whole_table_of};
 use std::fs;
 use std::test::Fail;
 
@@ -99,7 +96,7 @@ fn files_of_both_versions(rt: HostRuntime) -> Result<(), Fail> {
     all_go(&rt, &folder, &BUILT)?;
     put_first_version(&rt, &folder)?;
     all_go(&rt, &folder, &OF_BOTH_VERSIONS)?;
-    put(&rt, &folder, "KK.egt", &kings_file(rt.alloc())?)?;
+    put_kings(&rt, &folder, false)?;
     all_go(&rt, &folder, &[OF_VERSION_1])?;
     fs::remove_dir_all(&rt, folder.as_str())?;
     Ok(())
@@ -121,9 +118,8 @@ const PAWN: [Step; 3] = [
 #[test]
 fn the_files_that_are_there(rt: HostRuntime) -> Result<(), Fail> {
     let folder = folder(&rt, "present")?;
-    let tables = PlainTables::solve(rt.alloc(), 5)?;
-    let knight = file_of(rt.alloc(), &whole_table_of(rt.alloc(), &tables, 4)?)?;
-    put(&rt, &folder, "KK.egt", &whole_kings_file(rt.alloc())?)?;
+    let knight = knight_file(rt.alloc(), true)?;
+    put_kings(&rt, &folder, true)?;
     put(&rt, &folder, "KNK.egt", &knight)?;
     put(&rt, &folder, "KRK.egt.7-0.new", b"EGTB")?;
     all_go(&rt, &folder, &KNIGHT)?;
@@ -159,21 +155,16 @@ const NO_REACH: Step = (
 #[test]
 fn the_first_file_that_is_refused(rt: HostRuntime) -> Result<(), Fail> {
     let folder = folder(&rt, "refused")?;
-    let tables = PlainTables::solve(rt.alloc(), 5)?;
-    let knight = file_of(rt.alloc(), &whole_table_of(rt.alloc(), &tables, 4)?)?;
-    put(&rt, &folder, "KK.egt", &whole_kings_file(rt.alloc())?)?;
+    let knight = knight_file(rt.alloc(), true)?;
+    put_kings(&rt, &folder, true)?;
     put(&rt, &folder, "KNK.egt", b"")?;
     put(&rt, &folder, "KPK.egt", b"")?;
     all_go(&rt, &folder, &[SHORT])?;
-    put(
-        &rt,
-        &folder,
-        "KNK.egt",
-        &changed(rt.alloc(), &knight, 16, 1)?,
-    )?;
+    let damaged = changed(rt.alloc(), &knight, 16, 1)?;
+    put(&rt, &folder, "KNK.egt", &damaged)?;
     all_go(&rt, &folder, &[REJECTED])?;
     put(&rt, &folder, "KNK.egt", &knight)?;
-    put(&rt, &folder, "KK.egt", &kings_file(rt.alloc())?)?;
+    put_kings(&rt, &folder, false)?;
     all_go(&rt, &folder, &[NO_REACH])?;
     fs::remove_dir_all(&rt, folder.as_str())?;
     Ok(())

@@ -1,7 +1,7 @@
 //! Files that are replaced, and files that are not since a call of the system failed.
-use super::{Step, folder, goes, holds, put};
+use super::{Step, folder, goes, has_whole_kings, holds, put};
 use crate::asserts::{agree, require, require_at};
-use egt_plain::kings::{kings_file, whole_kings_file};
+use egt_plain::kings::kings_file;
 use egt_table::{MemorySink, MemorySource};
 use egt_tool::run;
 use std::alloc::Allocator;
@@ -26,19 +26,24 @@ const REPLACING: [Step; 2] = [
     ("migrate DIR KK", "", 0, "migrated KK entries 1280\n", ""),
 ];
 
+/// Gives the folder's file of two kings a second name.
+fn back_up(rt: &HostRuntime, folder: &str) -> Result<(), Fail> {
+    let own = format!(in rt.alloc(); "{folder}/KK.egt")?;
+    let backup = format!(in rt.alloc(); "{folder}/backup")?;
+    fs::hard_link(rt, own.as_str(), backup.as_str())?;
+    Ok(())
+}
+
 #[test]
 fn a_backup_by_a_hard_link(rt: HostRuntime) -> Result<(), Fail> {
     for &step in &REPLACING {
         let folder = folder(&rt, "backup")?;
         let old = kings_file(rt.alloc())?;
         put(&rt, &folder, "KK.egt", &old)?;
-        let own = format!(in rt.alloc(); "{folder}/KK.egt")?;
-        let backup = format!(in rt.alloc(); "{folder}/backup")?;
-        fs::hard_link(&rt, own.as_str(), backup.as_str())?;
+        back_up(&rt, &folder)?;
         require_at(&rt, goes(&rt, &folder, step) == Some(true), step.0);
         require_at(&rt, holds(&rt, &folder, "backup", &old)?, step.0);
-        let right = holds(&rt, &folder, "KK.egt", &whole_kings_file(rt.alloc())?)?;
-        require_at(&rt, right, step.0);
+        require_at(&rt, has_whole_kings(&rt, &folder)?, step.0);
         agree(&rt, count(&rt, &folder)?, 2);
         fs::remove_dir_all(&rt, folder.as_str())?;
     }
@@ -53,8 +58,7 @@ fn a_new_file_whose_name_is_taken(rt: HostRuntime) -> Result<(), Fail> {
     put(&rt, &folder, name.as_str(), b"another's")?;
     require(&rt, goes(&rt, &folder, REPLACING[0]) == Some(true));
     require(&rt, holds(&rt, &folder, name.as_str(), b"another's")?);
-    let right = holds(&rt, &folder, "KK.egt", &whole_kings_file(rt.alloc())?)?;
-    require(&rt, right);
+    require(&rt, has_whole_kings(&rt, &folder)?);
     agree(&rt, count(&rt, &folder)?, 2);
     fs::remove_dir_all(&rt, folder.as_str())?;
     Ok(())

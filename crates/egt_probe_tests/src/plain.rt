@@ -38,29 +38,37 @@ fn is_judged(library: &Library, position: &Position, class: u8, outcome: Outcome
     }
 }
 
-/// How many positions of the class have another verdict than the plain tables give, as they stand or with colours
-/// exchanged, and how many there are. Dead positions are told where the library's tables have the column of the nearest
-/// mates.
+/// Whether the verdict on a position, as it stands and with colours exchanged, is what its entries tell; dead positions
+/// are told where `whole`. `None` where the squares are no position.
+fn is_told(
+    library: &Library,
+    class: u8,
+    plain: PlainPosition,
+    entries: (u16, u16, u16),
+    whole: bool,
+) -> Option<bool> {
+    let position = position_of(plain)?;
+    let turned = position.flip_colours();
+    let (mate, zeroing, reach) = entries;
+    let dead = whole && reach == 1 && has_move(plain);
+    let here = outcome(position.side(), mate, zeroing, dead);
+    let there = outcome(turned.side(), mate, zeroing, dead);
+    Some(is_judged(library, &position, class, here) && is_judged(library, &turned, class, there))
+}
+
+/// How many positions of the class have another verdict than the plain tables give, and how many there are.
 fn compared(library: &Library, tables: &PlainTables, class: u8, whole: bool) -> (u32, u32) {
-    let mates = tables.entries(usize::from(class), Column::Mate);
-    let zeroings = tables.entries(usize::from(class), Column::Zeroing);
-    let reaches = tables.entries(usize::from(class), Column::Reach);
-    let third = match THIRD.get(usize::from(class)) {
-        Some(third) => *third,
-        None => None,
-    };
+    let number = usize::from(class);
+    let third = THIRD.get(number).copied().flatten();
+    let mates = tables.entries(number, Column::Mate).iter();
+    let zeroings = tables.entries(number, Column::Zeroing);
+    let reaches = tables.entries(number, Column::Reach);
     let mut unlike = 0u32;
     let mut positions = 0u32;
-    for (code, ((mate, zeroing), reach)) in mates.iter().zip(zeroings).zip(reaches).enumerate() {
+    for (code, ((mate, zeroing), reach)) in mates.zip(zeroings).zip(reaches).enumerate() {
         let plain = PlainPosition::of_code(third, code);
-        if let Some(position) = position_of(plain) {
-            let turned = position.flip_colours();
-            let dead = whole && *reach == 1 && has_move(plain);
-            let here = outcome(position.side(), *mate, *zeroing, dead);
-            let there = outcome(turned.side(), *mate, *zeroing, dead);
-            let alike = is_judged(library, &position, class, here)
-                && is_judged(library, &turned, class, there);
-            unlike = unlike.saturating_add(u32::from(!alike));
+        if let Some(told) = is_told(library, class, plain, (*mate, *zeroing, *reach), whole) {
+            unlike = unlike.saturating_add(u32::from(!told));
             positions = positions.saturating_add(1);
         }
     }
