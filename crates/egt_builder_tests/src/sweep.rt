@@ -59,6 +59,16 @@ fn have_one_file(alloc: Global, one: &Table, other: &Table) -> Result<bool, Fail
     Ok(file.as_slice() == same.as_slice())
 }
 
+/// The table without the column of the nearest mates.
+fn without_reach(alloc: Global, table: &Table) -> Result<Table, Fail> {
+    let mate = Ranks::from_entries(Vec::from_slice(alloc, table.entries(Column::Mate))?);
+    let zeroing = Ranks::from_entries(Vec::from_slice(alloc, table.entries(Column::Zeroing))?);
+    match Table::from_ranks(table.class(), mate, zeroing) {
+        Ok(table) => Ok(table),
+        Err(_columns) => Err(Fail::from("a column of another length")),
+    }
+}
+
 /// The number of plies of the longest win.
 fn longest_win(table: &Table) -> u16 {
     let mut longest = 0;

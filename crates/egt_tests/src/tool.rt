@@ -11,8 +11,6 @@ mod search;
 mod words;
 
 use egt_plain::kings::{kings_file, whole_kings_file};
-use egt_plain::shelf::file_of;
-use egt_plain::{PlainTables, table_of, whole_table_of};
 use egt_table::{FailingSink, MemorySink, MemorySource};
 use egt_tool::run;
 use std::alloc::Global;
@@ -153,31 +151,31 @@ fn put(rt: &HostRuntime, folder: &str, file: &str, bytes: &[u8]) -> Result<(), F
     Ok(())
 }
 
-/// Writes the folder's file of two kings, with the column of the nearest mates where `whole`.
-fn put_kings(rt: &HostRuntime, folder: &str, whole: bool) -> Result<(), Fail> {
-    let file = if whole {
-        whole_kings_file(rt.alloc())?
-    } else {
-        kings_file(rt.alloc())?
-    };
+/// Writes the folder's file of two kings, without the column of the nearest mates.
+fn put_kings(rt: &HostRuntime, folder: &str) -> Result<(), Fail> {
+    let file = kings_file(rt.alloc())?;
     put(rt, folder, "KK.egt", &file)
 }
 
-/// Whether that file is the one with the column.
+/// Whether the folder's file of two kings is the one with that column.
 fn has_whole_kings(rt: &HostRuntime, folder: &str) -> Result<bool, Fail> {
     let file = whole_kings_file(rt.alloc())?;
     holds(rt, folder, "KK.egt", &file)
 }
 
-/// The file of KNK by plain sweeps, with the column of the nearest mates where `whole`.
-fn knight_file(alloc: Global, whole: bool) -> Result<Vec<u8>, Fail> {
-    let tables = PlainTables::solve(alloc, 5)?;
-    let table = if whole {
-        whole_table_of(alloc, &tables, 4)?
-    } else {
-        table_of(alloc, &tables, 4)?
-    };
-    file_of(alloc, &table)
+/// What builds the tables of two kings and of a knight.
+const KNIGHT_BUILT: [Step; 2] = [
+    ("build DIR KK", "", 0, "built KK entries 1280\n", ""),
+    ("build DIR KNK", "", 0, "built KNK entries 81920\n", ""),
+];
+
+/// The knight's file of version 2 as one of version 1: without the third column, and with other numbers of the version
+/// and of columns.
+fn first_version(alloc: Global, file: &[u8]) -> Result<Vec<u8>, Fail> {
+    let version = changed(alloc, file, 4, 1)?;
+    let mut first = changed(alloc, &version, 10, 2)?;
+    first.truncate(327_696);
+    Ok(first)
 }
 
 /// The bytes with another at one place.

@@ -1,9 +1,8 @@
 //! Tables that are built pass the check and are admitted. The numbers of plies are those of the literature.
-use super::{built, built_over, longest_win};
+use super::{built, built_over, longest_win, without_reach};
 use crate::asserts::{agree, require, require_at};
 use egt_check::{Library, Reject, check};
 use egt_class::Class;
-use egt_graph::Ranks;
 use egt_plain::shelf::{entry_of, file_of, named};
 use egt_sweep::{BuildFault, MigrateFault, build};
 use egt_table::{Column, Table};
@@ -142,12 +141,8 @@ fn the_file_of_a_queen(rt: HostRuntime) -> Result<(), Fail> {
 
 /// The file of the table without the column of the nearest mates.
 fn short_file(alloc: Global, table: &Table) -> Result<Vec<u8>, Fail> {
-    let mate = Ranks::from_entries(Vec::from_slice(alloc, table.entries(Column::Mate))?);
-    let zeroing = Ranks::from_entries(Vec::from_slice(alloc, table.entries(Column::Zeroing))?);
-    match Table::from_ranks(table.class(), mate, zeroing) {
-        Ok(table) => file_of(alloc, &table),
-        Err(_columns) => Err(Fail::from("a column of another length")),
-    }
+    let short = without_reach(alloc, table)?;
+    file_of(alloc, &short)
 }
 
 // In version 1 the first two columns stand where they do in version 2, and the file ends behind them.

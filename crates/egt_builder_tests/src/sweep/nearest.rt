@@ -1,5 +1,5 @@
 //! How far the nearest mate is, and the game that tells it.
-use super::count;
+use super::{built, count};
 use crate::asserts::{agree, require};
 use egt_check::Library;
 use egt_class::Class;
@@ -52,7 +52,7 @@ fn count_leaving<G: Game>(game: &G) -> (u32, u32) {
 // h7h6, g8g1, h6h7 and g1h1. A bishop or a knight mates nobody.
 #[test]
 fn a_pawn_that_promotes(rt: HostRuntime) -> Result<(), Fail> {
-    let library = whole_library_below(rt.alloc(), 5)?;
+    let library = built(rt.alloc(), &["KK", "KQK", "KRK", "KBK", "KNK"])?;
     let Ok(pawn) = ReachGame::new(named("KPK")?, &library) else {
         return Err(Fail::from("a child is missing"));
     };

@@ -115,7 +115,7 @@ fn files_that_are_not_there(rt: HostRuntime) -> Result<(), Fail> {
         let right = both_print(&rt, &folder, class, 1, line) == Some(true);
         require_at(&rt, right, class);
     }
-    put_kings(&rt, &folder, false)?;
+    put_kings(&rt, &folder)?;
     for &(class, line) in &MISSING_BESIDE_KINGS {
         let right = both_print(&rt, &folder, class, 1, line) == Some(true);
         require_at(&rt, right, class);
@@ -134,7 +134,7 @@ fn is_missing_in(rt: &HostRuntime, folder: &str, name: &str) -> Option<bool> {
 #[test]
 fn folders_that_are_not_there(rt: HostRuntime) -> Result<(), Fail> {
     let folder = folder(&rt, "nowhere")?;
-    put_kings(&rt, &folder, false)?;
+    put_kings(&rt, &folder)?;
     for &name in &["nowhere", "KK.egt"] {
         require_at(&rt, is_missing_in(&rt, &folder, name) == Some(true), name);
     }

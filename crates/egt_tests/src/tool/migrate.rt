@@ -1,10 +1,12 @@
 //! Files with the column of the nearest mates, and files that get it.
 use super::{
-    KINGS, Step, all_go, changed, fails, folder, goes, has_file, has_whole_kings, holds,
-    is_damaged, is_wrong, knight_file, put, put_kings,
+    KINGS, KNIGHT_BUILT, Step, all_go, changed, fails, first_version, folder, goes, has_file,
+    has_whole_kings, holds, is_damaged, is_wrong, put, put_kings,
 };
 use crate::asserts::{agree, require, require_at};
 use egt_plain::kings::{WHOLE_LENGTH, kings_file, whole_kings_file};
+use egt_plain::shelf::file_of;
+use egt_plain::{PlainTables, whole_table_of};
 use egt_sweep::MigrateFault;
 use egt_tool::ToolFault;
 use std::alloc::Global;
@@ -123,12 +125,19 @@ const KINGS_MIGRATED: [Step; 6] = [
 #[test]
 fn two_kings_that_get_the_third_column(rt: HostRuntime) -> Result<(), Fail> {
     let folder = folder(&rt, "migrated-kings")?;
-    put_kings(&rt, &folder, false)?;
+    put_kings(&rt, &folder)?;
     all_go(&rt, &folder, &KINGS_MIGRATED)?;
     require(&rt, has_file(&rt, &folder, "KQK.egt") == Some(false));
     require(&rt, has_whole_kings(&rt, &folder)?);
     fs::remove_dir_all(&rt, folder.as_str())?;
     Ok(())
+}
+
+/// The knight's file of version 2 by plain sweeps.
+fn knight_file(alloc: Global) -> Result<Vec<u8>, Fail> {
+    let tables = PlainTables::solve(alloc, 5)?;
+    let table = whole_table_of(alloc, &tables, 4)?;
+    file_of(alloc, &table)
 }
 
 /// What is told of a knight's file of version 1 above that of two kings of version 1.
@@ -152,9 +161,9 @@ const KNIGHT_MIGRATED: [Step; 5] = [
 #[test]
 fn a_knight_that_gets_the_third_column(rt: HostRuntime) -> Result<(), Fail> {
     let folder = folder(&rt, "migrated-knight")?;
-    let first = knight_file(rt.alloc(), false)?;
-    let second = knight_file(rt.alloc(), true)?;
-    put_kings(&rt, &folder, false)?;
+    let second = knight_file(rt.alloc())?;
+    let first = first_version(rt.alloc(), &second)?;
+    put_kings(&rt, &folder)?;
     put(&rt, &folder, "KNK.egt", &first)?;
     require(&rt, goes(&rt, &folder, REFUSED) == Some(true));
     require(&rt, holds(&rt, &folder, "KNK.egt", &first)?);
@@ -180,9 +189,8 @@ const ABOVE: [Step; 3] = [
 #[test]
 fn a_third_column_above_none(rt: HostRuntime) -> Result<(), Fail> {
     let folder = folder(&rt, "above")?;
-    put_kings(&rt, &folder, false)?;
-    let knight = knight_file(rt.alloc(), true)?;
-    put(&rt, &folder, "KNK.egt", &knight)?;
+    all_go(&rt, &folder, &KNIGHT_BUILT)?;
+    put_kings(&rt, &folder)?;
     all_go(&rt, &folder, &ABOVE)?;
     fs::remove_dir_all(&rt, folder.as_str())?;
     Ok(())

@@ -1,5 +1,7 @@
 //! Checks and reports of all files that a folder has.
-use super::{KINGS, Step, all_go, changed, fails, folder, knight_file, put, put_kings};
+use super::{
+    KINGS, KNIGHT_BUILT, Step, all_go, changed, fails, first_version, folder, put, put_kings,
+};
 use crate::asserts::require_at;
 use std::fs;
 use std::test::Fail;
@@ -74,29 +76,26 @@ const OF_VERSION_1: Step = (
     "",
 );
 
-const BUILT: [Step; 2] = [
-    ("build DIR KK", "", 0, "built KK entries 1280\n", ""),
-    ("build DIR KNK", "", 0, "built KNK entries 81920\n", ""),
-];
-
-/// Puts the folder's file of a knight into version 1: without the third column, and with other numbers of the version
-/// and of columns.
-fn put_first_version(rt: &HostRuntime, folder: &str) -> Result<(), Fail> {
+/// The folder's file of a knight.
+fn knight_in(rt: &HostRuntime, folder: &str) -> Result<Vec<u8>, Fail> {
     let path = format!(in rt.alloc(); "{folder}/KNK.egt")?;
-    let file = fs::read(rt, path.as_str())?;
-    let version = changed(rt.alloc(), file.as_slice(), 4, 1)?;
-    let mut first = changed(rt.alloc(), &version, 10, 2)?;
-    first.truncate(327_696);
+    Ok(fs::read(rt, path.as_str())?)
+}
+
+/// Puts that file into version 1.
+fn put_first_version(rt: &HostRuntime, folder: &str) -> Result<(), Fail> {
+    let file = knight_in(rt, folder)?;
+    let first = first_version(rt.alloc(), &file)?;
     put(rt, folder, "KNK.egt", &first)
 }
 
 #[test]
 fn files_of_both_versions(rt: HostRuntime) -> Result<(), Fail> {
     let folder = folder(&rt, "versions")?;
-    all_go(&rt, &folder, &BUILT)?;
+    all_go(&rt, &folder, &KNIGHT_BUILT)?;
     put_first_version(&rt, &folder)?;
     all_go(&rt, &folder, &OF_BOTH_VERSIONS)?;
-    put_kings(&rt, &folder, false)?;
+    put_kings(&rt, &folder)?;
     all_go(&rt, &folder, &[OF_VERSION_1])?;
     fs::remove_dir_all(&rt, folder.as_str())?;
     Ok(())
@@ -118,9 +117,7 @@ const PAWN: [Step; 3] = [
 #[test]
 fn the_files_that_are_there(rt: HostRuntime) -> Result<(), Fail> {
     let folder = folder(&rt, "present")?;
-    let knight = knight_file(rt.alloc(), true)?;
-    put_kings(&rt, &folder, true)?;
-    put(&rt, &folder, "KNK.egt", &knight)?;
+    all_go(&rt, &folder, &KNIGHT_BUILT)?;
     put(&rt, &folder, "KRK.egt.7-0.new", b"EGTB")?;
     all_go(&rt, &folder, &KNIGHT)?;
     for &words in &[["check", folder.as_str()], ["probe", folder.as_str()]] {
@@ -155,8 +152,8 @@ const NO_REACH: Step = (
 #[test]
 fn the_first_file_that_is_refused(rt: HostRuntime) -> Result<(), Fail> {
     let folder = folder(&rt, "refused")?;
-    let knight = knight_file(rt.alloc(), true)?;
-    put_kings(&rt, &folder, true)?;
+    all_go(&rt, &folder, &KNIGHT_BUILT)?;
+    let knight = knight_in(&rt, &folder)?;
     put(&rt, &folder, "KNK.egt", b"")?;
     put(&rt, &folder, "KPK.egt", b"")?;
     all_go(&rt, &folder, &[SHORT])?;
@@ -164,7 +161,7 @@ fn the_first_file_that_is_refused(rt: HostRuntime) -> Result<(), Fail> {
     put(&rt, &folder, "KNK.egt", &damaged)?;
     all_go(&rt, &folder, &[REJECTED])?;
     put(&rt, &folder, "KNK.egt", &knight)?;
-    put_kings(&rt, &folder, false)?;
+    put_kings(&rt, &folder)?;
     all_go(&rt, &folder, &[NO_REACH])?;
     fs::remove_dir_all(&rt, folder.as_str())?;
     Ok(())
